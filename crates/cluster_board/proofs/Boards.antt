@@ -5,10 +5,8 @@ use Rattle.silo_address.specs.Silo.{Silo}
 use Rattle.directory_rules.specs.declared.Outcome.{Outcome}
 use Rattle.std.proofs.lemmas.Option.{same_Some}
 use Rattle.directory_rules.specs.Event.{Event, Deliver}
-use Rattle.directory_rules.specs.Letter.{Letter}
-use Rattle.directory_rules.specs.Node.{Node}
+use Rattle.directory_rules.specs.State.{Letter, Node, World}
 use Rattle.directory_rules.specs.Settings.{Settings}
-use Rattle.directory_rules.specs.World.{World}
 use Rattle.directory_rules.specs.Happens.{happens}
 use Rattle.cluster_journal.specs.Entry.{EntryValue}
 use Rattle.cluster_journal.proofs.Journal.{goes_on}

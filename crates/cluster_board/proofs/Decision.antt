@@ -3,9 +3,9 @@ use Rattle.std.proofs.Common.{◌≡◌, refl, sym, ap, subst, ◌∙◌, ℕ, �
 use Rattle.std.specs.Prelude.{Bool, true, false, cond, not, IsOk, Result, Ok, Err}
 use Rattle.directory_rules.specs.Event.{Deliver}
 use Rattle.directory_rules.specs.declared.outcome.Happening.TheVariants.{Delivered}
-use Rattle.directory_rules.specs.Letter.{Letter, kind_of}
+use Rattle.directory_rules.specs.State.{Letter, World, Accepted}
+use Rattle.directory_rules.specs.Letter.{kind_of}
 use Rattle.directory_rules.specs.Step.{Stepped}
-use Rattle.directory_rules.specs.World.{World, Accepted}
 use Rattle.directory_rules.specs.Mail.{has_room_for, with_delivered}
 use Rattle.directory_rules.specs.Happens.{delivers, delivers_to, happens, taken}
 use Rattle.directory_node.specs.Plans.{step_by}

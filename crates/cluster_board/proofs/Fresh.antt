@@ -9,9 +9,8 @@ use Rattle.texts.proofs.Orderings.{Equal-from}
 use Rattle.silo_address.specs.Silo.{Silo, silo_cmp}
 use Rattle.silo_address.proofs.Order.{silo_cmp_exact}
 use Rattle.directory_rules.specs.Laws.{RiseBetween}
-use Rattle.directory_rules.specs.Letter.{Letter}
+use Rattle.directory_rules.specs.State.{Letter, Posted, World}
 use Rattle.directory_rules.specs.Mail.{letter_of}
-use Rattle.directory_rules.specs.World.{Posted, World}
 use Rattle.directory_rules.proofs.Cases.{on_bool}
 
 abbrev Mail : Type 0

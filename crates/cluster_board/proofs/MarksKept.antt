@@ -8,8 +8,7 @@ use Rattle.silo_address.specs.Silo.{Silo, silo_cmp}
 use Rattle.silo_address.proofs.Order.{silo_cmp_exact}
 use Rattle.directory_rules.specs.Event.{Event}
 use Rattle.directory_rules.specs.declared.outcome.Outcome.{Outcome}
-use Rattle.directory_rules.specs.Node.{Node}
-use Rattle.directory_rules.specs.World.{World}
+use Rattle.directory_rules.specs.State.{Node, World}
 use Rattle.directory_rules.specs.Happens.{happens, node_of}
 use Rattle.cluster_board.specs.Changed.{MayChange}
 use Rattle.cluster_board.specs.Marked.{AreLeft, AreMarks, AreMore, marked_at}

@@ -12,10 +12,9 @@ use Rattle.directory_rules.specs.Membership.{is_seeable}
 use Rattle.directory_rules.specs.Event.{Event, Join, Leave, Kill, See, Do, Deliver, Lose}
 use Rattle.directory_rules.specs.declared.outcome.Happening.{Happening}
 use Rattle.directory_rules.specs.Input.{Input, Does, Receives, step, sight_of}
-use Rattle.directory_rules.specs.Letter.{Letter}
-use Rattle.directory_rules.specs.Node.{Node}
+use Rattle.directory_rules.specs.State.{Letter, Node, World, Accepted}
 use Rattle.directory_rules.specs.Step.{Stepped}
-use Rattle.directory_rules.specs.World.{World, Accepted, membership_of}
+use Rattle.directory_rules.specs.World.{membership_of}
 use Rattle.directory_rules.specs.Mail.{has_room_for, letter_of, with_delivered}
 use Rattle.directory_rules.specs.Happens as rule
 use Rattle.cluster_board.specs.Changed.{MayChange}

@@ -8,7 +8,7 @@ use Rattle.std.proofs.lemmas.Option.{slice_get-get_or}
 use mathlib.Core.List.{IsPrefix}
 use Rattle.directory_rules.specs.Event.{Event}
 use Rattle.directory_rules.specs.Settings.{Settings}
-use Rattle.directory_rules.specs.World.{World}
+use Rattle.directory_rules.specs.State.{World}
 use Rattle.directory_rules.specs.Run.{Ran}
 use Rattle.cluster_journal.specs.Agreement.{Stands}
 use Rattle.cluster_journal.specs.Entry.{EntryValue}

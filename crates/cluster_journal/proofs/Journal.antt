@@ -4,7 +4,8 @@ use Rattle.std.proofs.lemmas.List.{map-append}
 use Rattle.directory_rules.specs.Event.{Event}
 use Rattle.directory_rules.specs.declared.outcome.Outcome.{Outcome}
 use Rattle.directory_rules.specs.Settings.{Settings}
-use Rattle.directory_rules.specs.World.{World, first_world}
+use Rattle.directory_rules.specs.State.{World}
+use Rattle.directory_rules.specs.World.{first_world}
 use Rattle.directory_rules.specs.Happens.{happens}
 use Rattle.directory_rules.specs.Run.{Ran, run, told_of as told_by, world_after, telling}
 use Rattle.cluster_journal.specs.Entry.{EntryValue}

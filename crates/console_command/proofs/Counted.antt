@@ -18,10 +18,8 @@ use Rattle.membership_view.specs.View.{ViewValue, active_silos}
 use Rattle.membership_view.specs.declared.status.Status.{Status}
 use Rattle.letter_mail.proofs.Queued.{itself, one_silo}
 use Rattle.directory_rules.specs.Happens.{node_of}
-use Rattle.directory_rules.specs.Host.{Host}
-use Rattle.directory_rules.specs.Node.{Node}
+use Rattle.directory_rules.specs.State.{Host, Node, World}
 use Rattle.directory_rules.specs.Placement.{by_least, count_of, fewer_of, silo_for}
-use Rattle.directory_rules.specs.World.{World}
 use Rattle.directory_rules.specs.declared.policy.Policy.{Policy}
 use Rattle.directory_rules.specs.declared.policy.Policy.TheVariants.{PreferLocal, HashBased, LeastHeld}
 use Rattle.directory_rules.proofs.Cases.{on_bool}

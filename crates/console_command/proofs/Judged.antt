@@ -1,6 +1,6 @@
 -- What is printed of a world's dump that is checked.
 use Rattle.std.proofs.Common.{◌≡◌, ◌++◌, ◌∙◌, ℕ, List, [], ◌∷◌, Option, Result, ap, refl, subst, sym}
-use Rattle.directory_rules.specs.World.{World}
+use Rattle.directory_rules.specs.State.{World}
 use Rattle.texts.specs.Printed.{text_of_lines}
 use Rattle.dump_rules.specs.Dump.{DumpValue, dump_of}
 use Rattle.dump_rules.specs.Verdict.{DumpFault, verdict, verdict_line}

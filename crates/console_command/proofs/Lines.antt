@@ -2,7 +2,7 @@
 use Rattle.std.proofs.Common.{◌≡◌, ℕ, ◌++◌, List, [], ◌∷◌, ap, refl, sym, ◌∙◌, append_assoc, append-nil}
 use Rattle.script_rules.specs.Output.{Performed, before, printing}
 use Rattle.texts.specs.Printed.{text_of_lines}
-use Rattle.directory_rules.specs.World.{World}
+use Rattle.directory_rules.specs.State.{World}
 use Rattle.script_lines.specs.Printed.{printed}
 use Rattle.script_lines.proofs.Fronts.{begins_with_the_first}
 use Rattle.script_lines.specs.Spaced.{BeginsWith}

@@ -11,7 +11,7 @@ use Rattle.std.specs.declared.cmp.Ordering.TheVariants.{Equal, Greater, Less}
 use Rattle.std.proofs.lemmas.Bool.{eqb-true, eqb-false}
 use Rattle.directory_rules.specs.Laws.{RiseBetween}
 use Rattle.directory_rules.specs.Mail.{letter_of}
-use Rattle.directory_rules.specs.World.{Posted, World}
+use Rattle.directory_rules.specs.State.{Posted, World}
 use Rattle.directory_rules.proofs.Cases.{on_bool}
 use Rattle.directory_rules.proofs.Mails.{mail_after}
 use Rattle.directory_core.specs.Whole.{IsWorld}

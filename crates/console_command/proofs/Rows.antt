@@ -7,7 +7,7 @@ use Rattle.silo_address.specs.Silo.{Silo}
 use Rattle.ring_range.specs.Range.{Range}
 use Rattle.hash_ring.specs.declared.point.Point.{Point}
 use Rattle.hash_ring.specs.Ranges.{owned_range, owned_ranges, owns_its_place}
-use Rattle.directory_rules.specs.World.{World}
+use Rattle.directory_rules.specs.State.{World}
 use Rattle.script_lines.specs.Printed.{printed}
 use Rattle.script_rules.specs.Show.{range_line, range_lines}
 use Rattle.texts.specs.Printed.{text_of_lines}

@@ -7,8 +7,7 @@ use Rattle.std.proofs.lemmas.List.{drop_all}
 use Rattle.std.proofs.lemmas.List.Concat.{flat_map-append}
 use Rattle.silo_address.specs.Silo.{Silo}
 use Rattle.directory_rules.specs.Event.{Event, See}
-use Rattle.directory_rules.specs.Node.{Node}
-use Rattle.directory_rules.specs.World.{World}
+use Rattle.directory_rules.specs.State.{Node, World}
 use Rattle.membership_view.specs.Views.{joining_version}
 use Rattle.script_rules.specs.Output.{events_in_turn, unseen_versions}
 use Rattle.script_lines.specs.Spaced.{BeginsWith}

@@ -7,7 +7,7 @@ use Rattle.directory_rules.specs.Event as rule
 use Rattle.directory_rules.specs.EventModel.{event_of}
 use Rattle.directory_rules.specs.Happens.{happens}
 use Rattle.directory_rules.specs.Settings.{Settings}
-use Rattle.directory_rules.specs.World.{World}
+use Rattle.directory_rules.specs.State.{World}
 use Rattle.directory_rules.specs.declared.event.Event.{Event}
 use Rattle.directory_rules.specs.declared.event.Event.TheVariants.{Deliver, Lose}
 use Rattle.cluster_journal.specs.Entry.{EntryValue}

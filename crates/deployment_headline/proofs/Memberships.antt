@@ -18,7 +18,7 @@ use Rattle.directory_rules.specs.Settings.{Settings}
 use Rattle.directory_rules.specs.Host.{outstanding, has_numbers, renewed}
 use Rattle.directory_rules.specs.Cache.{cache_seeing}
 use Rattle.directory_rules.specs.Sight.{is_next, pieces_after, sealed, shelf_after}
-use Rattle.directory_rules.specs.Node.{Node}
+use Rattle.directory_rules.specs.State.{Node}
 use Rattle.directory_rules.specs.Step.{Stepped, see, having_seen, new_gatherings, new_recoveries}
 use Rattle.directory_rules.proofs.Cases.{on_bool}
 use Rattle.directory_rules.specs.Membership.{Change, Membership, changed, is_seeable}

@@ -9,7 +9,7 @@ use Rattle.membership_view.specs.Changes.{occupant, after_join}
 use Rattle.hash_ring.specs.Places.{PlacesValue}
 use Rattle.directory_rules.specs.declared.effect.Effect.TheVariants.{Ignored}
 use Rattle.directory_rules.specs.Settings.{Settings}
-use Rattle.directory_rules.specs.Letter.{Letter}
+use Rattle.directory_rules.specs.State.{Letter}
 use Rattle.directory_rules.specs.Step.{Stepped, silently}
 use Rattle.directory_rules.specs.Input.{Input, Does, Receives, step, sight_of}
 use Rattle.directory_rules.specs.Membership.{Change, Join, Leave, Die, Membership, joined, changed, replaced_by, is_seeable}

@@ -13,7 +13,7 @@ use Rattle.membership_view.specs.Changes.{occupant}
 use Rattle.texts.proofs.Entries.{sorted-insert_entry, sorted-remove_entry}
 use Rattle.directory_rules.specs.declared.effect.Effect.TheVariants.{Ignored}
 use Rattle.directory_rules.specs.Settings.{Settings}
-use Rattle.directory_rules.specs.Letter.{Letter}
+use Rattle.directory_rules.specs.State.{Letter}
 use Rattle.directory_rules.specs.Step.{Stepped, silently}
 use Rattle.directory_rules.specs.Input.{Input, Does, Receives, step, sight_of}
 use Rattle.directory_facts.proofs.Entries.{all_put, all_removed, found_so, same_key}

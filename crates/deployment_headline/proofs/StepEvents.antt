@@ -16,14 +16,14 @@ use Rattle.membership_view.specs.Changes as change
 use Rattle.hash_ring.specs.Places.{PlacesValue}
 use Rattle.directory_rules.specs.declared.effect.Effect.TheVariants.{Ignored}
 use Rattle.directory_rules.specs.Settings.{Settings}
-use Rattle.directory_rules.specs.Letter.{Letter}
+use Rattle.directory_rules.specs.State.{Letter, Accepted, Posted, World}
 use Rattle.directory_rules.specs.Node.{new_node}
 use Rattle.directory_rules.specs.Event as event
 use Rattle.directory_rules.specs.declared.outcome.Happening.TheVariants as happening
 use Rattle.directory_rules.specs.Event.{Event, IsEvent}
 use Rattle.directory_rules.specs.Step.{Stepped, silently}
 use Rattle.directory_rules.specs.Input.{Input, Does, Receives, step, sight_of}
-use Rattle.directory_rules.specs.World.{Accepted, Posted, World, membership_of}
+use Rattle.directory_rules.specs.World.{membership_of}
 use Rattle.directory_rules.specs.Members.{is_known_dead}
 use Rattle.directory_rules.specs.Happens as rule
 use Rattle.directory_rules.proofs.Decided.{died}

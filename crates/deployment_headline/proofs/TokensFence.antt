@@ -11,9 +11,8 @@ use Rattle.silo_address.specs.declared.ActivationId.{ActivationId}
 use Rattle.membership_view.specs.Views.{view_at, status_at}
 use Rattle.directory_rules.specs.Members.{is_dead_in}
 use Rattle.directory_rules.specs.Settings.{Settings, AreSettings}
-use Rattle.directory_rules.specs.Node.{Node}
+use Rattle.directory_rules.specs.State.{Node, World, Posted, Accepted}
 use Rattle.directory_rules.specs.Event.{Event, IsEvent}
-use Rattle.directory_rules.specs.World.{World, Posted, Accepted}
 use Rattle.directory_rules.specs.Happens.{node_of, happens}
 use Rattle.directory_rules.specs.Laws.{ArePeopled}
 use Rattle.directory_rules.specs.PlainMachine.{Life, Plain, PlainStep, Nothing_changes, IsPlainStep, plain_of, plain_step_of}

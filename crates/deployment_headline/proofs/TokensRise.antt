@@ -8,8 +8,7 @@ use Rattle.silo_address.specs.declared.ActivationId.{ActivationId}
 use Rattle.membership_view.specs.Views.{view_at}
 use Rattle.directory_protocol.proofs.Changes.{bool_cases, silo_cases, grain_cases}
 use Rattle.directory_rules.specs.Members.{is_dead_in}
-use Rattle.directory_rules.specs.Node.{Node}
-use Rattle.directory_rules.specs.World.{World}
+use Rattle.directory_rules.specs.State.{Node, World}
 use Rattle.directory_rules.specs.Happens.{node_of}
 use Rattle.directory_rules.specs.PlainMachine.{Life, Is_asking, Is_firm, Is_closing, life_on, Plain, PlainStep, Change_view, Begin, Make_firm, Yield, Begin_closing, Give_up, End, Nothing_changes, IsPlainStep, plain_of}
 use Rattle.deployment_headline.specs.Tokens.{IsHeld, IsFirm, IsClosing, WasClosing, NeverFall, PassDeaths, Rise}

@@ -23,7 +23,8 @@ use Rattle.directory_rules.specs.declared.held.Phase.TheVariants as phase
 use Rattle.directory_rules.specs.Host.{held_of}
 use Rattle.directory_rules.specs.Settings.{Settings, AreSettings}
 use Rattle.directory_rules.specs.Event.{Event, IsEvent}
-use Rattle.directory_rules.specs.World.{World, first_world}
+use Rattle.directory_rules.specs.State.{World}
+use Rattle.directory_rules.specs.World.{first_world}
 use Rattle.directory_rules.specs.Happens.{node_of, happens}
 use Rattle.directory_rules.specs.Run.{run}
 use Rattle.directory_rules.specs.Laws.{is_live}

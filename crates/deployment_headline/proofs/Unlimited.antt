@@ -10,8 +10,7 @@ use Rattle.silo_address.specs.declared.ActivationId.{ActivationId}
 use Rattle.silo_address.specs.declared.Entry.{Entry}
 use Rattle.directory_rules.specs.declared.held.Held.{Held}
 use Rattle.directory_rules.specs.Host.{held_of}
-use Rattle.directory_rules.specs.Node.{Node}
-use Rattle.directory_rules.specs.World.{Posted, World}
+use Rattle.directory_rules.specs.State.{Node, Posted, World}
 use Rattle.directory_rules.specs.Happens.{node_of}
 use Rattle.directory_rules.specs.Settled.{HasNode, IsSettledAt, IsHeld, IsFirmOn, AreComplete, IsRightTable, IsRightOnLive}
 use Rattle.directory_rules.specs.Headline.{Headline, IsSettledSomewhere}

@@ -10,13 +10,11 @@ use Rattle.std.specs.Map.{lookup}
 use Rattle.std.specs.BTreeMap.{is_at, insert_entry}
 use Rattle.std.proofs.lemmas.Bool.{lt-ltb, le-leb}
 use Rattle.silo_address.specs.Silo.{Silo, silo_cmp}
-use Rattle.directory_rules.specs.Letter.{Letter}
-use Rattle.directory_rules.specs.Node.{Node}
+use Rattle.directory_rules.specs.State.{Letter, Node, Posted, World, Accepted}
 use Rattle.directory_rules.specs.Event.{Event, IsEvent}
 use Rattle.directory_rules.specs.declared.outcome.Happening.{Happening}
 use Rattle.directory_rules.specs.declared.outcome.Outcome.{Outcome}
 use Rattle.directory_rules.specs.Step.{Stepped}
-use Rattle.directory_rules.specs.World.{Posted, World, Accepted}
 use Rattle.directory_rules.specs.Mail.{letter_of, with_sent, has_room_for, numbered, span_of, fresh_letter}
 use Rattle.directory_rules.specs.Happens as rule
 use Rattle.directory_rules.specs.Run.{run}

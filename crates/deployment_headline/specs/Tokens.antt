@@ -4,9 +4,8 @@ use Rattle.std.specs.Prelude.{◌≡◌, ◌⊎◌, ℕ, ◌<◌, ◌≤◌, Lis
 use Rattle.silo_address.specs.Grain.{Grain}
 use Rattle.silo_address.specs.declared.ActivationId.{ActivationId}
 use Rattle.directory_rules.specs.Settings.{Settings, AreSettings}
-use Rattle.directory_rules.specs.Node.{Node}
+use Rattle.directory_rules.specs.State.{Node, World}
 use Rattle.directory_rules.specs.Event.{Event, IsEvent}
-use Rattle.directory_rules.specs.World.{World}
 use Rattle.directory_rules.specs.Happens.{node_of}
 use Rattle.directory_rules.specs.Run.{run_from_start}
 use Rattle.directory_rules.specs.PlainMachine.{Life, Is_firm, Is_closing, life_on}

@@ -9,15 +9,13 @@ use Rattle.membership_view.specs.Views.{ViewsValue}
 use Rattle.ring_range.specs.Range.{Range, range_eq}
 use Rattle.ring_range.proofs.Same.{Decides-range}
 use Rattle.directory_rules.specs.declared.effect.Effect.TheVariants as effect
-use Rattle.directory_rules.specs.Gatherings.{Gathering}
+use Rattle.directory_rules.specs.State.{Gathering, Letter, Body, Report_letter, Page_letter, Missing_letter, Node, Report, Snapshot}
 use Rattle.directory_rules.specs.Happens.{node_of}
 use Rattle.directory_rules.specs.Input.{Receives}
-use Rattle.directory_rules.specs.Letter.{Letter, Body, Report_letter, Page_letter, Missing_letter}
-use Rattle.directory_rules.specs.Node.{Node}
 use Rattle.directory_rules.specs.Receive.{received, received_body}
-use Rattle.directory_rules.specs.Recovery.{Report, Recovered, Awaits_more, Has_union, Rejects, recovered}
+use Rattle.directory_rules.specs.Recovery.{Recovered, Awaits_more, Has_union, Rejects, recovered}
 use Rattle.directory_rules.specs.Sent.{gathering_of, recovery_of}
-use Rattle.directory_rules.specs.Snapshot.{Snapshot, Hands_page, Has_none, Is_behind, is_snapshot, page_count, page_of, page_from}
+use Rattle.directory_rules.specs.Snapshot.{Hands_page, Has_none, Is_behind, is_snapshot, page_count, page_of, page_from}
 use Rattle.directory_rules.specs.Step.{Stepped, silently}
 use Rattle.directory_rules.specs.Transfer.{answer_to, asked_by, report_of, is_report_awaited, recovered_by}
 use Rattle.directory_rules.proofs.Cases.{on_bool}

@@ -8,7 +8,7 @@ use Rattle.membership_view.specs.View.{ViewValue}
 use Rattle.ring_range.specs.Range.{Range}
 use Rattle.directory_rules.specs.Happens.{node_of}
 use Rattle.directory_rules.specs.Members.{members_of}
-use Rattle.directory_rules.specs.Node.{Node}
+use Rattle.directory_rules.specs.State.{Node}
 use Rattle.directory_rules.specs.Recovery.{is_among}
 use Rattle.directory_rules.specs.Sent.{recovery_of}
 use Rattle.progress_rules.specs.Waits.{Recovers, Awaits}

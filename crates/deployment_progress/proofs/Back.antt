@@ -6,8 +6,7 @@ use Rattle.std.proofs.lemmas.List.Elements.{All-cons, All-head}
 use Rattle.silo_address.specs.Silo.{Silo, silo_eq}
 use Rattle.silo_address.proofs.Same.{Decides-silo}
 use Rattle.ring_range.specs.Range.{Range}
-use Rattle.directory_rules.specs.Letter.{Letter}
-use Rattle.directory_rules.specs.Node.{Node}
+use Rattle.directory_rules.specs.State.{Letter, Node}
 use Rattle.directory_rules.specs.Sent.{gathering_of}
 use Rattle.directory_rules.specs.Snapshot.{page_count}
 use Rattle.directory_rules.proofs.Cases.{on_bool}

@@ -14,9 +14,7 @@ use Rattle.directory_rules.specs.declared.piece_state.PieceState.TheVariants.{Se
 use Rattle.directory_rules.specs.Answer.{last_served, is_numbered, piece_with, answered}
 use Rattle.directory_rules.specs.Input.{Input, Receives}
 use Rattle.directory_rules.specs.Laws.{requests_of}
-use Rattle.directory_rules.specs.Letter.{Letter, Reply_letter}
-use Rattle.directory_rules.specs.Node.{Node}
-use Rattle.directory_rules.specs.Piece.{Piece}
+use Rattle.directory_rules.specs.State.{Letter, Reply_letter, Node, Piece}
 use Rattle.directory_rules.specs.Receive.{received, replying}
 use Rattle.directory_rules.specs.Sent.{letter_to, hash_of, request_of}
 use Rattle.directory_rules.specs.declared.own_step.OwnStep.{OwnStep}

@@ -3,8 +3,7 @@ use Rattle.std.proofs.Common.{arith, ◌≡◌, ℕ, ◌<◌, List, ◌++◌, re
 use Rattle.std.specs.Prelude.{slice_get, Contains, Some}
 use Rattle.silo_address.specs.Silo.{Silo}
 use Rattle.ring_range.specs.Range.{Range}
-use Rattle.directory_rules.specs.Letter.{Letter, Ask_letter, Query_letter}
-use Rattle.directory_rules.specs.Node.{Node}
+use Rattle.directory_rules.specs.State.{Letter, Ask_letter, Query_letter, Node}
 use Rattle.directory_rules.specs.Sent.{letter_to, gathering_of, all_wants}
 use Rattle.directory_rules.specs.Step.{Stepped}
 use Rattle.directory_rules.specs.Membership.{Membership}

@@ -7,8 +7,7 @@ use Rattle.silo_address.specs.Silo.{Silo, silo_eq}
 use Rattle.silo_address.proofs.Same.{Decides-silo}
 use Rattle.directory_rules.specs.Settings.{Settings, AreSettings}
 use Rattle.directory_rules.specs.Input.{Input, Sees, Does, Receives}
-use Rattle.directory_rules.specs.Letter.{Letter}
-use Rattle.directory_rules.specs.Node.{Node}
+use Rattle.directory_rules.specs.State.{Letter, Node}
 use Rattle.directory_rules.specs.Happens.{node_of}
 use Rattle.directory_rules.specs.World.{current_view}
 use Rattle.directory_rules.proofs.Cases.{on_bool}

@@ -18,17 +18,13 @@ use Rattle.directory_rules.specs.declared.act.Request.{Request}
 use Rattle.directory_rules.specs.declared.piece_state.PieceState.{PieceState}
 use Rattle.directory_rules.specs.declared.piece_state.PieceState.TheVariants as state
 use Rattle.directory_rules.specs.Answer.{answered}
-use Rattle.directory_rules.specs.Gatherings.{Gathering, Wants_page, new_gathering, gathered}
+use Rattle.directory_rules.specs.State.{Gathering, Letter, Node, Piece, Page, Table}
+use Rattle.directory_rules.specs.Gatherings.{Wants_page, new_gathering, gathered}
 use Rattle.directory_rules.specs.Input.{Input, step}
-use Rattle.directory_rules.specs.Letter.{Letter}
-use Rattle.directory_rules.specs.Node.{Node}
-use Rattle.directory_rules.specs.Piece.{Piece}
 use Rattle.directory_rules.specs.Recovery.{new_recovery}
 use Rattle.directory_rules.specs.Sent.{gathering_of, recovery_of}
 use Rattle.directory_rules.specs.Sight.{is_settled}
-use Rattle.directory_rules.specs.Snapshot.{Page}
 use Rattle.directory_rules.specs.Step.{Stepped}
-use Rattle.directory_rules.specs.Table.{Table}
 use Rattle.directory_rules.specs.Transfer.{piece_at, has_range, is_awaiting_from, is_recovering, with_gathering, with_recovery, with_settled, turned_to_recovery}
 use Rattle.directory_rules.proofs.Cases.{on_bool}
 use Rattle.directory_facts.specs.Pieces.{HasPieces, IsPiece}

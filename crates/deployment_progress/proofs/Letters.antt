@@ -3,8 +3,7 @@ use Rattle.std.proofs.Common.{arith, ◌≡◌, ℕ, zero, suc, ◌<◌, ◌≤�
 use Rattle.std.specs.Prelude.{slice_get, Contains, Some}
 use Rattle.std.specs.List.{slice_index_or}
 use Rattle.silo_address.specs.Silo.{Silo}
-use Rattle.directory_rules.specs.Letter.{Letter}
-use Rattle.directory_rules.specs.Node.{Node}
+use Rattle.directory_rules.specs.State.{Letter, Node}
 use Rattle.deployment_headline.specs.Deployment.{Deployment}
 use Rattle.deployment_headline.specs.Steps.{Step, Receive, after, after_all}
 use Rattle.deployment_progress.specs.Exchanges.{IsAnswered}

@@ -8,8 +8,7 @@ use Rattle.directory_rules.specs.declared.act.Act.{Act}
 use Rattle.directory_rules.specs.Host.{outstanding, requests_about, has_numbers, renewed, renewed_about}
 use Rattle.directory_rules.specs.Input.{Does, step}
 use Rattle.directory_rules.specs.Laws.{AreNumbered}
-use Rattle.directory_rules.specs.Letter.{Letter}
-use Rattle.directory_rules.specs.Node.{Node}
+use Rattle.directory_rules.specs.State.{Letter, Node}
 use Rattle.directory_rules.specs.Sent.{all_requests, all_wants}
 use Rattle.directory_rules.specs.declared.own_step.OwnStep.{OwnStep}
 use Rattle.directory_rules.specs.declared.own_step.OwnStep.TheVariants.{Nudge, NudgeGrain, NudgeRanges}

@@ -10,8 +10,7 @@ use Rattle.directory_rules.specs.declared.act.Request.{Request}
 use Rattle.directory_rules.specs.Answer.{last_served}
 use Rattle.directory_rules.specs.Input.{Input, Receives}
 use Rattle.directory_rules.specs.Laws.{AreNumbered}
-use Rattle.directory_rules.specs.Letter.{Letter, Request_letter}
-use Rattle.directory_rules.specs.Node.{Node}
+use Rattle.directory_rules.specs.State.{Letter, Request_letter, Node}
 use Rattle.directory_rules.proofs.Cases.{on_bool}
 use Rattle.progress_rules.specs.Owed.{Owes}
 use Rattle.progress_rules.proofs.Answering.{node_facts}

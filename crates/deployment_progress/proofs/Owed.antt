@@ -17,10 +17,10 @@ use Rattle.directory_rules.specs.declared.act.Act.TheVariants as act
 use Rattle.directory_rules.specs.declared.held.Held.{Held}
 use Rattle.directory_rules.specs.declared.held.Phase.{Phase}
 use Rattle.directory_rules.specs.declared.held.Phase.TheVariants as phase
-use Rattle.directory_rules.specs.Host.{Host, entry_of, act_in, held_acts, find_acts, outstanding, next_held, next_closing, with_started, with_closing, with_find, renewed, new_number_about, phase_renewed_about, held_renewed_about, renewed_about}
+use Rattle.directory_rules.specs.State.{Host, Node}
+use Rattle.directory_rules.specs.Host.{entry_of, act_in, held_acts, find_acts, outstanding, next_held, next_closing, with_started, with_closing, with_find, renewed, new_number_about, phase_renewed_about, held_renewed_about, renewed_about}
 use Rattle.directory_rules.specs.Input.{Input, step}
 use Rattle.directory_rules.specs.Laws.{AreNumbered}
-use Rattle.directory_rules.specs.Node.{Node}
 use Rattle.directory_rules.specs.Step.{Stepped}
 use Rattle.directory_rules.proofs.Cases.{on_bool}
 use Rattle.directory_facts.proofs.EachStep.{by_way}

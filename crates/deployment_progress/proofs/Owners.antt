@@ -15,8 +15,7 @@ use Rattle.directory_rules.specs.declared.act.Act.{Act}
 use Rattle.directory_rules.specs.declared.piece_state.PieceState.TheVariants as state
 use Rattle.directory_rules.specs.Answer.{piece_with}
 use Rattle.directory_rules.specs.Laws.{is_live}
-use Rattle.directory_rules.specs.Node.{Node}
-use Rattle.directory_rules.specs.Piece.{Piece}
+use Rattle.directory_rules.specs.State.{Node, Piece}
 use Rattle.directory_rules.specs.Sent.{hash_of, owner_by}
 use Rattle.directory_rules.specs.Host.{grain_of}
 use Rattle.directory_rules.specs.declared.own_step.OwnStep.{OwnStep}

@@ -10,7 +10,7 @@ use Rattle.silo_address.proofs.Same.{Decides-silo}
 use Rattle.directory_rules.specs.declared.own_step.OwnStep.TheVariants.{NudgeGrain, NudgeRanges}
 use Rattle.directory_rules.specs.Settings.{Settings, AreSettings}
 use Rattle.directory_rules.specs.Happens.{node_of}
-use Rattle.directory_rules.specs.World.{World}
+use Rattle.directory_rules.specs.State.{World}
 use Rattle.directory_rules.specs.Run.{run_from_start}
 use Rattle.directory_rules.specs.Step.{Stepped, nudge_ranges}
 use Rattle.directory_rules.specs.Input.{Does, step}

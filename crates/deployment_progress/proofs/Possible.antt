@@ -6,7 +6,7 @@ use Rattle.silo_address.specs.Silo.{Silo}
 use Rattle.directory_rules.specs.declared.own_step.OwnStep.{OwnStep}
 use Rattle.directory_rules.specs.declared.own_step.OwnStep.TheVariants.{Nudge, NudgeRanges}
 use Rattle.directory_rules.specs.OwnStep.{IsOwnStep}
-use Rattle.directory_rules.specs.Letter.{Letter}
+use Rattle.directory_rules.specs.State.{Letter}
 use Rattle.deployment_headline.specs.Deployment.{Deployment}
 use Rattle.deployment_headline.specs.Steps.{Step, Do, Receive, IsStep, after, after_all}
 use Rattle.deployment_progress.specs.Quiet.{DecidesNone}

@@ -6,8 +6,7 @@ use Rattle.membership_view.specs.View.{ViewValue}
 use Rattle.directory_rules.specs.declared.act.Request.{Request}
 use Rattle.directory_rules.specs.Answer.{last_served}
 use Rattle.directory_rules.specs.Input.{Input, Receives, step}
-use Rattle.directory_rules.specs.Letter.{Letter, Request_letter}
-use Rattle.directory_rules.specs.Node.{Node}
+use Rattle.directory_rules.specs.State.{Letter, Request_letter, Node}
 use Rattle.directory_rules.specs.Step.{Stepped}
 use Rattle.directory_facts.proofs.EachStep.{by_way}
 use Rattle.directory_facts.proofs.Ways.{Ways}

@@ -4,7 +4,7 @@ use Rattle.std.specs.Prelude.{All, flat_map, Some}
 use Rattle.std.specs.Option.{option_map}
 use Rattle.silo_address.specs.Silo.{Silo}
 use Rattle.ring_range.specs.Range.{Range}
-use Rattle.directory_rules.specs.Node.{Node}
+use Rattle.directory_rules.specs.State.{Node}
 use Rattle.directory_rules.specs.Sent.{gathering_of}
 use Rattle.directory_rules.specs.Snapshot.{page_count}
 use Rattle.silo_rules.specs.SiloValue.{SiloValue}

@@ -7,8 +7,8 @@ use Rattle.silo_address.specs.Silo.{Silo, silo_cmp, silo_eq}
 use Rattle.silo_address.proofs.Same.{Decides-silo}
 use Rattle.membership_view.specs.View.{ViewValue}
 use Rattle.directory_rules.specs.Input.{Input, step}
-use Rattle.directory_rules.specs.Node.{Node}
-use Rattle.directory_rules.specs.Snapshot.{Snapshot, is_snapshot, page_count}
+use Rattle.directory_rules.specs.State.{Node, Snapshot}
+use Rattle.directory_rules.specs.Snapshot.{is_snapshot, page_count}
 use Rattle.directory_rules.specs.Step.{Stepped}
 use Rattle.directory_rules.proofs.Cases.{on_bool}
 use Rattle.directory_facts.proofs.Entries.{found_so}

@@ -12,12 +12,9 @@ use Rattle.silo_address.specs.Silo.{Silo}
 use Rattle.ring_range.specs.Range.{Range, range_eq}
 use Rattle.directory_rules.specs.declared.piece_state.PieceState.{PieceState}
 use Rattle.directory_rules.specs.declared.piece_state.PieceState.TheVariants as state
-use Rattle.directory_rules.specs.Gatherings.{Gathering}
-use Rattle.directory_rules.specs.Node.{Node}
-use Rattle.directory_rules.specs.Piece.{Piece}
+use Rattle.directory_rules.specs.State.{Gathering, Node, Piece, Table}
 use Rattle.directory_rules.specs.Sent.{gathering_of}
 use Rattle.directory_rules.specs.Sight.{is_settled}
-use Rattle.directory_rules.specs.Table.{Table}
 use Rattle.directory_rules.specs.Transfer.{piece_at, has_range, is_awaiting_from, is_recovering}
 use Rattle.directory_rules.proofs.Cases.{on_bool}
 use Rattle.directory_facts.proofs.Lookups.{found_set, found_beside_set}

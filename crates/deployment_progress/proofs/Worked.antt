@@ -12,7 +12,7 @@ use Rattle.directory_rules.specs.declared.held.Phase.TheVariants.{Firm}
 use Rattle.directory_rules.specs.declared.piece_state.PieceState.TheVariants.{Settled, Awaiting}
 use Rattle.directory_rules.specs.Host.{outstanding, has_numbers, renewed}
 use Rattle.directory_rules.specs.Input.{Does, step}
-use Rattle.directory_rules.specs.Letter.{Letter}
+use Rattle.directory_rules.specs.State.{Letter}
 use Rattle.directory_rules.specs.Snapshot.{page_count}
 use Rattle.directory_rules.specs.Step.{Stepped, having_nudged}
 use Rattle.directory_rules.specs.declared.own_step.OwnStep.TheVariants.{Nudge}

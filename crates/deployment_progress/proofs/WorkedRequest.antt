@@ -14,8 +14,7 @@ use Rattle.directory_rules.specs.declared.piece_state.PieceState.TheVariants.{Se
 use Rattle.directory_rules.specs.Answer.{piece_with}
 use Rattle.directory_rules.specs.Host.{outstanding, has_numbers}
 use Rattle.directory_rules.specs.Laws.{requests_of}
-use Rattle.directory_rules.specs.Piece.{Piece}
-use Rattle.directory_rules.specs.Node.{Node}
+use Rattle.directory_rules.specs.State.{Piece, Node}
 use Rattle.directory_rules.specs.Sent.{hash_of}
 use Rattle.directory_rules.specs.declared.own_step.OwnStep.TheVariants.{Nudge}
 use Rattle.directory_rules.specs.Worked.{silo_a, grain_a}

@@ -6,9 +6,7 @@ use Rattle.directory_rules.specs.declared.act.Act.{Act}
 use Rattle.directory_rules.specs.declared.act.Request.{Request}
 use Rattle.directory_rules.specs.declared.piece_state.PieceState.TheVariants.{Settled}
 use Rattle.directory_rules.specs.Answer.{is_numbered, piece_with}
-use Rattle.directory_rules.specs.Letter.{Letter, Request_letter}
-use Rattle.directory_rules.specs.Node.{Node}
-use Rattle.directory_rules.specs.Piece.{Piece}
+use Rattle.directory_rules.specs.State.{Letter, Request_letter, Node, Piece}
 use Rattle.directory_rules.specs.declared.own_step.OwnStep.{OwnStep}
 use Rattle.directory_rules.specs.declared.own_step.OwnStep.TheVariants.{Nudge, NudgeGrain}
 use Rattle.directory_rules.specs.Host.{grain_of}

@@ -13,10 +13,10 @@ use Rattle.directory_rules.specs.Event.{Event}
 use Rattle.directory_rules.specs.declared.outcome.Happening.{Happening}
 use Rattle.directory_rules.specs.declared.outcome.Happening.TheVariants.{Delivered, Did, Saw}
 use Rattle.directory_rules.specs.declared.outcome.Span.{Span}
-use Rattle.directory_rules.specs.Letter.{Letter, kind_of}
-use Rattle.directory_rules.specs.Node.{Node}
+use Rattle.directory_rules.specs.State.{Letter, Node, World, Accepted}
+use Rattle.directory_rules.specs.Letter.{kind_of}
 use Rattle.directory_rules.specs.Step.{Stepped}
-use Rattle.directory_rules.specs.World.{World, Accepted, accepted_as, membership_of}
+use Rattle.directory_rules.specs.World.{accepted_as, membership_of}
 use Rattle.directory_rules.specs.Mail.{has_room_for, letter_of, span_of, with_delivered}
 use Rattle.directory_rules.specs.Input.{Input, Does, step, sight_of}
 use Rattle.directory_rules.specs.Happens.{after_change, attempted, change_told, changed_by, counted, decides, deliver, delivers, delivers_to, does, does_at, done_by, happens, is_of_dead, node_of, seen_by, sees, sees_at, taken}

@@ -13,10 +13,10 @@ use Rattle.membership_view.specs.declared.Status.{Status}
 use Rattle.membership_view.proofs.Searches.{occupant_law}
 use Rattle.membership_view.proofs.Changes.{changes_are_steps}
 use Rattle.directory_rules.specs.Laws.{ArePeopled, is_live}
-use Rattle.directory_rules.specs.Letter.{Letter}
-use Rattle.directory_rules.specs.Node.{Node, new_node}
+use Rattle.directory_rules.specs.State.{Letter, Node, World}
+use Rattle.directory_rules.specs.Node.{new_node}
 use Rattle.directory_rules.specs.Membership.{Change, Join, Leave, Die, Membership, changed}
-use Rattle.directory_rules.specs.World.{World, membership_of}
+use Rattle.directory_rules.specs.World.{membership_of}
 use Rattle.directory_rules.specs.Mail.{with_delivered, with_lost}
 use Rattle.directory_rules.specs.Happens.{after_change, after_joining, counted}
 use Rattle.letter_mail.specs.Mail.{MailValue, with_posted, with_stale}

@@ -8,9 +8,9 @@ use Rattle.membership_view.specs.Views.{view_at}
 use Rattle.hash_ring.specs.Ring.{are_added, ring_of}
 use Rattle.directory_rules.specs.Settings.{Settings, AreSettings}
 use Rattle.directory_rules.specs.Membership.{Membership, first_membership}
-use Rattle.directory_rules.specs.Node.{Node}
+use Rattle.directory_rules.specs.State.{Node, World, Accepted}
 use Rattle.directory_rules.specs.Event.{Event, IsEvent}
-use Rattle.directory_rules.specs.World.{World, Accepted, first_world}
+use Rattle.directory_rules.specs.World.{first_world}
 use Rattle.directory_rules.specs.Happens.{happens, node_of}
 use Rattle.directory_rules.specs.Headline.{AfterAnyEvents, Headline, MovesPlainly}
 use Rattle.directory_rules.specs.Laws.{ArePeopled}

@@ -8,7 +8,8 @@ use Rattle.directory_rules.specs.Event as rule
 use Rattle.directory_rules.specs.Event.{IsEvent}
 use Rattle.directory_rules.specs.Headline.{MovesPlainly}
 use Rattle.directory_rules.specs.PlainMachine.{IsPlainStep, plain_of, plain_step_of}
-use Rattle.directory_rules.specs.World.{Accepted, World, accepted_as}
+use Rattle.directory_rules.specs.State.{Accepted, World}
+use Rattle.directory_rules.specs.World.{accepted_as}
 use Rattle.directory_rules.specs.Happens.{happens}
 use Rattle.directory_rules.specs.Run.{run, told_of, world_after}
 use Rattle.directory_rules.specs.declared.Outcome.{Outcome}

@@ -10,10 +10,8 @@ use Rattle.ring_range.specs.Range.{Range, holds}
 use Rattle.hash_ring.specs.declared.Hashing.{Hashing}
 use Rattle.hash_ring.specs.Hash.{hash_grain}
 use Rattle.directory_rules.specs.Happens.{node_of}
-use Rattle.directory_rules.specs.Node.{Node}
-use Rattle.directory_rules.specs.Piece.{Piece}
-use Rattle.directory_rules.specs.Table.{Table, entries_of, lie_in}
-use Rattle.directory_rules.specs.World.{World}
+use Rattle.directory_rules.specs.State.{Node, Piece, Table, World}
+use Rattle.directory_rules.specs.Table.{entries_of, lie_in}
 use Rattle.directory_facts.proofs.Lawful.{events_name_hashes, pieces_are_owned}
 use Rattle.grain_partition.specs.Holdings.{are_tidy}
 use Rattle.directory_core.specs.Whole.{IsWorld}

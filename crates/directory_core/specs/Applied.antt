@@ -1,6 +1,6 @@
 -- An event applied by the code, in the rule's words.
 use Rattle.std.specs.Prelude.{◌≡◌, ℕ, IsOk, Result, Ok, Err}
-use Rattle.directory_rules.specs.World.{World, Accepted}
+use Rattle.directory_rules.specs.State.{World, Accepted}
 use Rattle.directory_rules.specs.PlainMachine.{IsPlainStep, plain_of, plain_step_of}
 use Rattle.directory_rules.specs.declared.Event.{Event}
 use Rattle.directory_rules.specs.declared.Event.TheVariants.{Leave, Kill, See, Do, Lose}

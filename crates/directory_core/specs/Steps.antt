@@ -3,9 +3,7 @@ use Rattle.std.specs.Prelude.{ℕ, ◌+◌, ◌==◌, ◌||◌, nat_le, if◌the
 use Rattle.silo_address.specs.Silo.{Silo}
 use Rattle.directory_rules.specs.declared.OwnStep.{OwnStep}
 use Rattle.directory_rules.specs.declared.OwnStep.TheVariants.{Nudge, NudgeGrain, NudgeRanges}
-use Rattle.directory_rules.specs.Letter.{Letter}
-use Rattle.directory_rules.specs.Node.{Node}
-use Rattle.directory_rules.specs.World.{World}
+use Rattle.directory_rules.specs.State.{Letter, Node, World}
 use Rattle.directory_rules.specs.Mail.{with_sent}
 use Rattle.directory_rules.specs.Happens.{with_node, counted}
 

@@ -14,7 +14,7 @@ use Rattle.directory_rules.specs.declared.act.Act.TheVariants.{Register, Deregis
 use Rattle.directory_rules.specs.declared.act.Request.{Request}
 use Rattle.directory_rules.specs.declared.reply.Why.{Why}
 use Rattle.directory_rules.specs.Table.{entry_at}
-use Rattle.directory_rules.specs.Piece.{Piece, Holding}
+use Rattle.directory_rules.specs.State.{Piece, Holding}
 use Rattle.directory_rules.specs.Answer.{with_piece, turned, serving_piece, served_by, answered_from}
 use Rattle.directory_rules.specs.Host.{grain_of}
 use Rattle.directory_rules.proofs.Cases.{on_bool}

@@ -10,12 +10,12 @@ use Rattle.membership_view.specs.Changes.{Change, after}
 use Rattle.membership_view.specs.Changes as change
 use Rattle.hash_ring.specs.Places.{PlacesValue, after_add}
 use Rattle.directory_rules.specs.Settings.{Settings}
-use Rattle.directory_rules.specs.Letter.{Letter}
-use Rattle.directory_rules.specs.Node.{Node, new_node}
+use Rattle.directory_rules.specs.State.{Letter, Node, World}
+use Rattle.directory_rules.specs.Node.{new_node}
 use Rattle.directory_rules.specs.Event.{Event, Join, Do}
 use Rattle.directory_rules.specs.Step.{Stepped}
 use Rattle.directory_rules.specs.Input.{Input, Sees, Does, Receives, step}
-use Rattle.directory_rules.specs.World.{World, first_world}
+use Rattle.directory_rules.specs.World.{first_world}
 
 -- what is asked of the settings and of each event, and what is carried
 pub record Facts : Type 1 where

@@ -13,10 +13,11 @@ use Rattle.ring_range.specs.Range.{Range, holds, range_eq}
 use Rattle.ring_range.proofs.Same.{Decides-range}
 use Rattle.hash_ring.specs.declared.Hashing.{Hashing}
 use Rattle.hash_ring.specs.Hash.{hash_grain}
-use Rattle.directory_rules.specs.Snapshot.{Page, digest_of}
+use Rattle.directory_rules.specs.State.{Page, Gathering, Report, Recovery}
+use Rattle.directory_rules.specs.Snapshot.{digest_of}
 use Rattle.directory_rules.specs.Table.{lie_in}
-use Rattle.directory_rules.specs.Gatherings.{Gathering, Gathered, Wants_page, Has_all, Refuses, new_gathering, with_page, is_in_turn, completed, gathered, agrees, is_entry_count}
-use Rattle.directory_rules.specs.Recovery.{Report, Recovery, Recovered, Awaits_more, Has_union, Rejects, with_report, is_among, awaits_still, recovered}
+use Rattle.directory_rules.specs.Gatherings.{Gathered, Wants_page, Has_all, Refuses, new_gathering, with_page, is_in_turn, completed, gathered, agrees, is_entry_count}
+use Rattle.directory_rules.specs.Recovery.{Recovered, Awaits_more, Has_union, Rejects, with_report, is_among, awaits_still, recovered}
 use Rattle.directory_rules.proofs.Cases.{on_bool}
 use Rattle.directory_facts.specs.Pieces.{IsHashedInto, IsTableOf, IsGathering, IsRecovery}
 use Rattle.directory_facts.proofs.Tables.{all_from, table_union}

@@ -10,8 +10,8 @@ use Rattle.silo_address.specs.declared.ActivationId.{ActivationId}
 use Rattle.silo_address.proofs.Order.{grain_cmp_exact}
 use Rattle.directory_rules.specs.declared.held.Held.{Held}
 use Rattle.directory_rules.specs.declared.held.Phase.TheVariants.{Firm}
-use Rattle.directory_rules.specs.Host.{Host, held_of, next_held, next_closing, with_started, renewed_phase, held_renewed_about, asking_under}
-use Rattle.directory_rules.specs.Node.{Node}
+use Rattle.directory_rules.specs.State.{Host, Node}
+use Rattle.directory_rules.specs.Host.{held_of, next_held, next_closing, with_started, renewed_phase, held_renewed_about, asking_under}
 use Rattle.directory_facts.specs.Own.{HoldsOnce, CountsOnce}
 use Rattle.directory_facts.proofs.Entries.{same_key, all_set, all_removed, found_so}
 use Rattle.directory_facts.proofs.Carried.{Facts, Keeps}

@@ -23,15 +23,13 @@ use Rattle.directory_rules.specs.declared.piece_state.PieceState.TheVariants as 
 use Rattle.directory_rules.specs.declared.reply.Reply.{Reply}
 use Rattle.directory_rules.specs.declared.reply.Reply.TheVariants as reply
 use Rattle.directory_rules.specs.declared.effect.Effect.TheVariants as effect
-use Rattle.directory_rules.specs.Piece.{Piece}
+use Rattle.directory_rules.specs.State.{Piece, Page, Report, Body, Request_letter, Reply_letter, Ask_letter, Page_letter, Missing_letter, Done_letter, Query_letter, Report_letter, Behind_letter, Ahead_letter, Offer_letter, Letter, Node}
 use Rattle.directory_rules.specs.Table.{rise_by_grain, lie_in}
-use Rattle.directory_rules.specs.Snapshot.{Page, ShelfAnswer, Hands_page, Has_none, Is_behind, shelf_answer, has_snapshot, shelf_without}
+use Rattle.directory_rules.specs.Snapshot.{ShelfAnswer, Hands_page, Has_none, Is_behind, shelf_answer, has_snapshot, shelf_without}
 use Rattle.directory_rules.specs.Gatherings.{Gathered, Wants_page, Has_all, Refuses, gathered}
-use Rattle.directory_rules.specs.Recovery.{Report, Recovered, Awaits_more, Has_union, Rejects, recovered}
+use Rattle.directory_rules.specs.Recovery.{Recovered, Awaits_more, Has_union, Rejects, recovered}
 use Rattle.directory_rules.specs.Host.{held_of, is_asking, outstanding, requests_about, has_numbers, has_count, is_full_of_activations, is_full_of_finds, is_firm, asking_under, closing_under, is_finding, is_outstanding, without_find}
 use Rattle.directory_rules.specs.Cache.{hint_of, learnt}
-use Rattle.directory_rules.specs.Letter.{Body, Request_letter, Reply_letter, Ask_letter, Page_letter, Missing_letter, Done_letter, Query_letter, Report_letter, Behind_letter, Ahead_letter, Offer_letter, Letter}
-use Rattle.directory_rules.specs.Node.{Node}
 use Rattle.directory_rules.specs.Sent.{gathering_of, recovery_of}
 use Rattle.directory_rules.specs.Step as at
 use Rattle.directory_rules.specs.Reply as re

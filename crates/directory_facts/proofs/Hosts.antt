@@ -18,7 +18,8 @@ use Rattle.directory_rules.specs.declared.act.Act.TheVariants.{Find}
 use Rattle.directory_rules.specs.declared.held.Held.{Held}
 use Rattle.directory_rules.specs.declared.held.Phase.{Phase}
 use Rattle.directory_rules.specs.declared.held.Phase.TheVariants.{Asking, Firm, Closing}
-use Rattle.directory_rules.specs.Host.{Host, outstanding, requests_about, grain_of, held_acts, find_acts, act_in, renewed, renewed_phase, renewed_about, held_renewed_about}
+use Rattle.directory_rules.specs.State.{Host}
+use Rattle.directory_rules.specs.Host.{outstanding, requests_about, grain_of, held_acts, find_acts, act_in, renewed, renewed_phase, renewed_about, held_renewed_about}
 use Rattle.directory_rules.proofs.Cases.{on_bool}
 use Rattle.directory_facts.specs.Own.{NamesOwn}
 use Rattle.directory_facts.proofs.Entries.{all_put}

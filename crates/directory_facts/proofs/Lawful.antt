@@ -9,10 +9,9 @@ use Rattle.silo_address.specs.Silo.{Silo, IsSilo}
 use Rattle.hash_ring.specs.declared.point.Point.{Point}
 use Rattle.hash_ring.specs.Places.{is_added}
 use Rattle.directory_rules.specs.Settings.{Settings, AreSettings}
-use Rattle.directory_rules.specs.Letter.{Letter}
-use Rattle.directory_rules.specs.Node.{Node}
+use Rattle.directory_rules.specs.State.{Letter, Node, World}
 use Rattle.directory_rules.specs.Event.{Event, Join, Leave, Kill, See, Do, Deliver, Lose, IsEvent}
-use Rattle.directory_rules.specs.World.{World, first_world}
+use Rattle.directory_rules.specs.World.{first_world}
 use Rattle.directory_rules.specs.Mail.{letter_of}
 use Rattle.directory_rules.specs.Happens.{node_of}
 use Rattle.directory_rules.specs.Laws.{NamesHashes, HoldOnce}

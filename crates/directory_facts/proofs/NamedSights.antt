@@ -15,11 +15,10 @@ use Rattle.range_moves.specs.Arcs.{arc_of, arcs_of, circle_cut_at, all_places}
 use Rattle.directory_rules.specs.declared.piece_state.PieceState.{PieceState}
 use Rattle.directory_rules.specs.declared.piece_state.PieceState.TheVariants as state
 use Rattle.directory_rules.specs.Members.{is_dead_in}
-use Rattle.directory_rules.specs.Piece.{Piece}
+use Rattle.directory_rules.specs.State.{Piece, Snapshot, Gathering, Recovery}
 use Rattle.directory_rules.specs.Sight.{is_owner, was_settled, kept_entries, state_from, missing_state, piece_of, pieces_after, is_handed_over, snapshot_for, sealed, shelf_after}
-use Rattle.directory_rules.specs.Snapshot.{Snapshot}
-use Rattle.directory_rules.specs.Gatherings.{Gathering, new_gathering}
-use Rattle.directory_rules.specs.Recovery.{Recovery, new_recovery}
+use Rattle.directory_rules.specs.Gatherings.{new_gathering}
+use Rattle.directory_rules.specs.Recovery.{new_recovery}
 use Rattle.directory_rules.specs.Step as at
 use Rattle.directory_rules.proofs.Cases.{on_bool}
 use Rattle.directory_facts.specs.Named.{IsNamed, AreNamed, AwaitsSilo}

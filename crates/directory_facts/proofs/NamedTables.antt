@@ -18,12 +18,12 @@ use Rattle.directory_rules.specs.declared.act.Act.TheVariants.{Register, Deregis
 use Rattle.directory_rules.specs.declared.reply.Reply.{Reply}
 use Rattle.directory_rules.specs.declared.reply.Reply.TheVariants.{Registered, Taken, Removed, Absent}
 use Rattle.directory_rules.specs.Settings.{page_size}
-use Rattle.directory_rules.specs.Table.{Table, entry_at, with_entry, without_grain, entries_of, table_of}
-use Rattle.directory_rules.specs.Piece.{Piece}
+use Rattle.directory_rules.specs.State.{Table, Piece, Snapshot, Page, Gathering, Report, Recovery}
+use Rattle.directory_rules.specs.Table.{entry_at, with_entry, without_grain, entries_of, table_of}
 use Rattle.directory_rules.specs.Sight.{is_kept, all_entries, kept_entries}
-use Rattle.directory_rules.specs.Snapshot.{Snapshot, Page, digest_of, page_count, page_of, page_from, shelf_answer, is_snapshot, Hands_page, Has_none, Is_behind}
-use Rattle.directory_rules.specs.Gatherings.{Gathering, Gathered, Wants_page, Has_all, Refuses, new_gathering, with_page, is_in_turn, completed, gathered}
-use Rattle.directory_rules.specs.Recovery.{Report, Recovery, Recovered, Awaits_more, Has_union, Rejects, with_reported, with_report, is_among, awaits_still, recovered}
+use Rattle.directory_rules.specs.Snapshot.{digest_of, page_count, page_of, page_from, shelf_answer, is_snapshot, Hands_page, Has_none, Is_behind}
+use Rattle.directory_rules.specs.Gatherings.{Gathered, Wants_page, Has_all, Refuses, new_gathering, with_page, is_in_turn, completed, gathered}
+use Rattle.directory_rules.specs.Recovery.{Recovered, Awaits_more, Has_union, Rejects, with_reported, with_report, is_among, awaits_still, recovered}
 use Rattle.directory_rules.specs.Answer.{Turned, turned, registered_over, deregistered_from, is_previous}
 use Rattle.directory_rules.proofs.Cases.{on_bool}
 use Rattle.directory_facts.specs.Named.{IsNamed, AreNamed}

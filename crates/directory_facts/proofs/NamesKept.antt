@@ -26,16 +26,14 @@ use Rattle.directory_rules.specs.declared.held.Held.{Held}
 use Rattle.directory_rules.specs.declared.piece_state.PieceState.TheVariants as state
 use Rattle.directory_rules.specs.declared.reply.Why.{Why}
 use Rattle.directory_rules.specs.Settings.{Settings}
-use Rattle.directory_rules.specs.Table.{Table, table_of, with_entry}
-use Rattle.directory_rules.specs.Piece.{Piece, Holding}
+use Rattle.directory_rules.specs.State.{Table, Piece, Holding, Snapshot, Page, Gathering, Report, Recovery, Host, Letter, Request_letter, Page_letter, Report_letter, Node}
+use Rattle.directory_rules.specs.Table.{table_of, with_entry}
 use Rattle.directory_rules.specs.Sight.{is_next}
-use Rattle.directory_rules.specs.Snapshot.{Snapshot, Page}
-use Rattle.directory_rules.specs.Gatherings.{Gathering, new_gathering, gathered}
-use Rattle.directory_rules.specs.Recovery.{Report, Recovery, new_recovery, recovered}
-use Rattle.directory_rules.specs.Host.{Host, entry_of, held_of, next_held, with_started, with_closing, with_find, without_find, without_held, confirmed, renewed, renewed_about, is_firm}
+use Rattle.directory_rules.specs.Gatherings.{new_gathering, gathered}
+use Rattle.directory_rules.specs.Recovery.{new_recovery, recovered}
+use Rattle.directory_rules.specs.Host.{entry_of, held_of, next_held, with_started, with_closing, with_find, without_find, without_held, confirmed, renewed, renewed_about, is_firm}
 use Rattle.directory_rules.specs.Answer.{piece_with, with_piece, turned, serving_piece, served_by, answered_from, answered}
-use Rattle.directory_rules.specs.Letter.{Letter, Request_letter, Page_letter, Report_letter}
-use Rattle.directory_rules.specs.Node.{Node, new_node}
+use Rattle.directory_rules.specs.Node.{new_node}
 use Rattle.directory_rules.specs.Sent.{all_requests, all_wants, gathering_of, recovery_of, query_letters}
 use Rattle.directory_rules.specs.Step as at
 use Rattle.directory_rules.specs.Transfer as tr

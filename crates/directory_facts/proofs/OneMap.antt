@@ -23,8 +23,8 @@ use Rattle.directory_rules.specs.declared.act.Act.TheVariants.{Register, Deregis
 use Rattle.directory_rules.specs.declared.act.Request.{Request}
 use Rattle.directory_rules.specs.declared.reply.Reply.{Reply}
 use Rattle.directory_rules.specs.declared.reply.Reply.TheVariants.{Registered, Taken, Removed, Absent}
-use Rattle.directory_rules.specs.Table.{Table, entry_at, entries_of, with_entry, without_grain}
-use Rattle.directory_rules.specs.Piece.{Piece, Holding}
+use Rattle.directory_rules.specs.State.{Table, Piece, Holding}
+use Rattle.directory_rules.specs.Table.{entry_at, entries_of, with_entry, without_grain}
 use Rattle.directory_rules.specs.Answer.{Answered, Turned, turned, registered_over, deregistered_from, found_reply, is_previous, piece_with, serving_piece, served_by, answered_from, answered}
 use Rattle.directory_rules.specs.Sight.{is_owner}
 use Rattle.directory_rules.specs.Host.{grain_of}

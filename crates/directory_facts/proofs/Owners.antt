@@ -17,13 +17,11 @@ use Rattle.directory_rules.specs.declared.held.Phase.TheVariants.{Firm}
 use Rattle.directory_rules.specs.declared.piece_state.PieceState.{PieceState}
 use Rattle.directory_rules.specs.declared.piece_state.PieceState.TheVariants as state
 use Rattle.directory_rules.specs.Settings.{Settings}
-use Rattle.directory_rules.specs.Piece.{Piece}
+use Rattle.directory_rules.specs.State.{Piece, Snapshot, Page, Host, Letter, Body, Request_letter, Offer_letter, Query_letter, Node}
 use Rattle.directory_rules.specs.Sight.{is_next}
-use Rattle.directory_rules.specs.Snapshot.{Snapshot, Page, Hands_page, Has_none, Is_behind, page_count, page_of, page_from, is_snapshot, shelf_answer}
+use Rattle.directory_rules.specs.Snapshot.{Hands_page, Has_none, Is_behind, page_count, page_of, page_from, is_snapshot, shelf_answer}
 use Rattle.directory_rules.proofs.Cases.{on_bool}
-use Rattle.directory_rules.specs.Host.{Host, outstanding, requests_about, entry_of, next_held, next_closing, with_started, with_closing, with_find, without_find, without_held, confirmed, renewed, renewed_about}
-use Rattle.directory_rules.specs.Letter.{Letter, Body, Request_letter, Offer_letter, Query_letter}
-use Rattle.directory_rules.specs.Node.{Node}
+use Rattle.directory_rules.specs.Host.{outstanding, requests_about, entry_of, next_held, next_closing, with_started, with_closing, with_find, without_find, without_held, confirmed, renewed, renewed_about}
 use Rattle.directory_rules.specs.Sent.{letter_to, letter_if_owned, owner_by, hash_of, request_of, request_letters, all_requests, requests_of_grain, recovery_of, wants_by, all_wants}
 use Rattle.directory_rules.specs.Step as at
 use Rattle.directory_rules.specs.Transfer as tr

@@ -23,8 +23,8 @@ use Rattle.directory_rules.specs.declared.act.Request.{Request}
 use Rattle.directory_rules.specs.declared.piece_state.PieceState.TheVariants.{Settled}
 use Rattle.directory_rules.specs.declared.reply.Why.{Why}
 use Rattle.directory_rules.specs.Members.{is_dead_in}
-use Rattle.directory_rules.specs.Table.{Table, with_entry, entries_of}
-use Rattle.directory_rules.specs.Piece.{Piece, Holding}
+use Rattle.directory_rules.specs.State.{Table, Piece, Holding}
+use Rattle.directory_rules.specs.Table.{with_entry, entries_of}
 use Rattle.directory_rules.specs.Sight.{is_owner, is_kept, kept_entries, all_entries, was_settled, missing_state, piece_of, pieces_after}
 use Rattle.directory_rules.specs.Host.{grain_of}
 use Rattle.directory_rules.specs.Answer.{with_piece, turned, serving_piece, served_by, answered_from, answered}

@@ -20,14 +20,12 @@ use Rattle.directory_rules.specs.declared.act.Request.{Request}
 use Rattle.directory_rules.specs.declared.piece_state.PieceState.{PieceState}
 use Rattle.directory_rules.specs.declared.piece_state.PieceState.TheVariants as state
 use Rattle.directory_rules.specs.Settings.{Settings, AreSettings}
-use Rattle.directory_rules.specs.Table.{Table, table_of, rise_by_grain, lie_in}
-use Rattle.directory_rules.specs.Piece.{Piece}
+use Rattle.directory_rules.specs.State.{Table, Piece, Page, Gathering, Report, Recovery, Letter, Request_letter, Node}
+use Rattle.directory_rules.specs.Table.{table_of, rise_by_grain, lie_in}
 use Rattle.directory_rules.specs.Sight.{is_next}
-use Rattle.directory_rules.specs.Snapshot.{Page}
-use Rattle.directory_rules.specs.Gatherings.{Gathering, new_gathering, gathered}
-use Rattle.directory_rules.specs.Recovery.{Report, Recovery, new_recovery, recovered}
-use Rattle.directory_rules.specs.Letter.{Letter, Request_letter}
-use Rattle.directory_rules.specs.Node.{Node, new_node}
+use Rattle.directory_rules.specs.Gatherings.{new_gathering, gathered}
+use Rattle.directory_rules.specs.Recovery.{new_recovery, recovered}
+use Rattle.directory_rules.specs.Node.{new_node}
 use Rattle.directory_rules.specs.Answer.{answered}
 use Rattle.directory_rules.specs.Sent.{gathering_of, recovery_of}
 use Rattle.directory_rules.specs.Step as at

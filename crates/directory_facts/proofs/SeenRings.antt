@@ -17,7 +17,8 @@ use Rattle.hash_ring.specs.Places.{PlacesValue, after_add}
 use Rattle.hash_ring.specs.Ring.{ring_of}
 use Rattle.hash_ring.proofs.Lawful.{ring_stays}
 use Rattle.directory_rules.specs.Settings.{Settings, AreSettings}
-use Rattle.directory_rules.specs.Node.{Node, new_node}
+use Rattle.directory_rules.specs.State.{Node}
+use Rattle.directory_rules.specs.Node.{new_node}
 use Rattle.directory_rules.specs.Step as at
 use Rattle.directory_rules.specs.Input.{Input}
 use Rattle.directory_facts.specs.Seen.{SeesItsVersion}

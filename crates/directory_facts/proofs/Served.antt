@@ -9,7 +9,7 @@ use Rattle.directory_rules.specs.declared.piece_state.PieceState.{PieceState}
 use Rattle.directory_rules.specs.declared.piece_state.PieceState.TheVariants.{Settled, Awaiting, Recovering}
 use Rattle.directory_rules.specs.declared.reply.Why.{Why}
 use Rattle.directory_rules.specs.declared.reply.Why.TheVariants.{View, OldNumber}
-use Rattle.directory_rules.specs.Piece.{Piece, Holding}
+use Rattle.directory_rules.specs.State.{Piece, Holding}
 use Rattle.directory_rules.specs.Answer.{piece_with, is_numbered, last_served, serving_by_state, serving_by_piece, serving_piece}
 use Rattle.directory_rules.proofs.Cases.{on_bool}
 

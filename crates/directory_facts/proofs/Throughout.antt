@@ -11,7 +11,7 @@ use Rattle.ring_range.specs.Range.{circle, Range, IsRange, distance, ahead, hold
 use Rattle.ring_range.specs.Cut.{cut_parts, IsInside}
 use Rattle.ring_range.proofs.Circle.{distance-up, distance-round, distance-lt, distance-itself, distance-back, distance-zero, ahead-lt, distance-ahead, distance-turn}
 use Rattle.ring_range.proofs.Cuts.{is_cut, ranges}
-use Rattle.directory_rules.specs.Piece.{Piece}
+use Rattle.directory_rules.specs.State.{Piece}
 use Rattle.directory_rules.specs.Sight.{is_settled, is_in_settled}
 use Rattle.directory_rules.specs.Laws.{lies_settled}
 use Rattle.directory_rules.proofs.Cases.{on_bool}

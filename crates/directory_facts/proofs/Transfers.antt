@@ -15,12 +15,11 @@ use Rattle.ring_range.proofs.Same.{Decides-range}
 use Rattle.directory_rules.specs.declared.piece_state.PieceState.{PieceState}
 use Rattle.directory_rules.specs.declared.piece_state.PieceState.TheVariants.{Settled}
 use Rattle.directory_rules.specs.Settings.{page_size}
-use Rattle.directory_rules.specs.Piece.{Piece}
-use Rattle.directory_rules.specs.Table.{Table, table_of, rise_by_grain, lie_in}
-use Rattle.directory_rules.specs.Snapshot.{Snapshot, page_count, page_entries, page_of, digest_of}
-use Rattle.directory_rules.specs.Gatherings.{Gathering, Whole, Gathered, Wants_page, Has_all, Refuses, new_gathering, with_page, is_in_turn, completed, gathered, agrees, is_entry_count}
+use Rattle.directory_rules.specs.State.{Piece, Table, Snapshot, Gathering, Whole, Node}
+use Rattle.directory_rules.specs.Table.{table_of, rise_by_grain, lie_in}
+use Rattle.directory_rules.specs.Snapshot.{page_count, page_entries, page_of, digest_of}
+use Rattle.directory_rules.specs.Gatherings.{Gathered, Wants_page, Has_all, Refuses, new_gathering, with_page, is_in_turn, completed, gathered, agrees, is_entry_count}
 use Rattle.directory_rules.specs.Recovery.{recovered}
-use Rattle.directory_rules.specs.Node.{Node}
 use Rattle.directory_rules.specs.Sent.{gathering_of, recovery_of}
 use Rattle.directory_rules.specs.Step.{silently}
 use Rattle.directory_rules.specs.declared.effect.Effect.TheVariants as effect

@@ -18,16 +18,14 @@ use Rattle.directory_rules.specs.declared.reply.Reply.TheVariants as reply
 use Rattle.directory_rules.specs.declared.effect.Effect.{Effect}
 use Rattle.directory_rules.specs.declared.effect.Effect.TheVariants as effect
 use Rattle.directory_rules.specs.declared.piece_state.PieceState.TheVariants as state
-use Rattle.directory_rules.specs.Piece.{Piece}
-use Rattle.directory_rules.specs.Table.{Table, table_of, rise_by_grain, lie_in}
+use Rattle.directory_rules.specs.State.{Piece, Table, Page, Gathering, Report, Recovery, Letter, Request_letter, Reply_letter, Ask_letter, Page_letter, Missing_letter, Done_letter, Query_letter, Report_letter, Behind_letter, Ahead_letter, Offer_letter, Node}
+use Rattle.directory_rules.specs.Table.{table_of, rise_by_grain, lie_in}
 use Rattle.directory_rules.specs.Sight.{is_next}
-use Rattle.directory_rules.specs.Snapshot.{Page, Hands_page, Has_none, shelf_answer, has_snapshot, shelf_without}
-use Rattle.directory_rules.specs.Gatherings.{Gathering, Wants_page, Has_all, Refuses, gathered}
-use Rattle.directory_rules.specs.Recovery.{Report, Recovery, Awaits_more, Has_union, recovered}
+use Rattle.directory_rules.specs.Snapshot.{Hands_page, Has_none, shelf_answer, has_snapshot, shelf_without}
+use Rattle.directory_rules.specs.Gatherings.{Wants_page, Has_all, Refuses, gathered}
+use Rattle.directory_rules.specs.Recovery.{Awaits_more, Has_union, recovered}
 use Rattle.directory_rules.specs.Host.{held_of, is_asking, outstanding, requests_about, has_numbers, has_count, is_full_of_activations, is_full_of_finds, asking_under, closing_under, is_finding, confirmed, without_held, without_find, renewed_about}
 use Rattle.directory_rules.specs.Cache.{hint_of, in_front, without_pair, learnt}
-use Rattle.directory_rules.specs.Letter.{Letter, Request_letter, Reply_letter, Ask_letter, Page_letter, Missing_letter, Done_letter, Query_letter, Report_letter, Behind_letter, Ahead_letter, Offer_letter}
-use Rattle.directory_rules.specs.Node.{Node}
 use Rattle.directory_rules.specs.Sent.{gathering_of, recovery_of}
 use Rattle.directory_rules.specs.Answer.{answered}
 use Rattle.directory_rules.specs.Step.{Stepped, silently, sight, started, closing, cancelled, offered, finding, having_nudged, having_nudged_grain, nudge_ranges}

@@ -19,10 +19,8 @@ use Rattle.directory_protocol.specs.Effects.{after}
 use Rattle.directory_protocol.proofs.Changes.{put_same}
 use Rattle.directory_rules.specs.declared.act.Act.TheVariants as act
 use Rattle.directory_rules.specs.Host.{entry_of, next_held, with_started}
-use Rattle.directory_rules.specs.Letter.{Letter, Offer_letter}
-use Rattle.directory_rules.specs.Node.{Node}
+use Rattle.directory_rules.specs.State.{Letter, Offer_letter, Node, World}
 use Rattle.directory_rules.specs.Step.{started}
-use Rattle.directory_rules.specs.World.{World}
 use Rattle.directory_rules.specs.Laws.{is_live}
 use Rattle.directory_facts.proofs.Ways.{MayBegin}
 use Rattle.directory_headline.specs.SiloState.{state_of}

@@ -18,11 +18,9 @@ use Rattle.directory_rules.specs.declared.held.Held.{Held}
 use Rattle.directory_rules.specs.declared.held.Phase.{Phase}
 use Rattle.directory_rules.specs.declared.held.Phase.TheVariants as phase
 use Rattle.directory_rules.specs.Host.{held_of, is_asking, entry_of, next_closing, with_closing}
-use Rattle.directory_rules.specs.Letter.{Offer_letter}
-use Rattle.directory_rules.specs.Node.{Node}
+use Rattle.directory_rules.specs.State.{Offer_letter, Node, World}
 use Rattle.directory_rules.specs.Sent.{letter_to, request_letters}
 use Rattle.directory_rules.specs.Step.{with_one_closing, closing, cancelled, offered}
-use Rattle.directory_rules.specs.World.{World}
 use Rattle.directory_facts.proofs.Ways as way
 use Rattle.directory_headline.specs.SiloState.{state_of}
 use Rattle.directory_headline.specs.Shown.{held_in, held_as, IsShownHost, IsShownLetter}

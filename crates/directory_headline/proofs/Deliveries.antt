@@ -14,10 +14,8 @@ use Rattle.directory_protocol.specs.Setting.{Setting}
 use Rattle.directory_protocol.specs.World as protocol
 use Rattle.directory_protocol.specs.Effects.{run}
 use Rattle.directory_protocol.proofs.Changes.{silo_cases}
-use Rattle.directory_rules.specs.Letter.{Letter}
-use Rattle.directory_rules.specs.Node.{Node}
+use Rattle.directory_rules.specs.State.{Letter, Node, World, Posted}
 use Rattle.directory_rules.specs.Step.{Stepped}
-use Rattle.directory_rules.specs.World.{World, Posted}
 use Rattle.directory_rules.specs.Mail.{fresh_letter, numbered, letter_of, with_delivered, with_lost}
 use Rattle.directory_rules.specs.Happens.{node_of, counted}
 use Rattle.directory_rules.specs.Laws.{is_live}

@@ -12,7 +12,8 @@ use Rattle.directory_rules.specs.declared.act.Act.TheVariants.{Find}
 use Rattle.directory_rules.specs.declared.held.Held.{Held}
 use Rattle.directory_rules.specs.declared.held.Phase.{Phase}
 use Rattle.directory_rules.specs.declared.held.Phase.TheVariants.{Asking, Firm, Closing}
-use Rattle.directory_rules.specs.Host.{Host, held_acts, find_acts, outstanding, new_number, renewed, renewed_phase}
+use Rattle.directory_rules.specs.State.{Host}
+use Rattle.directory_rules.specs.Host.{held_acts, find_acts, outstanding, new_number, renewed, renewed_phase}
 use Rattle.directory_rules.specs.Laws.{requests_of, AreNumbered}
 use Rattle.directory_rules.proofs.Cases.{on_bool}
 use Rattle.directory_rules.proofs.RequestNumbers.{one, one_cases, times, with_number, numbers}

@@ -9,14 +9,14 @@ use Rattle.membership_view.specs.Changes as change
 use Rattle.hash_ring.specs.Places.{PlacesValue, after_add}
 use Rattle.directory_rules.specs.Membership as membership
 use Rattle.directory_rules.specs.Membership.{Die, is_seeable, joined_in}
-use Rattle.directory_rules.specs.Letter.{Letter, kind_of}
-use Rattle.directory_rules.specs.Node.{Node}
+use Rattle.directory_rules.specs.State.{Letter, Node, World, Accepted}
+use Rattle.directory_rules.specs.Letter.{kind_of}
 use Rattle.directory_rules.specs.Event.{Event, Join, Leave, Kill, See, Do, Deliver, Lose}
 use Rattle.directory_rules.specs.declared.outcome.Happening.{Happening}
 use Rattle.directory_rules.specs.declared.outcome.Happening.TheVariants.{Joined, Left, Saw, Did, Delivered, Lost}
 use Rattle.directory_rules.specs.Step.{Stepped}
 use Rattle.directory_rules.specs.Input.{Input, Sees, Does, Receives, sight_of, step}
-use Rattle.directory_rules.specs.World.{World, Accepted, membership_of}
+use Rattle.directory_rules.specs.World.{membership_of}
 use Rattle.directory_rules.specs.Mail.{letter_of, with_sent, has_room_for, span_of, with_delivered, with_lost}
 use Rattle.directory_rules.specs.Happens as rule
 use Rattle.directory_rules.proofs.Decided.{made, decided, join_makes, leave_is, death_is, died}

@@ -12,7 +12,7 @@ use Rattle.silo_address.specs.Silo.{silo_cmp}
 use Rattle.hash_ring.specs.Hash.{hash_grain}
 use Rattle.std.specs.Cmp.{nat_cmp_is}
 use Rattle.directory_rules.specs.Settings.{AreSettings}
-use Rattle.directory_rules.specs.Piece.{Piece}
+use Rattle.directory_rules.specs.State.{Piece}
 use Rattle.directory_rules.specs.Laws.{IsReached, IsOfOneVersion, HoldOnce}
 use Rattle.directory_rules.proofs.Nodes.{of_found}
 use Rattle.directory_rules.proofs.Numbered.{numbers_are_distinct}

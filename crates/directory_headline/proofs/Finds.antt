@@ -9,9 +9,8 @@ use Rattle.directory_protocol.specs.Effects.{after}
 use Rattle.directory_protocol.proofs.Changes.{put_same}
 use Rattle.directory_rules.specs.declared.act.Act.TheVariants as act
 use Rattle.directory_rules.specs.Host.{with_find}
-use Rattle.directory_rules.specs.Node.{Node}
+use Rattle.directory_rules.specs.State.{Node, World}
 use Rattle.directory_rules.specs.Step.{finding}
-use Rattle.directory_rules.specs.World.{World}
 use Rattle.directory_headline.proofs.Actors.{leaves_after}
 use Rattle.directory_headline.proofs.Frame.{Here, Moves, acts, alive, node_shown}
 use Rattle.directory_headline.proofs.Hosts.{host_changes, request_shown}

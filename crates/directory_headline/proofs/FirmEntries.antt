@@ -16,8 +16,9 @@ use Rattle.directory_protocol.proofs.Changes.{grain_cases}
 use Rattle.directory_rules.specs.declared.held.Held.{Held}
 use Rattle.directory_rules.specs.declared.held.Phase.{Phase}
 use Rattle.directory_rules.specs.declared.held.Phase.TheVariants as phase
-use Rattle.directory_rules.specs.Table.{Table, entry_at, with_entry, table_of}
-use Rattle.directory_rules.specs.Host.{Host, entry_of, held_of, is_firm, firm_entries}
+use Rattle.directory_rules.specs.State.{Table, Host}
+use Rattle.directory_rules.specs.Table.{entry_at, with_entry, table_of}
+use Rattle.directory_rules.specs.Host.{entry_of, held_of, is_firm, firm_entries}
 use Rattle.directory_facts.proofs.Entries.{all_put}
 use Rattle.directory_headline.specs.Shown.{held_in, held_as}
 use Rattle.directory_headline.proofs.TableEntries.{table_again}

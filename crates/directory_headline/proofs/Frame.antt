@@ -12,11 +12,9 @@ use Rattle.directory_protocol.specs.World as protocol
 use Rattle.directory_protocol.specs.Actions.{Action, Allowed}
 use Rattle.directory_protocol.specs.Effects.{after, run, AllAllowed}
 use Rattle.directory_protocol.specs.Safety.{IsReached}
-use Rattle.directory_rules.specs.Letter.{Letter}
-use Rattle.directory_rules.specs.Node.{Node}
+use Rattle.directory_rules.specs.State.{Letter, Node, World}
 use Rattle.directory_rules.specs.Step.{Stepped}
 use Rattle.directory_rules.specs.Input.{Input, Sees, Does, Receives}
-use Rattle.directory_rules.specs.World.{World}
 use Rattle.directory_rules.specs.Happens.{node_of}
 use Rattle.directory_rules.specs.Laws.{is_live}
 use Rattle.directory_facts.specs.Own.{IsOwnLetter}

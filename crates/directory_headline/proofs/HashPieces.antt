@@ -7,8 +7,8 @@ use Rattle.std.proofs.lemmas.List.Elements.{All-head, All-tail, filter-append}
 use Rattle.silo_address.specs.Grain.{Grain}
 use Rattle.silo_address.specs.declared.Entry.{Entry}
 use Rattle.ring_range.specs.Range.{Range, holds}
-use Rattle.directory_rules.specs.Table.{Table, entries_of}
-use Rattle.directory_rules.specs.Piece.{Piece}
+use Rattle.directory_rules.specs.State.{Table, Piece}
+use Rattle.directory_rules.specs.Table.{entries_of}
 use Rattle.directory_rules.specs.Answer.{piece_with}
 use Rattle.directory_rules.proofs.Cases.{on_bool}
 use Rattle.directory_headline.proofs.Facts.{IsPiece}

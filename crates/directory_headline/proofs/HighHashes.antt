@@ -16,7 +16,7 @@ use Rattle.hash_ring.specs.Owner.{owner_of, IsOwner, Owns}
 use Rattle.hash_ring.proofs.Nearness.{back_below}
 use Rattle.hash_ring.proofs.Ownership.{owner_is}
 use Rattle.range_moves.specs.Arcs.{owner_silo}
-use Rattle.directory_rules.specs.Piece.{Piece}
+use Rattle.directory_rules.specs.State.{Piece}
 use Rattle.directory_rules.specs.Answer.{piece_with}
 use Rattle.directory_rules.specs.Sight.{is_owner}
 use Rattle.directory_rules.specs.Laws.{HoldOnce}

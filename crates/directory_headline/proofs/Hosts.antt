@@ -11,12 +11,9 @@ use Rattle.directory_protocol.proofs.Changes.{grain_cases, put_at_same, put_at_o
 use Rattle.directory_protocol.specs.Setting.{Setting}
 use Rattle.directory_protocol.specs.World as protocol
 use Rattle.directory_rules.specs.declared.act.Act.{Act}
-use Rattle.directory_rules.specs.Host.{Host, held_of}
-use Rattle.directory_rules.specs.Cache.{Cache}
-use Rattle.directory_rules.specs.Letter.{Request_letter}
-use Rattle.directory_rules.specs.Node.{Node}
+use Rattle.directory_rules.specs.State.{Host, Cache, Request_letter, Node, World}
+use Rattle.directory_rules.specs.Host.{held_of}
 use Rattle.directory_rules.specs.Sent.{letter_to, hash_of, request_of, owner_by, letter_if_owned, request_letters}
-use Rattle.directory_rules.specs.World.{World}
 use Rattle.directory_headline.specs.SiloState.{state_of}
 use Rattle.directory_headline.specs.Shown.{held_as, IsShownHost, IsShownHolding, IsShownNode, IsShownLetter, IsShownRequest}
 use Rattle.directory_headline.proofs.Actors.{Grows}

@@ -25,8 +25,8 @@ use Rattle.directory_protocol.specs.Setting.{Setting}
 use Rattle.directory_protocol.specs.World.{surviving}
 use Rattle.directory_protocol.proofs.Changes.{grain_cases}
 use Rattle.directory_rules.specs.Members.{is_dead_in}
-use Rattle.directory_rules.specs.Table.{Table, entry_at, with_entry, entries_of, table_of, is_before_first, rise_by_grain}
-use Rattle.directory_rules.specs.Piece.{Piece}
+use Rattle.directory_rules.specs.State.{Table, Piece}
+use Rattle.directory_rules.specs.Table.{entry_at, with_entry, entries_of, table_of, is_before_first, rise_by_grain}
 use Rattle.directory_rules.specs.Sight.{all_entries, is_kept, kept_entries}
 use Rattle.directory_rules.specs.Answer.{piece_with}
 use Rattle.directory_rules.proofs.Cases.{on_bool}

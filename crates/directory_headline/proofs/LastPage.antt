@@ -12,14 +12,12 @@ use Rattle.directory_protocol.specs.Actions.{Install, MayInstall}
 use Rattle.directory_rules.specs.declared.effect.Effect.TheVariants as effect
 use Rattle.directory_rules.specs.Settings.{page_size}
 use Rattle.directory_rules.specs.Table.{entry_at, table_of}
-use Rattle.directory_rules.specs.Snapshot.{Page, page_count}
+use Rattle.directory_rules.specs.State.{Page, Letter, Done_letter, Node, World}
+use Rattle.directory_rules.specs.Snapshot.{page_count}
 use Rattle.directory_rules.specs.Gatherings.{Has_all, gathered}
 use Rattle.directory_rules.specs.Sight.{is_settled}
-use Rattle.directory_rules.specs.Letter.{Letter, Done_letter}
-use Rattle.directory_rules.specs.Node.{Node}
 use Rattle.directory_rules.specs.Sent.{gathering_of}
 use Rattle.directory_rules.specs.Transfer.{answering, answer_to, with_settled}
-use Rattle.directory_rules.specs.World.{World}
 use Rattle.directory_facts.proofs.Ways.{IsPageTaken}
 use Rattle.directory_facts.proofs.Collected.{GatheredSo, gathered_so}
 use Rattle.directory_headline.specs.Shown.{IsShownLetter, activation_in}

@@ -12,15 +12,13 @@ use Rattle.directory_protocol.specs.Letters as letters
 use Rattle.directory_protocol.specs.World as protocol
 use Rattle.directory_protocol.specs.Actions.{Recover, MayRecover}
 use Rattle.directory_rules.specs.declared.effect.Effect.TheVariants as effect
-use Rattle.directory_rules.specs.Table.{Table, entry_at}
-use Rattle.directory_rules.specs.Recovery.{Report, Recovery, Has_union, is_among, with_report, recovered}
+use Rattle.directory_rules.specs.State.{Table, Report, Recovery, Letter, Node, World}
+use Rattle.directory_rules.specs.Table.{entry_at}
+use Rattle.directory_rules.specs.Recovery.{Has_union, is_among, with_report, recovered}
 use Rattle.directory_rules.specs.Sight.{is_settled}
-use Rattle.directory_rules.specs.Letter.{Letter}
-use Rattle.directory_rules.specs.Node.{Node}
 use Rattle.directory_rules.specs.Sent.{recovery_of}
 use Rattle.directory_rules.specs.Step.{silently}
 use Rattle.directory_rules.specs.Transfer.{with_settled}
-use Rattle.directory_rules.specs.World.{World}
 use Rattle.directory_facts.proofs.Ways.{IsReportTaken}
 use Rattle.directory_facts.proofs.Collected.{TakenSo, taken_so}
 use Rattle.directory_headline.specs.Shown.{IsShownLetter, IsShownRecovery, HasReported, activation_in}

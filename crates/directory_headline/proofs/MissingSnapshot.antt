@@ -12,15 +12,11 @@ use Rattle.directory_protocol.specs.World as protocol
 use Rattle.directory_rules.specs.declared.piece_state.PieceState.{PieceState}
 use Rattle.directory_rules.specs.declared.piece_state.PieceState.TheVariants as state
 use Rattle.directory_rules.specs.Table.{entry_at}
-use Rattle.directory_rules.specs.Piece.{Piece}
-use Rattle.directory_rules.specs.Gatherings.{Gathering}
-use Rattle.directory_rules.specs.Recovery.{Recovery, new_recovery}
+use Rattle.directory_rules.specs.State.{Piece, Gathering, Recovery, Letter, Query_letter, Node, World}
+use Rattle.directory_rules.specs.Recovery.{new_recovery}
 use Rattle.directory_rules.specs.Sight.{is_settled}
-use Rattle.directory_rules.specs.Letter.{Letter, Query_letter}
-use Rattle.directory_rules.specs.Node.{Node}
 use Rattle.directory_rules.specs.Sent.{letter_to, recovery_of}
 use Rattle.directory_rules.specs.Transfer.{querying, turned_to_recovery, with_state}
-use Rattle.directory_rules.specs.World.{World}
 use Rattle.directory_rules.proofs.Cases.{on_bool}
 use Rattle.directory_facts.proofs.Entries.{all_put, all_removed}
 use Rattle.directory_facts.proofs.Ways.{HasPiece}

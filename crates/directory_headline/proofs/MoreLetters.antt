@@ -15,11 +15,7 @@ use Rattle.directory_rules.specs.declared.act.Act.TheVariants as act
 use Rattle.directory_rules.specs.declared.act.Request.{Request}
 use Rattle.directory_rules.specs.declared.reply.Reply.{Reply}
 use Rattle.directory_rules.specs.declared.reply.Reply.TheVariants as reply
-use Rattle.directory_rules.specs.Snapshot.{Snapshot, Page}
-use Rattle.directory_rules.specs.Gatherings.{Gathering, Whole}
-use Rattle.directory_rules.specs.Recovery.{Report, Recovery}
-use Rattle.directory_rules.specs.Letter.{Letter, Body, Request_letter, Reply_letter, Ask_letter, Page_letter, Missing_letter, Done_letter, Query_letter, Report_letter, Behind_letter, Ahead_letter, Offer_letter}
-use Rattle.directory_rules.specs.Node.{Node}
+use Rattle.directory_rules.specs.State.{Snapshot, Page, Gathering, Whole, Report, Recovery, Letter, Body, Request_letter, Reply_letter, Ask_letter, Page_letter, Missing_letter, Done_letter, Query_letter, Report_letter, Behind_letter, Ahead_letter, Offer_letter, Node}
 use Rattle.directory_headline.specs.SiloState.{SiloState}
 use Rattle.directory_headline.specs.Shown.{HasSealed, IsShownSnapshot, IsShownPage, IsShownWhole, IsShownGathering, IsShownReport, HasReported, IsShownRecovery, IsShownRequest, IsShownReply, IsShownBody, IsShownLetter, IsShownNode}
 use Rattle.directory_headline.proofs.Actors.{Grows}

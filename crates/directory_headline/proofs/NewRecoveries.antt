@@ -6,8 +6,7 @@ use Rattle.ring_range.specs.Range.{Range}
 use Rattle.directory_protocol.specs.Setting.{Setting}
 use Rattle.directory_protocol.specs.World as protocol
 use Rattle.directory_rules.specs.Recovery.{new_recovery}
-use Rattle.directory_rules.specs.Node.{Node}
-use Rattle.directory_rules.specs.World.{World}
+use Rattle.directory_rules.specs.State.{Node, World}
 use Rattle.directory_headline.specs.Setting.{is_member_in}
 use Rattle.directory_headline.specs.Shown.{IsShownRecovery}
 use Rattle.directory_headline.proofs.Settings.{view_by_address}

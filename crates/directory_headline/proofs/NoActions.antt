@@ -13,13 +13,10 @@ use Rattle.directory_protocol.specs.World as protocol
 use Rattle.directory_rules.specs.declared.effect.Effect.{Effect}
 use Rattle.directory_rules.specs.declared.effect.Effect.TheVariants as effect
 use Rattle.directory_rules.specs.Snapshot.{is_snapshot, shelf_without}
-use Rattle.directory_rules.specs.Host.{Host, without_find}
-use Rattle.directory_rules.specs.Cache.{Cache}
-use Rattle.directory_rules.specs.Letter.{Letter, Body}
-use Rattle.directory_rules.specs.Node.{Node}
+use Rattle.directory_rules.specs.State.{Host, Cache, Letter, Body, Node, World}
+use Rattle.directory_rules.specs.Host.{without_find}
 use Rattle.directory_rules.specs.Step.{silently}
 use Rattle.directory_rules.specs.Transfer.{answering, answer_to}
-use Rattle.directory_rules.specs.World.{World}
 use Rattle.directory_headline.specs.Shown.{held_as, IsShownLetter, IsShownSnapshot, IsShownBody}
 use Rattle.directory_headline.proofs.Frame.{Here, Moves, stays, node_shown, no_letters, one_letter}
 

@@ -20,13 +20,10 @@ use Rattle.directory_rules.specs.declared.held.Phase.{Phase}
 use Rattle.directory_rules.specs.declared.held.Phase.TheVariants.{Asking, Firm, Closing}
 use Rattle.directory_rules.specs.declared.piece_state.PieceState.{PieceState}
 use Rattle.directory_rules.specs.declared.piece_state.PieceState.TheVariants as state
-use Rattle.directory_rules.specs.Host.{Host, grain_of, held_acts, find_acts, act_in, entry_of, outstanding, new_number, renewed, requests_about, new_number_about, renewed_about}
-use Rattle.directory_rules.specs.Piece.{Piece}
-use Rattle.directory_rules.specs.Letter.{Letter, Query_letter}
-use Rattle.directory_rules.specs.Node.{Node}
+use Rattle.directory_rules.specs.State.{Host, Piece, Letter, Query_letter, Node, World}
+use Rattle.directory_rules.specs.Host.{grain_of, held_acts, find_acts, act_in, entry_of, outstanding, new_number, renewed, requests_about, new_number_about, renewed_about}
 use Rattle.directory_rules.specs.Sent.{letter_to, request_of, request_letters, all_requests, requests_of_grain, recovery_of, wants_by, all_wants}
 use Rattle.directory_rules.specs.Step.{having_nudged, having_nudged_grain, nudge_ranges}
-use Rattle.directory_rules.specs.World.{World}
 use Rattle.directory_facts.proofs.Entries.{all_put}
 use Rattle.directory_headline.specs.Shown.{IsShownLetter, IsShownRequest}
 use Rattle.directory_headline.proofs.Actors.{leaves_run}

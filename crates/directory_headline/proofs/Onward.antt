@@ -10,7 +10,7 @@ use Rattle.hash_ring.specs.Places.{PlacesValue, after_add}
 use Rattle.hash_ring.specs.Ring.{sorted_ring}
 use Rattle.hash_ring.proofs.Lawful.{ring_stays}
 use Rattle.directory_rules.specs.Event.{Event}
-use Rattle.directory_rules.specs.World.{World}
+use Rattle.directory_rules.specs.State.{World}
 use Rattle.directory_rules.specs.Happens.{after_joining, counted, happens}
 use Rattle.directory_facts.proofs.Places.{added_view}
 use Rattle.directory_facts.proofs.SeenRings.{AreViews}

@@ -18,15 +18,12 @@ use Rattle.directory_protocol.proofs.All.{hashes_are_sealed_once}
 use Rattle.directory_protocol.proofs.Runs.{holds_where_reached}
 use Rattle.directory_rules.specs.declared.effect.Effect.TheVariants as effect
 use Rattle.directory_rules.specs.Settings.{page_size}
-use Rattle.directory_rules.specs.Piece.{Piece}
-use Rattle.directory_rules.specs.Snapshot.{Snapshot, Page, Hands_page, Has_none, Is_behind, is_snapshot, page_count, page_entries, page_of, page_from, shelf_answer, digest_of}
-use Rattle.directory_rules.specs.Gatherings.{Gathering, Whole, Wants_page, Refuses, new_gathering, with_page, gathered}
-use Rattle.directory_rules.specs.Letter.{Letter, Ask_letter, Page_letter}
-use Rattle.directory_rules.specs.Node.{Node}
+use Rattle.directory_rules.specs.State.{Piece, Snapshot, Page, Gathering, Whole, Letter, Ask_letter, Page_letter, Node, World}
+use Rattle.directory_rules.specs.Snapshot.{Hands_page, Has_none, Is_behind, is_snapshot, page_count, page_entries, page_of, page_from, shelf_answer, digest_of}
+use Rattle.directory_rules.specs.Gatherings.{Wants_page, Refuses, new_gathering, with_page, gathered}
 use Rattle.directory_rules.specs.Sent.{letter_to, gathering_of}
 use Rattle.directory_rules.specs.Step.{silently}
 use Rattle.directory_rules.specs.Transfer.{answering, asking_on, with_gathering}
-use Rattle.directory_rules.specs.World.{World}
 use Rattle.directory_rules.proofs.Cases.{on_bool}
 use Rattle.directory_facts.proofs.Collected.{found_or, IsInTurn, GatheredSo, gathered_so}
 use Rattle.directory_facts.proofs.Entries.{all_put, found_so}

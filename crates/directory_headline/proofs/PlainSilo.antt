@@ -11,8 +11,7 @@ use Rattle.directory_rules.specs.declared.held.Held.{Held}
 use Rattle.directory_rules.specs.declared.held.Phase.{Phase}
 use Rattle.directory_rules.specs.declared.held.Phase.TheVariants as phase
 use Rattle.directory_rules.specs.Host.{held_of}
-use Rattle.directory_rules.specs.Node.{Node}
-use Rattle.directory_rules.specs.World.{World}
+use Rattle.directory_rules.specs.State.{Node, World}
 use Rattle.directory_rules.specs.Happens.{node_of}
 use Rattle.directory_rules.specs.Laws.{ArePeopled, is_live}
 use Rattle.directory_rules.specs.Settled.{IsFirmOn}

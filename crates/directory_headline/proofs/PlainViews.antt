@@ -12,9 +12,9 @@ use Rattle.membership_view.proofs.Unchanged.{rows_stay}
 use Rattle.hash_ring.specs.Places.{PlacesValue}
 use Rattle.directory_rules.proofs.Decided.{died}
 use Rattle.directory_rules.specs.Members.{is_dead_in}
-use Rattle.directory_rules.specs.Node.{Node, new_node}
+use Rattle.directory_rules.specs.State.{Node, World}
+use Rattle.directory_rules.specs.Node.{new_node}
 use Rattle.directory_rules.specs.Input.{step}
-use Rattle.directory_rules.specs.World.{World}
 use Rattle.directory_rules.specs.Happens.{node_of, after_joining}
 use Rattle.directory_rules.specs.Laws.{ArePeopled, is_live}
 use Rattle.directory_rules.specs.PlainMachine.{life_on, plain_of, ViewChanges}

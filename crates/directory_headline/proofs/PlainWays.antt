@@ -15,9 +15,9 @@ use Rattle.directory_rules.specs.declared.held.Phase.TheVariants as phase
 use Rattle.directory_rules.specs.declared.reply.Reply.{Reply}
 use Rattle.directory_rules.specs.declared.reply.Reply.TheVariants as reply
 use Rattle.directory_rules.specs.declared.effect.Effect.TheVariants as effect
-use Rattle.directory_rules.specs.Host.{Host, has_numbers, outstanding, held_of, is_asking, renewed, renewed_phase, renewed_about, phase_renewed_about, next_closing, with_started, with_closing, without_held, confirmed, next_held, asking_under, closing_under, is_asking_under, is_closing_under}
+use Rattle.directory_rules.specs.State.{Host, Node}
+use Rattle.directory_rules.specs.Host.{has_numbers, outstanding, held_of, is_asking, renewed, renewed_phase, renewed_about, phase_renewed_about, next_closing, with_started, with_closing, without_held, confirmed, next_held, asking_under, closing_under, is_asking_under, is_closing_under}
 use Rattle.directory_rules.specs.Sight.{is_next}
-use Rattle.directory_rules.specs.Node.{Node}
 use Rattle.directory_rules.specs.Step.{Stepped, sight}
 use Rattle.directory_rules.specs.Receive.{reply_effect, replying}
 use Rattle.directory_rules.specs.Answer.{answered}

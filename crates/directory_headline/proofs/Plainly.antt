@@ -13,12 +13,11 @@ use Rattle.membership_view.specs.Step.{Joins}
 use Rattle.membership_view.proofs.Changes.{changes_are_steps}
 use Rattle.hash_ring.specs.Places.{PlacesValue}
 use Rattle.directory_rules.proofs.Decided.{died}
-use Rattle.directory_rules.specs.Node.{Node}
+use Rattle.directory_rules.specs.State.{Node, World, Accepted}
 use Rattle.directory_rules.specs.Step.{Stepped}
 use Rattle.directory_rules.specs.Input.{Input, Receives, step}
 use Rattle.directory_rules.specs.Event.{Event, IsEvent}
 use Rattle.directory_rules.specs.declared.outcome.Happening.TheVariants.{Lost}
-use Rattle.directory_rules.specs.World.{World, Accepted}
 use Rattle.directory_rules.specs.Mail.{with_delivered, with_lost}
 use Rattle.directory_rules.specs.Happens.{node_of, happens, counted, tells, after_joining}
 use Rattle.directory_rules.specs.Laws.{ArePeopled}

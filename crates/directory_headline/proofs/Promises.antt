@@ -32,12 +32,10 @@ use Rattle.directory_rules.specs.declared.held.Phase.TheVariants as phase
 use Rattle.directory_rules.specs.declared.reply.Why.{Why}
 use Rattle.directory_rules.specs.Members.{is_known_dead}
 use Rattle.directory_rules.specs.Table.{entry_at, entries_of}
-use Rattle.directory_rules.specs.Piece.{Piece}
+use Rattle.directory_rules.specs.State.{Piece, Node, World}
 use Rattle.directory_rules.specs.Sight.{is_settled}
 use Rattle.directory_rules.specs.Answer.{piece_with, serving_piece, answered_from}
 use Rattle.directory_rules.specs.Host.{entry_on, held_of}
-use Rattle.directory_rules.specs.Node.{Node}
-use Rattle.directory_rules.specs.World.{World}
 use Rattle.directory_rules.specs.Happens.{node_of}
 use Rattle.directory_rules.specs.Settled.{HasNode, OwnsIn, IsSettledAt, entries_with, IsHeld, IsFirmOn, AreComplete, IsRightTable, IsRightOnLive}
 use Rattle.directory_rules.specs.Headline.{RingsAreSortedAnew, IsRetry, UnsettledRangesRetry, NoTwoFirm, OneSettles, Headline}

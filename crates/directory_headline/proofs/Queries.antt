@@ -13,10 +13,8 @@ use Rattle.directory_protocol.specs.Effects.{after, reported}
 use Rattle.directory_rules.specs.declared.effect.Effect.TheVariants as effect
 use Rattle.directory_rules.specs.Table.{entry_at, table_of}
 use Rattle.directory_rules.specs.Host.{firm_entries}
-use Rattle.directory_rules.specs.Letter.{Letter, Report_letter}
-use Rattle.directory_rules.specs.Node.{Node}
+use Rattle.directory_rules.specs.State.{Letter, Report_letter, Node, World}
 use Rattle.directory_rules.specs.Transfer.{answering, answer_to, report_of}
-use Rattle.directory_rules.specs.World.{World}
 use Rattle.directory_headline.specs.SiloState.{state_of}
 use Rattle.directory_headline.specs.Shown.{IsShownLetter}
 use Rattle.directory_headline.proofs.Actors.{leaves_after}

@@ -10,7 +10,8 @@ use Rattle.silo_address.proofs.Same.{Decides-grain}
 use Rattle.directory_rules.specs.declared.held.Held.{Held}
 use Rattle.directory_rules.specs.declared.held.Phase.{Phase}
 use Rattle.directory_rules.specs.declared.held.Phase.TheVariants.{Asking, Firm, Closing}
-use Rattle.directory_rules.specs.Host.{Host, requests_about, new_number_about, phase_renewed_about, renewed_about}
+use Rattle.directory_rules.specs.State.{Host}
+use Rattle.directory_rules.specs.Host.{requests_about, new_number_about, phase_renewed_about, renewed_about}
 use Rattle.directory_rules.specs.Laws.{AreNumbered}
 use Rattle.directory_rules.proofs.Cases.{on_bool}
 use Rattle.directory_rules.proofs.RequestNumbers.{times_append, numbers}

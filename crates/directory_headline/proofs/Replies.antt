@@ -18,12 +18,10 @@ use Rattle.directory_rules.specs.declared.held.Phase.TheVariants as phase
 use Rattle.directory_rules.specs.declared.reply.Reply.TheVariants as reply
 use Rattle.directory_rules.specs.declared.effect.Effect.{Effect}
 use Rattle.directory_rules.specs.declared.effect.Effect.TheVariants as effect
-use Rattle.directory_rules.specs.Host.{Host, held_of, is_asking_under, is_closing_under, asking_under, closing_under, confirmed, without_held}
-use Rattle.directory_rules.specs.Cache.{Cache, learnt}
-use Rattle.directory_rules.specs.Letter.{Letter}
-use Rattle.directory_rules.specs.Node.{Node}
+use Rattle.directory_rules.specs.State.{Host, Cache, Letter, Node, World}
+use Rattle.directory_rules.specs.Host.{held_of, is_asking_under, is_closing_under, asking_under, closing_under, confirmed, without_held}
+use Rattle.directory_rules.specs.Cache.{learnt}
 use Rattle.directory_rules.specs.Step.{silently}
-use Rattle.directory_rules.specs.World.{World}
 use Rattle.directory_facts.proofs.Ways.{IsReply}
 use Rattle.directory_headline.specs.Shown.{held_in, held_as, IsShownLetter, IsShownBody, reply_as}
 use Rattle.directory_headline.proofs.Actors.{leaves_after}

@@ -17,13 +17,11 @@ use Rattle.directory_protocol.specs.World as protocol
 use Rattle.directory_protocol.proofs.Changes.{silo_cases}
 use Rattle.directory_rules.specs.declared.effect.Effect.TheVariants as effect
 use Rattle.directory_rules.specs.Table.{entry_at, table_of}
-use Rattle.directory_rules.specs.Recovery.{Report, Recovery, Awaits_more, is_among, with_report, new_recovery, recovered}
-use Rattle.directory_rules.specs.Letter.{Letter}
-use Rattle.directory_rules.specs.Node.{Node}
+use Rattle.directory_rules.specs.State.{Report, Recovery, Letter, Node, World}
+use Rattle.directory_rules.specs.Recovery.{Awaits_more, is_among, with_report, new_recovery, recovered}
 use Rattle.directory_rules.specs.Sent.{recovery_of}
 use Rattle.directory_rules.specs.Step.{silently}
 use Rattle.directory_rules.specs.Transfer.{with_recovery}
-use Rattle.directory_rules.specs.World.{World}
 use Rattle.directory_rules.proofs.Cases.{on_bool}
 use Rattle.directory_facts.proofs.Collected.{found_or, IsTaken, TakenSo, taken_so}
 use Rattle.directory_facts.proofs.Entries.{all_put}

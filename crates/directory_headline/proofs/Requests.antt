@@ -27,15 +27,12 @@ use Rattle.directory_rules.specs.declared.reply.Reply.TheVariants as reply
 use Rattle.directory_rules.specs.declared.reply.Why.{Why}
 use Rattle.directory_rules.specs.declared.piece_state.PieceState.TheVariants.{Settled}
 use Rattle.directory_rules.specs.Table.{entry_at}
-use Rattle.directory_rules.specs.Piece.{Piece}
+use Rattle.directory_rules.specs.State.{Piece, Letter, Request_letter, Reply_letter, Node, World}
 use Rattle.directory_rules.specs.Answer.{is_numbered, Turned, turned, Answered, piece_with, last_served, serving_piece, after_numbered, served_by, answered_from, answered, found_reply}
 use Rattle.directory_rules.specs.Sent.{letter_to}
 use Rattle.directory_rules.specs.Host.{grain_of}
-use Rattle.directory_rules.specs.Letter.{Letter, Request_letter, Reply_letter}
-use Rattle.directory_rules.specs.Node.{Node}
 use Rattle.directory_rules.specs.Receive.{replying}
 use Rattle.directory_rules.specs.Sight.{is_settled}
-use Rattle.directory_rules.specs.World.{World}
 use Rattle.directory_rules.proofs.Ranges.{stands_at}
 use Rattle.directory_facts.specs.Own.{SaysOwn, NamesOwn, IsOwnRequest}
 use Rattle.directory_facts.specs.Whole.{LeavesOthers}

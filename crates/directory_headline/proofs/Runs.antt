@@ -8,13 +8,12 @@ use Rattle.directory_protocol.specs.Setting.{Setting}
 use Rattle.directory_protocol.specs.World as protocol
 use Rattle.directory_protocol.specs.Effects.{run}
 use Rattle.directory_protocol.proofs.Runs.{reached_run}
-use Rattle.directory_rules.specs.Letter.{Letter}
+use Rattle.directory_rules.specs.State.{Letter, Node, World, Accepted}
 use Rattle.directory_rules.specs.Settings.{Settings, AreSettings}
-use Rattle.directory_rules.specs.Node.{Node}
 use Rattle.directory_rules.specs.Step.{Stepped}
 use Rattle.directory_rules.specs.Event.{Event, IsEvent}
 use Rattle.directory_rules.specs.Input.{Input, Does, Receives, Sees, step, sight_of}
-use Rattle.directory_rules.specs.World.{World, Accepted, first_world, membership_of}
+use Rattle.directory_rules.specs.World.{first_world, membership_of}
 use Rattle.directory_rules.specs.Mail.{letter_of, with_delivered}
 use Rattle.directory_rules.specs.Happens as rule
 use Rattle.directory_rules.specs.Run as running

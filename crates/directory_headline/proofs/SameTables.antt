@@ -11,7 +11,8 @@ use Rattle.silo_address.specs.declared.ActivationId.{ActivationId}
 use Rattle.silo_address.specs.declared.Entry.{Entry}
 use Rattle.silo_address.proofs.Order.{grain_cmp_total, grain_cmp_exact}
 use Rattle.ring_range.specs.Range.{Range, holds}
-use Rattle.directory_rules.specs.Table.{Table, entry_at, entries_of, table_of}
+use Rattle.directory_rules.specs.State.{Table}
+use Rattle.directory_rules.specs.Table.{entry_at, entries_of, table_of}
 use Rattle.texts.proofs.Entries.{all_above}
 use Rattle.directory_rules.proofs.Cases.{on_bool}
 use Rattle.directory_rules.proofs.RisingTables.{entries_again}

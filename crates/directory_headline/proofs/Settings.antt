@@ -25,7 +25,7 @@ use Rattle.hash_ring.proofs.Lawful.{points_are, is_sorted_anew}
 use Rattle.range_moves.specs.Arcs.{owner_silo}
 use Rattle.directory_protocol.specs.Setting.{Setting}
 use Rattle.directory_rules.specs.Members.{is_known_dead}
-use Rattle.directory_rules.specs.World.{World}
+use Rattle.directory_rules.specs.State.{World}
 use Rattle.directory_rules.specs.Laws.{is_live}
 use Rattle.directory_rules.proofs.Cases.{on_bool}
 use Rattle.directory_headline.specs.Setting.{is_member_in, is_alive_in, owner_in, view_up_to, IsSettingOf}

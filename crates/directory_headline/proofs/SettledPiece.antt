@@ -16,15 +16,11 @@ use Rattle.directory_protocol.specs.Effects.{after_settling}
 use Rattle.directory_protocol.proofs.Changes.{put_same}
 use Rattle.directory_rules.specs.declared.piece_state.PieceState.{PieceState}
 use Rattle.directory_rules.specs.declared.piece_state.PieceState.TheVariants as state
-use Rattle.directory_rules.specs.Table.{Table, entry_at}
-use Rattle.directory_rules.specs.Piece.{Piece}
-use Rattle.directory_rules.specs.Gatherings.{Gathering}
-use Rattle.directory_rules.specs.Recovery.{Recovery}
+use Rattle.directory_rules.specs.State.{Table, Piece, Gathering, Recovery, Node, World}
+use Rattle.directory_rules.specs.Table.{entry_at}
 use Rattle.directory_rules.specs.Answer.{piece_with}
 use Rattle.directory_rules.specs.Sight.{is_settled, is_owner}
-use Rattle.directory_rules.specs.Node.{Node}
 use Rattle.directory_rules.specs.Transfer.{with_state, with_settled}
-use Rattle.directory_rules.specs.World.{World}
 use Rattle.directory_rules.proofs.Cases.{on_bool}
 use Rattle.directory_facts.proofs.Entries.{all_removed}
 use Rattle.directory_facts.proofs.Hashes.{grains_have_hashes}

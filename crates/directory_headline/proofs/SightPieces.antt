@@ -15,8 +15,7 @@ use Rattle.directory_rules.specs.declared.piece_state.PieceState.TheVariants as 
 use Rattle.directory_rules.specs.declared.piece_state.PieceState.TheVariants.{Settled}
 use Rattle.directory_rules.specs.Members.{is_dead_in}
 use Rattle.directory_rules.specs.Table.{entries_of}
-use Rattle.directory_rules.specs.Piece.{Piece}
-use Rattle.directory_rules.specs.Snapshot.{Snapshot}
+use Rattle.directory_rules.specs.State.{Piece, Snapshot}
 use Rattle.directory_rules.specs.Answer.{piece_with}
 use Rattle.directory_rules.specs.Sight.{is_settled, is_owner, was_settled, kept_entries, state_from, missing_state, piece_of, pieces_after, is_handed_over, snapshot_for, sealed}
 use Rattle.directory_rules.specs.Laws.{lies_settled}

@@ -23,16 +23,13 @@ use Rattle.directory_rules.specs.declared.piece_state.PieceState.{PieceState}
 use Rattle.directory_rules.specs.declared.piece_state.PieceState.TheVariants as state
 use Rattle.directory_rules.specs.Members.{is_dead_in}
 use Rattle.directory_rules.specs.Table.{entry_at, entries_of}
-use Rattle.directory_rules.specs.Piece.{Piece}
-use Rattle.directory_rules.specs.Snapshot.{Snapshot}
-use Rattle.directory_rules.specs.Gatherings.{Gathering, new_gathering}
-use Rattle.directory_rules.specs.Recovery.{Recovery, new_recovery}
+use Rattle.directory_rules.specs.State.{Piece, Snapshot, Gathering, Recovery, Node, World}
+use Rattle.directory_rules.specs.Gatherings.{new_gathering}
+use Rattle.directory_rules.specs.Recovery.{new_recovery}
 use Rattle.directory_rules.specs.Sight.{was_settled, kept_entries, shelf_after}
 use Rattle.directory_rules.specs.Host.{outstanding, new_number, renewed}
-use Rattle.directory_rules.specs.Node.{Node}
 use Rattle.directory_rules.specs.Sent.{all_requests, all_wants}
 use Rattle.directory_rules.specs.Step.{gathering_in, recovery_in, new_gatherings, new_recoveries, node_after, sight}
-use Rattle.directory_rules.specs.World.{World}
 use Rattle.directory_rules.proofs.Cases.{on_bool}
 use Rattle.directory_facts.proofs.Carried.{IsSight}
 use Rattle.directory_facts.proofs.Served.{found_holds}

@@ -18,13 +18,10 @@ use Rattle.range_moves.proofs.Between.{arcs_whole}
 use Rattle.directory_protocol.specs.Setting.{Setting}
 use Rattle.directory_protocol.specs.World as protocol
 use Rattle.directory_protocol.specs.Actions.{Sight, MaySee}
-use Rattle.directory_rules.specs.Piece.{Piece}
-use Rattle.directory_rules.specs.Snapshot.{Snapshot}
+use Rattle.directory_rules.specs.State.{Piece, Snapshot, Node, World}
 use Rattle.directory_rules.specs.Answer.{piece_with}
 use Rattle.directory_rules.specs.Sight.{is_next, is_owner, was_settled, pieces_after, sealed}
-use Rattle.directory_rules.specs.Node.{Node}
 use Rattle.directory_rules.specs.Step.{compared_points}
-use Rattle.directory_rules.specs.World.{World}
 use Rattle.directory_rules.specs.Laws.{HoldOnce}
 use Rattle.directory_rules.proofs.Cases.{on_bool}
 use Rattle.directory_rules.proofs.Pieces.{pieces_are_owned}

@@ -4,11 +4,9 @@ use Rattle.directory_protocol.specs.Setting.{Setting}
 use Rattle.directory_protocol.specs.World as protocol
 use Rattle.directory_rules.specs.declared.effect.Effect.TheVariants as effect
 use Rattle.directory_rules.specs.Cache.{in_front, learnt, without_pair}
-use Rattle.directory_rules.specs.Letter.{Missing_letter, Behind_letter, Ahead_letter}
-use Rattle.directory_rules.specs.Node.{Node}
+use Rattle.directory_rules.specs.State.{Missing_letter, Behind_letter, Ahead_letter, Node, World}
 use Rattle.directory_rules.specs.Step.{Stepped}
 use Rattle.directory_rules.specs.Input.{Input}
-use Rattle.directory_rules.specs.World.{World}
 use Rattle.directory_facts.proofs.Ways.{Ways}
 use Rattle.directory_facts.proofs.EachStep.{by_way}
 use Rattle.directory_headline.proofs.Frame.{Here, Brings, Moves}

@@ -15,9 +15,9 @@ use Rattle.directory_protocol.specs.Actions.{IsAnswered}
 use Rattle.directory_protocol.proofs.Changes.{not_both}
 use Rattle.directory_rules.specs.declared.reply.Reply.{Reply}
 use Rattle.directory_rules.specs.declared.reply.Reply.TheVariants as reply
-use Rattle.directory_rules.specs.Table.{Table, entry_at, with_entry, without_grain}
+use Rattle.directory_rules.specs.State.{Table, Letter}
+use Rattle.directory_rules.specs.Table.{entry_at, with_entry, without_grain}
 use Rattle.directory_rules.specs.Answer.{Turned, registered_over, deregistered_from, is_previous}
-use Rattle.directory_rules.specs.Letter.{Letter}
 use Rattle.directory_rules.proofs.Cases.{on_bool}
 use Rattle.directory_rules.proofs.Removed.{lookup_removed}
 use Rattle.directory_headline.specs.Shown.{activation_in, reply_as, IsShownReply}

@@ -13,7 +13,8 @@ use Rattle.std.proofs.lemmas.List.Kept.{AllPairs-cons, AllPairs-filter}
 use Rattle.silo_address.specs.Grain.{Grain, grain_cmp}
 use Rattle.silo_address.specs.declared.Entry.{Entry}
 use Rattle.silo_address.proofs.Order.{grain_cmp_total, grain_cmp_exact}
-use Rattle.directory_rules.specs.Table.{Table, entry_at, entries_of, table_of}
+use Rattle.directory_rules.specs.State.{Table}
+use Rattle.directory_rules.specs.Table.{entry_at, entries_of, table_of}
 use Rattle.directory_rules.proofs.Cases.{on_bool}
 use Rattle.directory_facts.proofs.Entries.{same_key}
 use Rattle.directory_facts.proofs.Tables.{InOrder}

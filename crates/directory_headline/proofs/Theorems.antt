@@ -6,7 +6,7 @@ use Rattle.hash_ring.specs.Hash.{hash_grain}
 use Rattle.directory_protocol.specs.Setting.{Setting}
 use Rattle.directory_rules.specs.Settings.{Settings, AreSettings}
 use Rattle.directory_rules.specs.Event.{Event, IsEvent}
-use Rattle.directory_rules.specs.World.{World, Accepted}
+use Rattle.directory_rules.specs.State.{World, Accepted}
 use Rattle.directory_rules.specs.Happens.{happens}
 use Rattle.directory_rules.specs.Run.{world_after}
 use Rattle.directory_rules.specs.Laws.{ArePeopled}

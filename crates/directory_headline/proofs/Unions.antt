@@ -5,7 +5,8 @@ use Rattle.silo_address.specs.Grain.{Grain, grain_cmp}
 use Rattle.silo_address.specs.declared.Entry.{Entry}
 use Rattle.silo_address.proofs.Order.{grain_cmp_total, grain_cmp_exact}
 use Rattle.directory_protocol.proofs.Changes.{grain_cases}
-use Rattle.directory_rules.specs.Table.{Table, entry_at, with_entry, table_of}
+use Rattle.directory_rules.specs.State.{Table}
+use Rattle.directory_rules.specs.Table.{entry_at, with_entry, table_of}
 use Rattle.directory_rules.specs.Recovery.{with_reported}
 use Rattle.directory_rules.proofs.Cases.{on_bool}
 use Rattle.directory_facts.proofs.Tables.{InOrder}

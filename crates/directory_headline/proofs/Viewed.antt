@@ -26,9 +26,9 @@ use Rattle.directory_protocol.specs.Safety.{IsReached}
 use Rattle.directory_protocol.proofs.Changes.{silo_cases}
 use Rattle.directory_protocol.proofs.Runs.{reached_after}
 use Rattle.directory_rules.proofs.Decided.{died}
-use Rattle.directory_rules.specs.Node.{Node, new_node}
+use Rattle.directory_rules.specs.State.{Node, World, Posted}
+use Rattle.directory_rules.specs.Node.{new_node}
 use Rattle.directory_rules.specs.Settings.{Settings}
-use Rattle.directory_rules.specs.World.{World, Posted}
 use Rattle.directory_rules.specs.Happens.{node_of, after_joining, without_replaced, counted}
 use Rattle.directory_rules.specs.Laws.{ArePeopled}
 use Rattle.directory_rules.proofs.Removed.{lookup_removed}

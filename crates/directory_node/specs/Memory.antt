@@ -2,7 +2,7 @@
 use Rattle.std.specs.Prelude.{ℕ, IsOk, Result}
 use Rattle.directory_rules.specs.declared.own_step.OwnStep.TheVariants.{Nudge, NudgeGrain, NudgeRanges}
 use Rattle.directory_rules.specs.Input.{Input, Sees, Does, Receives}
-use Rattle.directory_rules.specs.Node.{Node}
+use Rattle.directory_rules.specs.State.{Node}
 use Rattle.directory_rules.specs.Step.{Stepped}
 use Rattle.node_plans.specs.Plans.{Sends, answer_count}
 

@@ -39,7 +39,7 @@ pub struct Node {
 }
 
 impl Model for Node {
-    ghost use Rattle.directory_rules.specs.Node.{Node};
+    ghost use Rattle.directory_rules.specs.State.{Node};
 
     ghost Value = { Node };
 

@@ -10,7 +10,8 @@ use Rattle.hash_ring.specs.Places.{PlacesValue, after_add}
 use Rattle.directory_rules.specs.declared.outcome.Happening.TheVariants.{Died}
 use Rattle.directory_rules.specs.Settings.{Settings}
 use Rattle.directory_rules.specs.Membership.{Change, Join, Leave, Die, Membership, placed, with_places, joined, with_views, changed, replaced_by}
-use Rattle.directory_rules.specs.World.{World, Accepted, membership_of}
+use Rattle.directory_rules.specs.State.{World, Accepted}
+use Rattle.directory_rules.specs.World.{membership_of}
 use Rattle.directory_rules.specs.Happens.{tells, after_change, change_told, changed_by, is_of_dead, decides}
 
 -- what is told of the change, and the world after it

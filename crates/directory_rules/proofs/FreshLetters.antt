@@ -8,12 +8,10 @@ use Rattle.std.specs.BTreeMap.{is_at}
 use Rattle.std.proofs.lemmas.List.Sums.{sum_by-cons, sum_by-append}
 use Rattle.texts.proofs.Orderings.{at_itself, at_lower}
 use Rattle.texts.proofs.Decided.{both}
-use Rattle.directory_rules.specs.Letter.{Letter}
-use Rattle.directory_rules.specs.Node.{Node}
+use Rattle.directory_rules.specs.State.{Letter, Node, Posted, World}
 use Rattle.directory_rules.specs.Event.{Deliver}
 use Rattle.directory_rules.specs.Step.{Stepped}
 use Rattle.directory_rules.specs.Input.{Receives, step}
-use Rattle.directory_rules.specs.World.{Posted, World}
 use Rattle.directory_rules.specs.Mail.{fresh_letter, numbered, has_room_for, with_delivered}
 use Rattle.directory_rules.specs.Laws.{RiseBetween, IsMail}
 use Rattle.directory_rules.specs.Happens as rule

@@ -14,7 +14,8 @@ use Rattle.directory_rules.specs.declared.act.Act.TheVariants as act
 use Rattle.directory_rules.specs.declared.held.Held.{Held}
 use Rattle.directory_rules.specs.declared.held.Phase.{Phase}
 use Rattle.directory_rules.specs.declared.held.Phase.TheVariants.{Asking, Firm, Closing}
-use Rattle.directory_rules.specs.Host.{Host, grain_of, entry_of, act_in, held_acts, find_acts, requests_about, new_number_about, phase_renewed_about, held_renewed_about, renewed_about}
+use Rattle.directory_rules.specs.State.{Host}
+use Rattle.directory_rules.specs.Host.{grain_of, entry_of, act_in, held_acts, find_acts, requests_about, new_number_about, phase_renewed_about, held_renewed_about, renewed_about}
 use Rattle.directory_rules.proofs.Cases.{on_bool}
 use Rattle.directory_rules.proofs.RequestNumbers.{one, one_same, times, times_append, times_mapped, times_keys, times_phase, times_put_most, with_number, numbers}
 use Rattle.directory_rules.proofs.Renewal.{each, never, once_mapped, rank_room, rank_rises, put_all, held_numbers, mapped_keys, same_keys}

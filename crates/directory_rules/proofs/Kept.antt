@@ -9,13 +9,12 @@ use Rattle.membership_view.specs.Changes.{occupant}
 use Rattle.directory_rules.specs.Settings.{Settings}
 use Rattle.directory_rules.specs.Membership as membership
 use Rattle.directory_rules.specs.Membership.{Change, Die, Membership, is_seeable}
-use Rattle.directory_rules.specs.Letter.{Letter}
-use Rattle.directory_rules.specs.Node.{Node}
+use Rattle.directory_rules.specs.State.{Letter, Node, Posted, World, Accepted}
 use Rattle.directory_rules.specs.Event.{Event, Join, Leave, Kill, See, Do, Deliver, Lose}
 use Rattle.directory_rules.specs.declared.outcome.Happening.{Happening}
 use Rattle.directory_rules.specs.Step.{Stepped}
 use Rattle.directory_rules.specs.Input.{Input, Does, Receives, sight_of, step}
-use Rattle.directory_rules.specs.World.{Posted, World, Accepted, membership_of}
+use Rattle.directory_rules.specs.World.{membership_of}
 use Rattle.directory_rules.specs.Mail.{letter_of, numbered, has_room_for, with_delivered}
 use Rattle.directory_rules.specs.Happens as rule
 use Rattle.directory_rules.specs.Run.{run, world_after}

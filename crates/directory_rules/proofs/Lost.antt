@@ -9,10 +9,9 @@ use Rattle.std.specs.BTreeMap.{is_at}
 use Rattle.std.proofs.lemmas.Map.Lookups.{exact_unsigned}
 use Rattle.texts.proofs.Orderings.{Equal-from}
 use Rattle.directory_rules.specs.Settings.{Settings}
-use Rattle.directory_rules.specs.Letter.{Letter}
+use Rattle.directory_rules.specs.State.{Letter, Posted, World, Accepted}
 use Rattle.directory_rules.specs.Event.{Event, Lose}
 use Rattle.directory_rules.specs.declared.outcome.Happening.TheVariants.{Lost}
-use Rattle.directory_rules.specs.World.{Posted, World, Accepted}
 use Rattle.directory_rules.specs.Mail.{letter_of, with_lost, fresh_letter, numbered}
 use Rattle.directory_rules.specs.Happens as rule
 use Rattle.directory_rules.specs.Run.{run, run_from_start}

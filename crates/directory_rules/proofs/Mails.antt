@@ -7,9 +7,9 @@ use Rattle.std.specs.List.{enumerate_from}
 use Rattle.std.specs.Map.{set_value, remove_entry}
 use Rattle.std.specs.BTreeMap.{is_at}
 use Rattle.directory_rules.specs.Settings.{Settings}
-use Rattle.directory_rules.specs.Letter.{Letter}
+use Rattle.directory_rules.specs.State.{Letter, Posted, World}
 use Rattle.directory_rules.specs.Event.{Event}
-use Rattle.directory_rules.specs.World.{Posted, World, first_world}
+use Rattle.directory_rules.specs.World.{first_world}
 use Rattle.directory_rules.specs.Mail.{fresh_letter, numbered, has_room_for}
 use Rattle.directory_rules.specs.Run.{run_from_start}
 use Rattle.directory_rules.specs.Laws.{RiseBetween, IsMail}

@@ -12,13 +12,13 @@ use Rattle.hash_ring.specs.Places.{PlacesValue, after_add}
 use Rattle.directory_rules.specs.Settings.{Settings}
 use Rattle.directory_rules.specs.Membership as membership
 use Rattle.directory_rules.specs.Membership.{Die, is_seeable}
-use Rattle.directory_rules.specs.Letter.{Letter}
-use Rattle.directory_rules.specs.Node.{Node, new_node}
+use Rattle.directory_rules.specs.State.{Letter, Node, World, Accepted}
+use Rattle.directory_rules.specs.Node.{new_node}
 use Rattle.directory_rules.specs.Event.{Event, Join, Leave, Kill, See, Do, Deliver, Lose}
 use Rattle.directory_rules.specs.declared.outcome.Happening.{Happening}
 use Rattle.directory_rules.specs.Step.{Stepped}
 use Rattle.directory_rules.specs.Input.{Input, Sees, Does, Receives, sight_of, step}
-use Rattle.directory_rules.specs.World.{World, Accepted, first_world, membership_of}
+use Rattle.directory_rules.specs.World.{first_world, membership_of}
 use Rattle.directory_rules.specs.Mail.{letter_of, has_room_for, with_delivered}
 use Rattle.directory_rules.specs.Happens as rule
 use Rattle.directory_rules.specs.Run.{run, run_from_start, world_after}

@@ -26,14 +26,13 @@ use Rattle.directory_rules.specs.Snapshot.{ShelfAnswer, Hands_page, Has_none, Is
 use Rattle.directory_rules.specs.Gatherings.{Gathered, Wants_page, Has_all, Refuses, gathered}
 use Rattle.directory_rules.specs.Recovery.{Recovered, Awaits_more, Has_union, Rejects, recovered}
 use Rattle.directory_rules.specs.Answer.{answered}
-use Rattle.directory_rules.specs.Letter.{Body, Request_letter, Reply_letter, Ask_letter, Page_letter, Missing_letter, Done_letter, Query_letter, Report_letter, Behind_letter, Ahead_letter, Offer_letter, Letter}
-use Rattle.directory_rules.specs.Node.{Node}
+use Rattle.directory_rules.specs.State.{Body, Request_letter, Reply_letter, Ask_letter, Page_letter, Missing_letter, Done_letter, Query_letter, Report_letter, Behind_letter, Ahead_letter, Offer_letter, Letter, Node, Host}
 use Rattle.directory_rules.specs.Step as at
 use Rattle.directory_rules.specs.Reply as re
 use Rattle.directory_rules.specs.Transfer as tr
 use Rattle.directory_rules.specs.Receive as rc
 use Rattle.directory_rules.specs.Sent.{gathering_of, recovery_of}
-use Rattle.directory_rules.specs.Host.{Host, held_acts, find_acts, next_held, next_closing, without_held, with_started, with_closing, with_find, without_find, confirmed, renewed, new_number, renewed_about, outstanding, requests_about, is_firm, is_asking, has_numbers, has_count, is_full_of_activations, is_full_of_finds, held_of, asking_under, closing_under, is_finding, is_outstanding}
+use Rattle.directory_rules.specs.Host.{held_acts, find_acts, next_held, next_closing, without_held, with_started, with_closing, with_find, without_find, confirmed, renewed, new_number, renewed_about, outstanding, requests_about, is_firm, is_asking, has_numbers, has_count, is_full_of_activations, is_full_of_finds, held_of, asking_under, closing_under, is_finding, is_outstanding}
 use Rattle.directory_rules.specs.Cache.{hint_of}
 use Rattle.directory_rules.specs.Input.{Input, Sees, Does, Receives, step}
 use Rattle.directory_rules.specs.Run.{run_from_start}

@@ -23,7 +23,7 @@ use Rattle.membership_view.proofs.Kept.{whole-after}
 use Rattle.membership_view.proofs.Changes.{changes_are_steps}
 use Rattle.membership_view.proofs.Order.{Decides-shares}
 use Rattle.membership_view.proofs.Searches.{occupant_law}
-use Rattle.directory_rules.specs.Node.{Node}
+use Rattle.directory_rules.specs.State.{Node}
 use Rattle.directory_rules.specs.Laws.{is_live, ArePeopled}
 use Rattle.directory_rules.proofs.Cases.{on_bool}
 use Rattle.directory_rules.proofs.Tables.{lookup-remove_other}

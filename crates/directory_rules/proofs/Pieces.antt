@@ -17,7 +17,7 @@ use Rattle.range_moves.specs.declared.RingArc.{RingArc}
 use Rattle.range_moves.specs.Arcs.{owner_silo, all_places, arcs_per_hash, AreArcs}
 use Rattle.directory_rules.specs.declared.piece_state.PieceState.TheVariants.{Settled}
 use Rattle.directory_rules.specs.Members.{is_dead_in}
-use Rattle.directory_rules.specs.Piece.{Piece}
+use Rattle.directory_rules.specs.State.{Piece}
 use Rattle.directory_rules.specs.Sight.{is_owner, is_kept, kept_entries, all_entries, was_settled, missing_state, piece_of, pieces_after}
 use Rattle.directory_rules.specs.Laws.{HoldOwned}
 use Rattle.directory_rules.proofs.Cases.{on_bool}

@@ -8,7 +8,7 @@ use Rattle.hash_ring.specs.Point.{IsOnCircle}
 use Rattle.hash_ring.specs.Places.{IsPlaces}
 use Rattle.directory_rules.specs.Settings.{Settings, AreSettings}
 use Rattle.directory_rules.specs.Event.{Event}
-use Rattle.directory_rules.specs.Node.{Node}
+use Rattle.directory_rules.specs.State.{Node}
 use Rattle.directory_rules.specs.Run.{run_from_start}
 use Rattle.directory_rules.specs.Laws.{NamesHashes, IsReached, NodesHoldOnce, SightsOfRunsAreOwned}
 use Rattle.directory_rules.proofs.PlacesRun.{places_kept, first_places}

@@ -12,7 +12,8 @@ use Rattle.directory_rules.specs.declared.act.Act.{Act}
 use Rattle.directory_rules.specs.declared.held.Held.{Held}
 use Rattle.directory_rules.specs.declared.held.Phase.{Phase}
 use Rattle.directory_rules.specs.declared.held.Phase.TheVariants.{Asking, Firm, Closing}
-use Rattle.directory_rules.specs.Host.{Host, act_in, held_acts, find_acts, outstanding, new_number, renewed_phase}
+use Rattle.directory_rules.specs.State.{Host}
+use Rattle.directory_rules.specs.Host.{act_in, held_acts, find_acts, outstanding, new_number, renewed_phase}
 use Rattle.directory_rules.proofs.Cases.{on_bool}
 use Rattle.directory_rules.proofs.RequestNumbers.{one, one_same, one_cases, times, times_append, times_put, times_put_least, times_put_most, length_put, with_number, numbers}
 

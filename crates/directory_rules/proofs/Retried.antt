@@ -7,7 +7,7 @@ use Rattle.directory_rules.specs.declared.reply.Why.TheVariants.{View, Unsettled
 use Rattle.directory_rules.specs.declared.reply.Reply.TheVariants.{Retry}
 use Rattle.directory_rules.specs.declared.piece_state.PieceState.{PieceState}
 use Rattle.directory_rules.specs.declared.piece_state.PieceState.TheVariants.{Settled, Awaiting, Recovering}
-use Rattle.directory_rules.specs.Piece.{Piece, Holding}
+use Rattle.directory_rules.specs.State.{Piece, Holding}
 use Rattle.directory_rules.specs.Answer.{piece_with, serving_by_state, serving_by_piece, answered_from}
 use Rattle.directory_rules.specs.Laws.{UnsettledPieceServesNothing}
 use Rattle.directory_rules.proofs.Cases.{on_bool}

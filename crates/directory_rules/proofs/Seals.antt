@@ -10,7 +10,7 @@ use Rattle.membership_view.specs.View.{ViewValue}
 use Rattle.ring_range.specs.Range.{Range}
 use Rattle.hash_ring.specs.declared.Hashing.{Hashing}
 use Rattle.range_moves.specs.declared.RingArc.{RingArc}
-use Rattle.directory_rules.specs.Piece.{Piece}
+use Rattle.directory_rules.specs.State.{Piece}
 use Rattle.directory_rules.specs.Sight.{was_settled, is_owner, is_handed_over, snapshot_for, sealed}
 use Rattle.directory_rules.specs.Laws.{IsHandedOver}
 use Rattle.directory_rules.proofs.Cases.{on_bool}

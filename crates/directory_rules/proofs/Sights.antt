@@ -10,7 +10,7 @@ use Rattle.range_moves.specs.Arcs.{arcs_of}
 use Rattle.range_moves.proofs.Between.{arcs_whole}
 use Rattle.directory_rules.specs.Sight.{is_next}
 use Rattle.directory_rules.specs.Host.{has_numbers, outstanding}
-use Rattle.directory_rules.specs.Node.{Node}
+use Rattle.directory_rules.specs.State.{Node}
 use Rattle.directory_rules.specs.Step.{Stepped, compared_points, sight}
 use Rattle.directory_rules.specs.Laws.{HoldOwned, PiecesOfSightsAreOwned}
 use Rattle.directory_rules.proofs.Cases.{on_bool}

@@ -14,7 +14,8 @@ use Rattle.directory_rules.specs.declared.act.Act.{Act}
 use Rattle.directory_rules.specs.declared.act.Act.TheVariants.{Register, Deregister, Find}
 use Rattle.directory_rules.specs.declared.reply.Reply.{Reply}
 use Rattle.directory_rules.specs.declared.reply.Reply.TheVariants.{Registered, Taken, Removed, Absent}
-use Rattle.directory_rules.specs.Table.{Table, entry_at, with_entry, without_grain}
+use Rattle.directory_rules.specs.State.{Table}
+use Rattle.directory_rules.specs.Table.{entry_at, with_entry, without_grain}
 use Rattle.directory_rules.specs.Answer.{Turned, turned, registered_over, deregistered_from, is_previous}
 use Rattle.directory_rules.specs.Host.{grain_of}
 use Rattle.directory_rules.proofs.Cases.{on_bool}

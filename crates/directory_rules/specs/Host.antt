@@ -18,17 +18,7 @@ use Rattle.directory_rules.specs.declared.held.Phase.{Phase}
 use Rattle.directory_rules.specs.declared.held.Phase.TheVariants.{Asking, Firm, Closing}
 use Rattle.directory_rules.specs.Settings.{Settings}
 use Rattle.directory_rules.specs.Table.{with_entry, entries_of}
-
--- what a host has
-pub record Host : Type 0 where
-  pub silo : Silo
-  -- the number of its next request, and the count of its next activation
-  pub next_number : ℕ
-  pub next_count : ℕ
-  -- the activations, under their grains, in the order in which they began
-  pub held : List (Grain × Held)
-  -- the outstanding finds, under their numbers, in order
-  pub finds : List (ℕ × Grain)
+use Rattle.directory_rules.specs.State.{Host}
 
 -- a host that has nothing yet
 abbrev pub new_host : Silo → Host

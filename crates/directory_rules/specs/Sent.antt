@@ -13,11 +13,10 @@ use Rattle.directory_rules.specs.declared.act.Act.{Act}
 use Rattle.directory_rules.specs.declared.act.Request.{Request}
 use Rattle.directory_rules.specs.declared.piece_state.PieceState.{PieceState}
 use Rattle.directory_rules.specs.declared.piece_state.PieceState.TheVariants.{Settled, Awaiting, Recovering}
-use Rattle.directory_rules.specs.Gatherings.{Gathering, new_gathering}
-use Rattle.directory_rules.specs.Recovery.{Recovery, new_recovery}
+use Rattle.directory_rules.specs.State.{Gathering, Recovery, Body, Request_letter, Ask_letter, Query_letter, Letter, Node}
+use Rattle.directory_rules.specs.Gatherings.{new_gathering}
+use Rattle.directory_rules.specs.Recovery.{new_recovery}
 use Rattle.directory_rules.specs.Host.{outstanding, requests_about, grain_of}
-use Rattle.directory_rules.specs.Letter.{Body, Request_letter, Ask_letter, Query_letter, Letter}
-use Rattle.directory_rules.specs.Node.{Node}
 
 -- a letter of the node, of the version that it has seen
 abbrev pub letter_to : Silo → Node → Body → Letter

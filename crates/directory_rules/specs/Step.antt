@@ -15,14 +15,12 @@ use Rattle.directory_rules.specs.declared.effect.Effect.{Effect}
 use Rattle.directory_rules.specs.declared.effect.Effect.TheVariants.{Next, Skip, Started, Closing, Cancelled, Offered, Cached, Finding, Forgot, NothingCached, Nudged}
 use Rattle.directory_rules.specs.declared.piece_state.PieceState.{PieceState}
 use Rattle.directory_rules.specs.declared.piece_state.PieceState.TheVariants as state
-use Rattle.directory_rules.specs.Piece.{Piece}
-use Rattle.directory_rules.specs.Gatherings.{Gathering, new_gathering}
-use Rattle.directory_rules.specs.Recovery.{Recovery, new_recovery}
+use Rattle.directory_rules.specs.State.{Piece, Gathering, Recovery, Letter, Offer_letter, Node}
+use Rattle.directory_rules.specs.Gatherings.{new_gathering}
+use Rattle.directory_rules.specs.Recovery.{new_recovery}
 use Rattle.directory_rules.specs.Sight.{is_next, pieces_after, sealed, shelf_after}
 use Rattle.directory_rules.specs.Host.{held_of, entry_of, is_firm, is_asking, outstanding, requests_about, has_numbers, has_count, is_full_of_activations, is_full_of_finds, next_held, with_started, with_closing, with_find, renewed, renewed_about}
 use Rattle.directory_rules.specs.Cache.{hint_of, in_front, without_pair, cache_seeing}
-use Rattle.directory_rules.specs.Letter.{Letter, Offer_letter}
-use Rattle.directory_rules.specs.Node.{Node}
 use Rattle.directory_rules.specs.Sent.{letter_to, request_letters, requests_of_grain, all_requests, all_wants}
 
 -- what a step makes: the new node, the letters that it sends, in order, and what it did

@@ -17,8 +17,7 @@ use Rattle.hash_ring.specs.declared.point.Point.{Point}
 use Rattle.hash_ring.specs.Ring.{points_of, sorted_ring, ring_of, IsPointOf}
 use Rattle.hash_ring.proofs.Lawful.{points_are, is_sorted_anew}
 use Rattle.directory_rules.specs.Laws.{is_live}
-use Rattle.directory_rules.specs.Node.{Node}
-use Rattle.directory_rules.specs.World.{World}
+use Rattle.directory_rules.specs.State.{Node, World}
 use Rattle.directory_rules.specs.Happens.{node_of}
 use Rattle.directory_facts.proofs.Entries.{same_key}
 use Rattle.directory_headline.proofs.Facts.{NodeFacts, WorldFacts}

@@ -11,8 +11,7 @@ use Rattle.silo_address.proofs.Order.{silo_cmp_total, silo_cmp_exact}
 use Rattle.membership_view.specs.Views.{status_at}
 use Rattle.directory_rules.specs.Members.{is_dead_in}
 use Rattle.directory_rules.specs.Laws.{is_live}
-use Rattle.directory_rules.specs.Node.{Node}
-use Rattle.directory_rules.specs.World.{World}
+use Rattle.directory_rules.specs.State.{Node, World}
 use Rattle.directory_rules.specs.Happens.{node_of}
 use Rattle.directory_facts.proofs.Entries.{same_key}
 use Rattle.directory_headline.proofs.Facts.{WorldFacts}

@@ -12,10 +12,8 @@ use Rattle.hash_ring.specs.declared.point.Point.{Point}
 use Rattle.hash_ring.specs.Hash.{hash_grain}
 use Rattle.hash_ring.specs.Owner.{owner_of, is_of_silo}
 use Rattle.range_moves.specs.Arcs.{owner_silo}
-use Rattle.directory_rules.specs.Piece.{Piece}
+use Rattle.directory_rules.specs.State.{Piece, Node, World}
 use Rattle.directory_rules.specs.Sight.{is_owner}
-use Rattle.directory_rules.specs.Node.{Node}
-use Rattle.directory_rules.specs.World.{World}
 use Rattle.directory_rules.specs.Happens.{node_of}
 use Rattle.directory_headline.proofs.Facts.{IsPiece, NodeFacts, WorldFacts}
 use Rattle.dump_rules.specs.Dump.{dump_piece, dump_node, dump_of}

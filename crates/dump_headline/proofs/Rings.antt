@@ -15,8 +15,7 @@ use Rattle.membership_view.specs.View.{active_silos}
 use Rattle.membership_view.specs.Views.{rows_in, row_of, view_at}
 use Rattle.hash_ring.specs.Places.{PlacesValue, places_of, places_for}
 use Rattle.hash_ring.specs.Ring.{points_if, silo_points, sorted_points, sorted_ring}
-use Rattle.directory_rules.specs.Node.{Node}
-use Rattle.directory_rules.specs.World.{World}
+use Rattle.directory_rules.specs.State.{Node, World}
 use Rattle.directory_rules.specs.Happens.{node_of}
 use Rattle.directory_rules.proofs.Cases.{on_bool}
 use Rattle.directory_facts.proofs.Places.{added_row}

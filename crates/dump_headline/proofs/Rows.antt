@@ -11,7 +11,7 @@ use Rattle.membership_view.specs.declared.row.Row.{Row}
 use Rattle.membership_view.specs.Views.{ViewsValue, rows_in, view_at}
 use Rattle.membership_view.specs.Whole.{IsViews, IsInTime}
 use Rattle.hash_ring.specs.Places.{PlacesValue}
-use Rattle.directory_rules.specs.World.{World}
+use Rattle.directory_rules.specs.State.{World}
 use Rattle.directory_rules.proofs.Cases.{on_bool}
 use Rattle.dump_rules.specs.Dump.{dump_row, dump_of}
 use Rattle.dump_rules.specs.Verdict.{unless_never, row_in_dump, dump_view}

@@ -16,10 +16,8 @@ use Rattle.ring_range.specs.Range.{IsRange}
 use Rattle.directory_rules.specs.declared.held.Held.{Held}
 use Rattle.directory_rules.specs.declared.piece_state.PieceState.{PieceState}
 use Rattle.directory_rules.specs.declared.piece_state.PieceState.TheVariants as state
-use Rattle.directory_rules.specs.Host.{Host}
-use Rattle.directory_rules.specs.Table.{Table, entries_of}
-use Rattle.directory_rules.specs.Piece.{Piece}
-use Rattle.directory_rules.specs.World.{World}
+use Rattle.directory_rules.specs.State.{Host, Table, Piece, World}
+use Rattle.directory_rules.specs.Table.{entries_of}
 use Rattle.directory_facts.specs.Own.{CountsOnce}
 use Rattle.dump_rules.specs.Dump.{DumpHeld, Settled, dump_state, awaited_from, dump_held, dump_piece, dump_of}
 use Rattle.dump_rules.specs.DumpShape.{node_silos, row_silos}

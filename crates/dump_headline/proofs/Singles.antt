@@ -8,9 +8,7 @@ use Rattle.silo_address.specs.Grain.{Grain}
 use Rattle.silo_address.specs.declared.Entry.{Entry}
 use Rattle.ring_range.specs.Range.{IsRange, holds}
 use Rattle.directory_rules.specs.Table.{entries_of}
-use Rattle.directory_rules.specs.Piece.{Piece}
-use Rattle.directory_rules.specs.Node.{Node}
-use Rattle.directory_rules.specs.World.{World}
+use Rattle.directory_rules.specs.State.{Piece, Node, World}
 use Rattle.directory_rules.specs.Happens.{node_of}
 use Rattle.directory_headline.proofs.Facts.{IsPiece, WorldFacts}
 use Rattle.directory_facts.proofs.OwnPieces.{holding, counted}

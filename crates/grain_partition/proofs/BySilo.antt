@@ -18,7 +18,7 @@ use Rattle.hash_ring.specs.declared.Hashing.{Hashing}
 use Rattle.range_moves.specs.declared.RingArc.{RingArc}
 use Rattle.range_moves.specs.Arcs.{all_places, arcs_per_hash}
 use Rattle.range_moves.specs.Moves.{move_between}
-use Rattle.directory_rules.specs.Piece.{Piece}
+use Rattle.directory_rules.specs.State.{Piece}
 use Rattle.directory_rules.specs.Sight.{is_handed_over, is_owner, piece_of, pieces_after, sealed, snapshot_for, was_settled}
 use Rattle.grain_partition.specs.BySilo.{Puts, all_of, arcs_under, giver_in, giver_of, given_by, owned_by, stands_under}
 use Rattle.grain_partition.specs.Sight.{AreApart, AreOfRings}

@@ -15,9 +15,9 @@ use Rattle.hash_ring.specs.declared.Hashing.{Hashing}
 use Rattle.hash_ring.specs.Hash.{hash_grain}
 use Rattle.directory_rules.specs.Answer.{piece_with}
 use Rattle.directory_rules.specs.Members.{is_dead_in}
-use Rattle.directory_rules.specs.Piece.{Piece}
+use Rattle.directory_rules.specs.State.{Piece, Table}
 use Rattle.directory_rules.specs.Sight.{all_entries, entries_within, is_kept, is_settled, kept_entries, settled_pieces, was_settled}
-use Rattle.directory_rules.specs.Table.{Table, entries_of, lie_in, with_entry}
+use Rattle.directory_rules.specs.Table.{entries_of, lie_in, with_entry}
 use Rattle.directory_rules.specs.Laws.{lies_settled}
 use Rattle.directory_rules.proofs.Cases.{on_bool}
 use Rattle.grain_partition.specs.Holdings.{ArePieces, are_tidy}

@@ -16,9 +16,9 @@ use Rattle.hash_ring.specs.declared.Hashing.{Hashing}
 use Rattle.hash_ring.specs.Hash.{hash_grain}
 use Rattle.directory_rules.specs.Answer.{piece_with}
 use Rattle.directory_rules.specs.Laws.{lies_settled}
-use Rattle.directory_rules.specs.Piece.{Piece}
+use Rattle.directory_rules.specs.State.{Piece, Table}
 use Rattle.directory_rules.specs.Sight.{all_entries, was_settled}
-use Rattle.directory_rules.specs.Table.{Table, entries_of, entry_at, with_entry}
+use Rattle.directory_rules.specs.Table.{entries_of, entry_at, with_entry}
 use Rattle.grain_table.proofs.ByGrain.{IsTable, nothing_is_table, same_tables}
 use Rattle.grain_table.proofs.Filters.{entries_passed, passed_is_table}
 use Rattle.hash_ring.proofs.HashesBelow.{grain_below}

@@ -11,7 +11,7 @@ use Rattle.std.proofs.lemmas.List.Sums.{sum_by-cons}
 use Rattle.texts.proofs.Orderings.{less_is}
 use Rattle.ring_range.specs.Range.{Range, IsRange, holds}
 use Rattle.range_moves.specs.declared.RingArc.{RingArc}
-use Rattle.directory_rules.specs.Piece.{Piece}
+use Rattle.directory_rules.specs.State.{Piece}
 use Rattle.grain_partition.specs.Holdings.{ArePieces}
 use Rattle.grain_partition.specs.Sight.{AreApart}
 use Rattle.grain_partition.proofs.OnePiece.{passing}

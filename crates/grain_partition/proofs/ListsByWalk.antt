@@ -14,7 +14,7 @@ use Rattle.hash_ring.specs.declared.Hashing.{Hashing}
 use Rattle.hash_ring.specs.Hash.{hash_grain}
 use Rattle.directory_rules.specs.Answer.{piece_with}
 use Rattle.directory_rules.specs.Members.{is_dead_in}
-use Rattle.directory_rules.specs.Piece.{Piece}
+use Rattle.directory_rules.specs.State.{Piece}
 use Rattle.directory_rules.specs.Sight.{all_entries, is_kept, kept_entries, was_settled}
 use Rattle.directory_rules.specs.Table.{entries_of, with_entry}
 use Rattle.directory_rules.proofs.Cases.{on_bool}

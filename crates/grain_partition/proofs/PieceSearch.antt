@@ -12,7 +12,7 @@ use Rattle.std.proofs.lemmas.Map.Lookups.{exact_unsigned}
 use Rattle.membership_view.proofs.Found.{find_found, find_none}
 use Rattle.ring_range.specs.Range.{circle, IsRange, distance, holds}
 use Rattle.ring_range.proofs.Circle.{distance-up, distance-round, distance-itself}
-use Rattle.directory_rules.specs.Piece.{Piece}
+use Rattle.directory_rules.specs.State.{Piece}
 use Rattle.directory_rules.specs.Answer.{piece_with}
 use Rattle.grain_partition.specs.Holdings.{ArePieces}
 use Rattle.grain_partition.specs.Search.{BeginsNearest}

@@ -15,7 +15,7 @@ use Rattle.directory_rules.specs.declared.Act.{Act}
 use Rattle.directory_rules.specs.declared.Act.TheVariants.{Register, Deregister, Find}
 use Rattle.directory_rules.specs.declared.Request.{Request}
 use Rattle.directory_rules.specs.declared.Reply.{Reply}
-use Rattle.directory_rules.specs.Piece.{Piece, Holding}
+use Rattle.directory_rules.specs.State.{Piece, Holding}
 use Rattle.directory_rules.specs.Answer.{Answered, answered, answered_from, after_numbered, is_numbered, piece_with, served_by, serving_piece, turned, with_piece}
 use Rattle.grain_partition.specs.Holdings.{ArePieces}
 use Rattle.grain_partition.specs.Served.{IsTurnOf}

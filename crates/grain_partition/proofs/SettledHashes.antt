@@ -14,7 +14,7 @@ use Rattle.std.proofs.lemmas.Bool.{and_from, or_right}
 use Rattle.membership_view.proofs.Found.{find_found, find_none}
 use Rattle.texts.proofs.Decided.{both}
 use Rattle.ring_range.specs.Range.{circle, Range, holds}
-use Rattle.directory_rules.specs.Piece.{Piece}
+use Rattle.directory_rules.specs.State.{Piece}
 use Rattle.directory_rules.specs.Answer.{piece_with}
 use Rattle.directory_rules.specs.Sight.{is_settled}
 use Rattle.directory_rules.specs.Laws.{lies_settled}

@@ -17,7 +17,7 @@ use Rattle.ring_range.specs.Range.{circle, Range, IsRange, distance, ahead, hold
 use Rattle.ring_range.specs.Cut.{IsInside, IsCut, cut_parts}
 use Rattle.ring_range.proofs.Circle.{distance-ahead, distance-itself, distance-zero, ahead-lt}
 use Rattle.ring_range.proofs.Cuts.{is_cut, ranges}
-use Rattle.directory_rules.specs.Piece.{Piece}
+use Rattle.directory_rules.specs.State.{Piece}
 use Rattle.directory_rules.specs.Sight.{is_settled, is_in_settled, was_settled}
 use Rattle.directory_rules.proofs.Cases.{on_bool}
 use Rattle.directory_rules.proofs.Throughout.{settled_throughout}

@@ -10,7 +10,7 @@ use Rattle.silo_address.specs.Silo.{Silo}
 use Rattle.membership_view.specs.View.{ViewValue}
 use Rattle.hash_ring.specs.declared.Hashing.{Hashing}
 use Rattle.range_moves.specs.declared.RingArc.{RingArc}
-use Rattle.directory_rules.specs.Piece.{Piece}
+use Rattle.directory_rules.specs.State.{Piece}
 use Rattle.directory_rules.specs.Sight.{is_owner, piece_of, pieces_after}
 use Rattle.directory_rules.specs.declared.PieceState.TheVariants.{Settled}
 use Rattle.directory_rules.proofs.Cases.{on_bool}

@@ -21,9 +21,8 @@ use Rattle.hash_ring.specs.declared.Hashing.{Hashing}
 use Rattle.range_moves.specs.declared.RingArc.{RingArc}
 use Rattle.directory_rules.specs.declared.PieceState.{PieceState}
 use Rattle.directory_rules.specs.declared.PieceState.TheVariants.{Settled}
-use Rattle.directory_rules.specs.Piece.{Piece}
+use Rattle.directory_rules.specs.State.{Piece, Table}
 use Rattle.directory_rules.specs.Sight.{is_owner, is_settled, kept_entries, missing_state, piece_of, pieces_after, was_settled}
-use Rattle.directory_rules.specs.Table.{Table}
 use Rattle.directory_rules.proofs.Pieces.{piece_range}
 use Rattle.grain_partition.specs.Holdings.{ArePieces, are_tidy}
 use Rattle.grain_partition.specs.Sight.{AreApart}

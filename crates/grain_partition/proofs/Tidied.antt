@@ -17,9 +17,9 @@ use Rattle.ring_range.specs.Range.{Range, IsRange, holds, within}
 use Rattle.hash_ring.specs.declared.Hashing.{Hashing}
 use Rattle.hash_ring.specs.Hash.{hash_grain}
 use Rattle.directory_rules.specs.Answer.{piece_with}
-use Rattle.directory_rules.specs.Piece.{Piece}
+use Rattle.directory_rules.specs.State.{Piece, Table}
 use Rattle.directory_rules.specs.Sight.{entries_within, is_in_settled, is_settled, was_settled}
-use Rattle.directory_rules.specs.Table.{Table, entries_of, lie_in, with_entry}
+use Rattle.directory_rules.specs.Table.{entries_of, lie_in, with_entry}
 use Rattle.grain_table.proofs.ByGrain.{IsTable, nothing_is_table}
 use Rattle.grain_table.proofs.Filters.{passed_is_table}
 use Rattle.hash_ring.proofs.HashesBelow.{grain_below}

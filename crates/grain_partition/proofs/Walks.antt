@@ -8,7 +8,7 @@ use Rattle.ring_range.specs.Range.{circle, Range, IsRange, distance, holds, part
 use Rattle.ring_range.specs.Cut as cut
 use Rattle.ring_range.proofs.Circle.{distance-itself}
 use Rattle.ring_range.proofs.Parts.{holds-part, IsRange-part}
-use Rattle.directory_rules.specs.Piece.{Piece}
+use Rattle.directory_rules.specs.State.{Piece}
 use Rattle.directory_rules.specs.Sight.{was_settled}
 use Rattle.directory_rules.specs.Laws.{lies_settled}
 use Rattle.directory_rules.proofs.Cases.{on_bool}

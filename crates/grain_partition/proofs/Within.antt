@@ -18,8 +18,8 @@ use Rattle.texts.proofs.Entries.{all_above, sorted-insert_entry}
 use Rattle.ring_range.specs.Range.{Range, holds}
 use Rattle.hash_ring.specs.declared.Hashing.{Hashing}
 use Rattle.hash_ring.specs.Hash.{hash_grain}
-use Rattle.directory_rules.specs.Piece.{Piece}
-use Rattle.directory_rules.specs.Table.{Table, entries_of, with_entry}
+use Rattle.directory_rules.specs.State.{Piece, Table}
+use Rattle.directory_rules.specs.Table.{entries_of, with_entry}
 
 module _ {K X : Type 0} {R : K → K → Ordering} (o : IsTotalOrder R) (exact : CmpEqualImpliesEq R) (p : K → Bool) where
   abbrev passed : List (K × X) → List (K × X)

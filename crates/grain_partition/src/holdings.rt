@@ -4,7 +4,7 @@ ghost use Rattle.std.specs.Map.{lookup};
 ghost use Rattle.std.specs.Ordering.{nat_cmp};
 ghost use Rattle.std.specs.BTreeMap.{insert_entry, is_at};
 ghost use Rattle.silo_address.specs.Silo.{silo_cmp};
-ghost use Rattle.directory_rules.specs.Piece.{Piece as PieceValue};
+ghost use Rattle.directory_rules.specs.State.{Piece as PieceValue, Holding as HoldingValue};
 ghost use Rattle.directory_rules.specs.Answer.{answered, is_numbered, last_served, piece_with, serving_piece, with_piece};
 ghost use Rattle.directory_rules.specs.declared.PieceState.TheVariants.{Recovering, Settled};
 ghost use Rattle.directory_rules.specs.Sight.{all_entries, is_settled, pieces_after, sealed, was_settled};
@@ -45,8 +45,6 @@ pub struct Holding {
 }
 
 impl Model for Holding {
-    ghost use Rattle.directory_rules.specs.Piece.{Holding as HoldingValue};
-
     ghost Value = { HoldingValue };
 
     ghost use Rattle.grain_partition.specs.Holdings.{IsHolding};

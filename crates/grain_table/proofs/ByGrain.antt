@@ -17,7 +17,8 @@ use Rattle.silo_address.proofs.Order.{grain_cmp_total, grain_cmp_exact}
 use Rattle.texts.proofs.Entries.{lookup-insert_entry, sorted-insert_entry, sorted-nil}
 use Rattle.membership_view.proofs.Found.{same_entries}
 use Rattle.hash_ring.specs.declared.Hashing.{Hashing}
-use Rattle.directory_rules.specs.Table.{Table, entry_at, with_entry}
+use Rattle.directory_rules.specs.State.{Table}
+use Rattle.directory_rules.specs.Table.{entry_at, with_entry}
 use Rattle.grain_table.specs.declared.hashed_grain.HashedGrain.{HashedGrain}
 use Rattle.grain_table.specs.Hashed.{AreHashed, Hashed, IsKeyOf, by_grain, entry_under, hashed_cmp, key_of}
 use Rattle.grain_table.proofs.Order.{at_key, hashed_cmp_total, key_is}

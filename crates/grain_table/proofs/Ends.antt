@@ -9,7 +9,7 @@ use Rattle.silo_address.specs.declared.ActivationId.{ActivationId}
 use Rattle.ring_range.specs.Range.{Range, IsRange, circle, holds}
 use Rattle.hash_ring.specs.declared.Hashing.{Hashing}
 use Rattle.hash_ring.specs.Hash.{hash_grain}
-use Rattle.directory_rules.specs.Table.{Table}
+use Rattle.directory_rules.specs.State.{Table}
 use Rattle.grain_table.specs.declared.hashed_grain.HashedGrain.{HashedGrain}
 use Rattle.grain_table.specs.Hashed.{Hashed}
 use Rattle.grain_table.specs.Stretch.{is_between}

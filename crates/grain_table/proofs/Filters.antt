@@ -22,7 +22,8 @@ use Rattle.hash_ring.specs.declared.Hashing.{Hashing}
 use Rattle.hash_ring.specs.Hash.{hash_grain}
 use Rattle.directory_rules.specs.Members.{is_dead_in}
 use Rattle.directory_rules.specs.Sight.{is_kept}
-use Rattle.directory_rules.specs.Table.{Table, entries_of, entry_at}
+use Rattle.directory_rules.specs.State.{Table}
+use Rattle.directory_rules.specs.Table.{entries_of, entry_at}
 use Rattle.grain_table.specs.declared.hashed_grain.HashedGrain.{HashedGrain}
 use Rattle.grain_table.specs.Hashed.{AreHashed, Hashed, IsKeyOf, by_grain, hashed_cmp, key_of}
 use Rattle.grain_table.proofs.Order.{hashed_cmp_total, hashed_cmp_exact}

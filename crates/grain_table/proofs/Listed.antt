@@ -17,7 +17,8 @@ use Rattle.ring_range.specs.Range.{Range, IsRange, circle, holds}
 use Rattle.hash_ring.specs.declared.Hashing.{Hashing}
 use Rattle.directory_rules.specs.Members.{is_dead_in}
 use Rattle.directory_rules.specs.Sight.{is_kept}
-use Rattle.directory_rules.specs.Table.{Table, entries_of, entry_at}
+use Rattle.directory_rules.specs.State.{Table}
+use Rattle.directory_rules.specs.Table.{entries_of, entry_at}
 use Rattle.grain_table.specs.declared.hashed_grain.HashedGrain.{HashedGrain}
 use Rattle.grain_table.specs.Hashed.{AreHashed, Hashed, by_grain, entry_under}
 use Rattle.grain_table.specs.Stretch.{is_between}

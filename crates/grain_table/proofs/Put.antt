@@ -16,7 +16,8 @@ use Rattle.silo_address.specs.declared.Entry.{Entry}
 use Rattle.silo_address.proofs.Order.{grain_cmp_total, grain_cmp_exact}
 use Rattle.texts.proofs.Entries.{lookup-insert_entry}
 use Rattle.hash_ring.specs.declared.Hashing.{Hashing}
-use Rattle.directory_rules.specs.Table.{Table, entries_of, entry_at, table_of, with_entry}
+use Rattle.directory_rules.specs.State.{Table}
+use Rattle.directory_rules.specs.Table.{entries_of, entry_at, table_of, with_entry}
 use Rattle.grain_table.specs.Hashed.{AreHashed, Hashed, by_grain, entry_under}
 use Rattle.grain_table.proofs.ByGrain.{IsTable, by_grain_is_table, nothing_is_table, same_tables, with_entry_is_table}
 use Rattle.grain_table.proofs.Count.{are_behind, none_behind}

@@ -18,7 +18,8 @@ use Rattle.silo_address.specs.Grain.{Grain, grain_cmp}
 use Rattle.silo_address.specs.declared.Entry.{Entry}
 use Rattle.silo_address.proofs.Order.{grain_cmp_total, grain_cmp_exact}
 use Rattle.hash_ring.specs.declared.Hashing.{Hashing}
-use Rattle.directory_rules.specs.Table.{Table, entries_of, entry_at, table_of}
+use Rattle.directory_rules.specs.State.{Table}
+use Rattle.directory_rules.specs.Table.{entries_of, entry_at, table_of}
 use Rattle.directory_rules.proofs.RisingTables.{entries_again, under_grains}
 use Rattle.grain_table.specs.Hashed.{AreHashed, Hashed, by_grain}
 use Rattle.grain_table.proofs.ByGrain.{IsTable, by_grain_is_table, same_tables}

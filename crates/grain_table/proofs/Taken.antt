@@ -15,7 +15,8 @@ use Rattle.texts.proofs.Entries.{all-remove_entry, sorted-remove_entry}
 use Rattle.silo_address.specs.Grain.{Grain, grain_cmp}
 use Rattle.silo_address.proofs.Order.{grain_cmp_total}
 use Rattle.hash_ring.specs.declared.Hashing.{Hashing}
-use Rattle.directory_rules.specs.Table.{Table, without_grain}
+use Rattle.directory_rules.specs.State.{Table}
+use Rattle.directory_rules.specs.Table.{without_grain}
 use Rattle.grain_table.specs.declared.hashed_grain.HashedGrain.{HashedGrain}
 use Rattle.grain_table.specs.Hashed.{AreHashed, Hashed, IsKeyOf, by_grain, hashed_cmp, key_of}
 use Rattle.grain_table.proofs.Order.{at_key, hashed_cmp_total, key_is}

@@ -7,7 +7,8 @@ use Rattle.hash_ring.specs.declared.Hashing.{Hashing}
 use Rattle.hash_ring.specs.Hash.{hash_grain}
 use Rattle.directory_rules.specs.Members.{is_dead_in}
 use Rattle.directory_rules.specs.Sight.{is_kept}
-use Rattle.directory_rules.specs.Table.{Table, entries_of}
+use Rattle.directory_rules.specs.State.{Table}
+use Rattle.directory_rules.specs.Table.{entries_of}
 use Rattle.grain_table.specs.Hashed.{AreHashed, Hashed, by_grain}
 use Rattle.grain_table.specs.Stretch.{is_between}
 use Rattle.grain_table.specs.Table.{TableValue}

@@ -9,7 +9,8 @@ use Rattle.silo_address.specs.Grain.{Grain, grain_cmp, grain_eq}
 use Rattle.silo_address.specs.declared.ActivationId.{ActivationId}
 use Rattle.directory_rules.specs.declared.Held.{Held}
 use Rattle.directory_rules.specs.declared.Phase.TheVariants.{Firm}
-use Rattle.directory_rules.specs.Host.{Host, held_of, next_closing, next_held, with_started, with_closing, with_find}
+use Rattle.directory_rules.specs.State.{Host}
+use Rattle.directory_rules.specs.Host.{held_of, next_closing, next_held, with_started, with_closing, with_find}
 use Rattle.host_activations.specs.Activations.{ActivationsValue}
 use Rattle.texts.proofs.Entries.{sorted-nil}
 use Rattle.host_activations.specs.declared.asked.OutstandingRequest.{OutstandingRequest}

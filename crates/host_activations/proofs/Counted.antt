@@ -15,7 +15,7 @@ use Rattle.silo_address.proofs.Same.{Decides-grain}
 use Rattle.directory_rules.specs.declared.Held.{Held}
 use Rattle.directory_rules.specs.declared.Phase.{Phase}
 use Rattle.directory_rules.specs.declared.Phase.TheVariants.{Asking, Firm, Closing}
-use Rattle.directory_rules.specs.Host.{Host}
+use Rattle.directory_rules.specs.State.{Host}
 use Rattle.directory_rules.specs.Laws.{AreNumbered}
 use Rattle.directory_rules.proofs.Numbered as rule
 use Rattle.directory_rules.proofs.RequestNumbers.{one, one_cases, times, times_phase, with_number, numbers}

@@ -21,7 +21,8 @@ use Rattle.directory_rules.specs.declared.Act.TheVariants as act
 use Rattle.directory_rules.specs.declared.Held.{Held}
 use Rattle.directory_rules.specs.declared.Phase.{Phase}
 use Rattle.directory_rules.specs.declared.Phase.TheVariants.{Asking, Firm, Closing}
-use Rattle.directory_rules.specs.Host.{Host, act_in, find_acts, held_acts, new_host, outstanding}
+use Rattle.directory_rules.specs.State.{Host}
+use Rattle.directory_rules.specs.Host.{act_in, find_acts, held_acts, new_host, outstanding}
 use Rattle.host_activations.proofs.Grains.{on_grain}
 use Rattle.host_activations.specs.declared.asked.OutstandingRequest.{OutstandingRequest}
 use Rattle.host_activations.specs.declared.asked.OutstandingRequest.TheVariants.{Activation, Find}

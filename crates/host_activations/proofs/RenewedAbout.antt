@@ -23,7 +23,8 @@ use Rattle.directory_rules.specs.declared.Act.TheVariants as act
 use Rattle.directory_rules.specs.declared.Held.{Held}
 use Rattle.directory_rules.specs.declared.Phase.{Phase}
 use Rattle.directory_rules.specs.declared.Phase.TheVariants.{Asking, Firm, Closing}
-use Rattle.directory_rules.specs.Host.{Host, act_in, grain_of, held_renewed_about, new_host, new_number_about, outstanding, phase_renewed_about, renewed_about, requests_about}
+use Rattle.directory_rules.specs.State.{Host}
+use Rattle.directory_rules.specs.Host.{act_in, grain_of, held_renewed_about, new_host, new_number_about, outstanding, phase_renewed_about, renewed_about, requests_about}
 use Rattle.texts.proofs.Orderings.{Equal-from}
 use Rattle.host_activations.specs.declared.asked.OutstandingRequest.{OutstandingRequest}
 use Rattle.host_activations.specs.declared.asked.OutstandingRequest.TheVariants.{Activation, Find}

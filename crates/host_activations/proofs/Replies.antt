@@ -8,7 +8,8 @@ use Rattle.silo_address.specs.Grain.{Grain, grain_cmp}
 use Rattle.directory_rules.specs.declared.Held.{Held}
 use Rattle.directory_rules.specs.declared.Phase.{Phase}
 use Rattle.directory_rules.specs.declared.Phase.TheVariants.{Asking, Firm, Closing}
-use Rattle.directory_rules.specs.Host.{Host, is_asking_under, is_closing_under}
+use Rattle.directory_rules.specs.State.{Host}
+use Rattle.directory_rules.specs.Host.{is_asking_under, is_closing_under}
 use Rattle.host_activations.specs.declared.host.Host.TheInside.{Inside}
 use Rattle.host_activations.specs.HostModel.{IsWhole, host_of}
 use Rattle.host_activations.specs.declared.asked.OutstandingRequest.{OutstandingRequest}

@@ -11,7 +11,7 @@ use Rattle.silo_address.specs.Grain.{Grain}
 use Rattle.silo_address.proofs.Same.{Decides-grain}
 use Rattle.membership_view.proofs.Found.{same_entries}
 use Rattle.directory_rules.specs.declared.Held.{Held}
-use Rattle.directory_rules.specs.Host.{Host}
+use Rattle.directory_rules.specs.State.{Host}
 use Rattle.host_activations.specs.Activations.{ActivationsValue}
 use Rattle.host_activations.specs.declared.asked.OutstandingRequest.{OutstandingRequest}
 use Rattle.host_activations.specs.declared.asked.OutstandingRequest.TheVariants.{Activation, Find}

@@ -17,7 +17,8 @@ use Rattle.hash_ring.specs.declared.Hashing.{Hashing}
 use Rattle.hash_ring.specs.Hash.{hash_grain}
 use Rattle.directory_rules.specs.declared.Held.{Held}
 use Rattle.directory_rules.specs.Host.{entry_on, is_firm}
-use Rattle.directory_rules.specs.Table.{Table, entry_at, with_entry}
+use Rattle.directory_rules.specs.State.{Table}
+use Rattle.directory_rules.specs.Table.{entry_at, with_entry}
 use Rattle.host_activations.specs.Begun.{AreApart}
 use Rattle.host_activations.specs.Firm.{firm_table}
 use Rattle.host_activations.specs.InOrder.{in_order}

@@ -5,7 +5,8 @@ use Rattle.silo_address.specs.Grain.{Grain, grain_cmp}
 use Rattle.directory_rules.specs.declared.Act.{Act}
 use Rattle.directory_rules.specs.declared.Act.TheVariants as act
 use Rattle.directory_rules.specs.declared.Held.{Held}
-use Rattle.directory_rules.specs.Host.{Host, outstanding, renewed}
+use Rattle.directory_rules.specs.State.{Host}
+use Rattle.directory_rules.specs.Host.{outstanding, renewed}
 use Rattle.host_activations.specs.Numbers.{phase_under}
 use Rattle.host_activations.specs.declared.asked.OutstandingRequest.{OutstandingRequest}
 use Rattle.host_activations.specs.declared.asked.OutstandingRequest.TheVariants.{Activation, Find}

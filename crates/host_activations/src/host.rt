@@ -31,7 +31,7 @@ pub struct Host {
 }
 
 impl Model for Host {
-    ghost use Rattle.directory_rules.specs.Host.{Host};
+    ghost use Rattle.directory_rules.specs.State.{Host};
 
     ghost Value = { Host };
 

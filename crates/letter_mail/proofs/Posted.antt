@@ -14,8 +14,7 @@ use Rattle.std.proofs.lemmas.List.Elements.{filter_map-append}
 use Rattle.std.proofs.lemmas.Option.{same_Some}
 use Rattle.silo_address.specs.Grain.{Grain}
 use Rattle.silo_address.proofs.Order.{apart_in_order}
-use Rattle.directory_rules.specs.Letter.{Letter}
-use Rattle.directory_rules.specs.World.{Posted}
+use Rattle.directory_rules.specs.State.{Letter, Posted}
 use Rattle.directory_rules.specs.Mail.{fresh_letter}
 use Rattle.letter_mail.specs.declared.slots.Slot.{Slot}
 use Rattle.letter_mail.specs.declared.slots.Slot.TheVariants.{Short, Whole, Lost}

@@ -9,8 +9,7 @@ use Rattle.std.specs.BTreeMap.{is_at}
 use Rattle.std.proofs.lemmas.Bool.{le-leb, lt-leb}
 use Rattle.std.proofs.lemmas.List.{append-nil}
 use Rattle.std.proofs.lemmas.List.Elements.{filter-append}
-use Rattle.directory_rules.specs.Letter.{Letter}
-use Rattle.directory_rules.specs.World.{Posted}
+use Rattle.directory_rules.specs.State.{Letter, Posted}
 use Rattle.directory_rules.specs.Mail.{fresh_letter}
 use Rattle.directory_rules.specs.Laws.{RiseBetween}
 use Rattle.letter_mail.specs.Mail.{HasRisingNumbers, MailValue, letter_in, with_posted, with_stale, without_last}

@@ -7,7 +7,8 @@ use Rattle.silo_address.specs.Grain.{Grain, grain_eq}
 use Rattle.silo_address.specs.declared.ActivationId.{ActivationId}
 use Rattle.silo_address.specs.contracts.grain.GrainIdEq.TheImpl.Laws.{laws-law}
 use Rattle.silo_address.proofs.Same.{Decides-grain, Decides-activation}
-use Rattle.directory_rules.specs.Cache.{Cache, hint_of, in_front, without_pair}
+use Rattle.directory_rules.specs.State.{Cache}
+use Rattle.directory_rules.specs.Cache.{hint_of, in_front, without_pair}
 use Rattle.lru.specs.LruCache.{LruCache, IsValid, promoted, put_entries}
 use Rattle.lookup_cache.specs.Used.{used}
 use Rattle.lookup_cache.proofs.Rounds.{Hint}

@@ -10,12 +10,9 @@ use Rattle.directory_rules.specs.Cache.{cache_seeing}
 use Rattle.directory_rules.specs.Host.{outstanding, renewed, renewed_about, requests_about}
 use Rattle.directory_rules.specs.Laws.{IsHandedOver}
 use Rattle.directory_rules.specs.Members.{is_dead_in}
-use Rattle.directory_rules.specs.Node.{Node}
-use Rattle.directory_rules.specs.Piece.{Piece}
+use Rattle.directory_rules.specs.State.{Node, Piece, Snapshot, Letter}
 use Rattle.directory_rules.specs.Sent.{all_requests, all_wants, request_letters}
 use Rattle.directory_rules.specs.Sight.{pieces_after, sealed, shelf_after}
-use Rattle.directory_rules.specs.Snapshot.{Snapshot}
-use Rattle.directory_rules.specs.Letter.{Letter}
 use Rattle.directory_rules.specs.declared.Effect.{Effect}
 use Rattle.directory_rules.specs.declared.Effect.TheVariants.{Nudged}
 use Rattle.silo_address.specs.Grain.{Grain}

@@ -7,13 +7,9 @@ use Rattle.ring_range.specs.Range.{Range}
 use Rattle.directory_rules.specs.declared.Act.{Act}
 use Rattle.directory_rules.specs.declared.PieceState.{PieceState}
 use Rattle.directory_rules.specs.declared.PieceState.TheVariants.{Settled, Awaiting, Recovering}
-use Rattle.directory_rules.specs.Cache.{Cache}
+use Rattle.directory_rules.specs.State.{Cache, Request_letter, Node, Piece, Holding, Snapshot}
 use Rattle.directory_rules.specs.Host.{outstanding, renewed, renewed_about}
-use Rattle.directory_rules.specs.Letter.{Request_letter}
-use Rattle.directory_rules.specs.Node.{Node}
-use Rattle.directory_rules.specs.Piece.{Piece, Holding}
 use Rattle.directory_rules.specs.Sent.{all_requests, hash_of, letter_if_owned, owner_by, request_letters, request_of, wants_by}
-use Rattle.directory_rules.specs.Snapshot.{Snapshot}
 use Rattle.grain_partition.specs.Seen.{emptied}
 use Rattle.node_plans.specs.Sender.{bare, wants_of}
 

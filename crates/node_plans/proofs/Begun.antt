@@ -15,9 +15,9 @@ use Rattle.texts.proofs.Entries.{sorted-picked, lookup-picked}
 use Rattle.directory_rules.proofs.Cases.{on_bool}
 use Rattle.directory_rules.specs.declared.PieceState.{PieceState}
 use Rattle.directory_rules.specs.declared.PieceState.TheVariants.{Settled, Awaiting, Recovering}
-use Rattle.directory_rules.specs.Gatherings.{Gathering, new_gathering}
-use Rattle.directory_rules.specs.Piece.{Piece}
-use Rattle.directory_rules.specs.Recovery.{Recovery, new_recovery}
+use Rattle.directory_rules.specs.State.{Gathering, Piece, Recovery}
+use Rattle.directory_rules.specs.Gatherings.{new_gathering}
+use Rattle.directory_rules.specs.Recovery.{new_recovery}
 use Rattle.directory_rules.specs.Step.{gathering_in, new_gatherings, new_recoveries, recovery_in}
 use Rattle.directory_rules.specs.Table.{rise_by_grain}
 use Rattle.directory_rules.specs.Transfer.{is_recovering}

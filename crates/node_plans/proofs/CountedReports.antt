@@ -4,8 +4,8 @@ use Rattle.std.specs.Prelude.{◌↔◌, Bool, true, false, cond, Some, Ok, is_o
 use Rattle.std.specs.Ordering.{nat_cmp}
 use Rattle.std.specs.Map.{keys_of, lookup, remove_entry}
 use Rattle.std.specs.BTreeMap.{is_at, insert_entry}
-use Rattle.directory_rules.specs.Node.{Node}
-use Rattle.directory_rules.specs.Recovery.{Recovery, Report, Recovered, Awaits_more, Has_union, Rejects, recovered, with_report, new_recovery}
+use Rattle.directory_rules.specs.State.{Node, Recovery, Report}
+use Rattle.directory_rules.specs.Recovery.{Recovered, Awaits_more, Has_union, Rejects, recovered, with_report, new_recovery}
 use Rattle.directory_rules.specs.Transfer.{recovered_by, with_settled}
 use Rattle.directory_rules.specs.Sent.{recovery_of}
 use Rattle.directory_rules.specs.Step.{Stepped}

@@ -15,16 +15,13 @@ use Rattle.texts.proofs.Entries.{lookup-insert_entry}
 use Rattle.directory_rules.proofs.Cases.{on_bool}
 use Rattle.directory_rules.specs.declared.Effect.TheVariants as effect
 use Rattle.directory_rules.specs.declared.PieceState.{PieceState}
-use Rattle.directory_rules.specs.Gatherings.{Gathering, gathered, new_gathering, with_page}
-use Rattle.directory_rules.specs.Letter.{Letter, Ask_letter, Done_letter, Query_letter}
+use Rattle.directory_rules.specs.State.{Gathering, Letter, Ask_letter, Done_letter, Query_letter, Node, Piece, Recovery, Page, Table}
+use Rattle.directory_rules.specs.Gatherings.{gathered, new_gathering, with_page}
 use Rattle.directory_rules.specs.Members.{members_of}
-use Rattle.directory_rules.specs.Node.{Node}
-use Rattle.directory_rules.specs.Piece.{Piece}
-use Rattle.directory_rules.specs.Recovery.{Recovery, new_recovery}
+use Rattle.directory_rules.specs.Recovery.{new_recovery}
 use Rattle.directory_rules.specs.Sent.{gathering_of, letter_to}
-use Rattle.directory_rules.specs.Snapshot.{Page}
 use Rattle.directory_rules.specs.Step.{Stepped, silently}
-use Rattle.directory_rules.specs.Table.{Table, is_before_first, rise_by_grain, table_of}
+use Rattle.directory_rules.specs.Table.{is_before_first, rise_by_grain, table_of}
 use Rattle.directory_rules.specs.Transfer.{answer_to, awaits, gathered_by, has_range, is_awaiting_from, is_page_awaited, missing, paged, piece_at, querying, turned_to_recovery, with_gathering, with_settled}
 use Rattle.grain_partition.specs.Holdings.{HasPiece}
 use Rattle.node_plans.specs.Plans.{recovering_by}

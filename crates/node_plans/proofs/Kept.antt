@@ -13,8 +13,7 @@ use Rattle.directory_rules.specs.declared.Why.{Why}
 use Rattle.directory_rules.specs.declared.Why.TheVariants.{View, OldNumber}
 use Rattle.directory_rules.specs.declared.PieceState.{PieceState}
 use Rattle.directory_rules.specs.declared.PieceState.TheVariants.{Settled, Awaiting, Recovering}
-use Rattle.directory_rules.specs.Piece.{Piece, Holding}
-use Rattle.directory_rules.specs.Recovery.{Recovery}
+use Rattle.directory_rules.specs.State.{Piece, Holding, Recovery}
 use Rattle.directory_rules.specs.Answer.{with_piece, serving_piece, serving_by_piece, serving_by_state, serving_by_number, answered, answered_from, served_by, piece_with, is_numbered, last_served}
 use Rattle.std.proofs.lemmas.Map.Lookups.{exact_unsigned}
 use Rattle.texts.proofs.Orderings.{Equal-from}

@@ -5,8 +5,9 @@ use Rattle.std.specs.Cmp.Lexicographic.{pointwise}
 use Rattle.silo_address.specs.declared.Entry.{Entry}
 use Rattle.ring_range.specs.Range.{range_eq}
 use Rattle.ring_range.proofs.Same.{Decides-range}
-use Rattle.directory_rules.specs.Gatherings.{Gathering, Gathered, Wants_page, Has_all, Refuses, gathered, is_in_turn, new_gathering, with_page}
-use Rattle.directory_rules.specs.Snapshot.{Page, digest_of}
+use Rattle.directory_rules.specs.State.{Gathering, Page}
+use Rattle.directory_rules.specs.Gatherings.{Gathered, Wants_page, Has_all, Refuses, gathered, is_in_turn, new_gathering, with_page}
+use Rattle.directory_rules.specs.Snapshot.{digest_of}
 use Rattle.std.proofs.lemmas.Bool.{ltb-true, and_parts}
 use Rattle.std.proofs.lemmas.Bool.Decides.{Decides-eqb}
 use Rattle.seal_snapshot.specs.Progress.{progress_of}

@@ -6,7 +6,8 @@ use Rattle.std.specs.Map.{set_value}
 use Rattle.std.specs.BTreeMap.{is_at}
 use Rattle.std.proofs.lemmas.Bool.{false_from_ne_true}
 use Rattle.silo_address.specs.Silo.{Silo}
-use Rattle.directory_rules.specs.Recovery.{Recovery, Report, Recovered, Awaits_more, Has_union, Rejects, awaits_still, recovered, with_report}
+use Rattle.directory_rules.specs.State.{Recovery, Report}
+use Rattle.directory_rules.specs.Recovery.{Recovered, Awaits_more, Has_union, Rejects, awaits_still, recovered, with_report}
 use Rattle.range_recovery.specs.declared.RecoveryProgress.{RecoveryProgress}
 use Rattle.range_recovery.specs.declared.RecoveryProgress.TheVariants.{Complete}
 use Rattle.range_recovery.specs.Progress.{progress_of}

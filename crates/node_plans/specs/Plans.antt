@@ -10,15 +10,13 @@ use Rattle.directory_rules.specs.declared.PieceState.TheVariants.{Recovering}
 use Rattle.directory_rules.specs.Cache.{cache_seeing, learnt, without_pair}
 use Rattle.directory_rules.specs.Gatherings.{gathered, new_gathering, with_page}
 use Rattle.directory_rules.specs.Host.{asking_under, closing_under, has_numbers, held_of, outstanding, renewed, renewed_about, requests_about, with_find, with_started, without_find, without_held}
-use Rattle.directory_rules.specs.Letter.{Body, Request_letter, Reply_letter, Ask_letter, Page_letter, Missing_letter, Done_letter, Query_letter, Report_letter, Behind_letter, Ahead_letter, Offer_letter}
-use Rattle.directory_rules.specs.Node.{Node}
+use Rattle.directory_rules.specs.State.{Body, Request_letter, Reply_letter, Ask_letter, Page_letter, Missing_letter, Done_letter, Query_letter, Report_letter, Behind_letter, Ahead_letter, Offer_letter, Node, Recovery, Piece, Page}
 use Rattle.directory_rules.specs.Members.{members_of}
-use Rattle.directory_rules.specs.Recovery.{Recovery, recovered}
+use Rattle.directory_rules.specs.Recovery.{recovered}
 use Rattle.directory_rules.specs.Reply.{confirmed_by, yielded_by}
 use Rattle.directory_rules.specs.Sent.{gathering_of, recovery_of}
-use Rattle.directory_rules.specs.Piece.{Piece}
 use Rattle.directory_rules.specs.Sight.{pieces_after, sealed, shelf_after}
-use Rattle.directory_rules.specs.Snapshot.{Page, shelf_without}
+use Rattle.directory_rules.specs.Snapshot.{shelf_without}
 use Rattle.directory_rules.specs.Step.{Stepped, new_gatherings, new_recoveries, with_one_closing}
 use Rattle.directory_rules.specs.Table.{rise_by_grain}
 use Rattle.directory_rules.specs.Transfer.{has_range, is_recovering, piece_at, recovered_by, with_gathering, with_recovery, with_settled, with_state}

@@ -1,6 +1,6 @@
 ghost use Rattle.std.specs.Prelude.{◌≡◌, [], ◌∷◌, IfOk, Some};
 ghost use Rattle.directory_rules.specs.Cache.{hint_of, in_front};
-ghost use Rattle.directory_rules.specs.Node.{Node as NodeValue};
+ghost use Rattle.directory_rules.specs.State.{Node as NodeValue};
 ghost use Rattle.directory_rules.specs.Step.{silently};
 ghost use Rattle.directory_rules.specs.declared.Effect.TheVariants.{Cached};
 ghost use Rattle.node_plans.specs.Plans.{changed, step_by};

@@ -3,8 +3,7 @@ ghost use Rattle.std.specs.List.{cons_option};
 ghost use Rattle.std.specs.Prelude.{◌≡◌, ◌++◌, ℕ, [], IfOk, OnErr, OnOk, flat_map, length, map};
 ghost use Rattle.directory_rules.specs.Sent.{ask_letters, gathering_of, letter_to, owner_by, query_letters, recovery_of, request_letters, request_of, wants_by};
 ghost use Rattle.directory_letters.specs.LetterModel.{body_of};
-ghost use Rattle.directory_rules.specs.Letter.{Query_letter};
-ghost use Rattle.directory_rules.specs.Piece.{Piece as PieceValue};
+ghost use Rattle.directory_rules.specs.State.{Query_letter, Piece as PieceValue};
 ghost use Rattle.node_plans.specs.Sender.{sending, wants_of};
 
 use crate::plan::list_of;

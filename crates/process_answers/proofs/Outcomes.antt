@@ -7,8 +7,7 @@ use Rattle.membership_view.specs.declared.status.Status.{Status}
 use Rattle.membership_view.specs.declared.status.Status.TheVariants as status
 use Rattle.silo_address.specs.Silo.{silo_eq}
 use Rattle.directory_rules.specs.declared.effect.Effect.{Effect}
-use Rattle.directory_rules.specs.Letter.{Letter}
-use Rattle.directory_rules.specs.Node.{Node}
+use Rattle.directory_rules.specs.State.{Letter, Node}
 use Rattle.directory_rules.specs.Step.{Stepped}
 use Rattle.directory_node.specs.Follows.{RefusesBy}
 use Rattle.silo_rules.specs.declared.news.News.{News}

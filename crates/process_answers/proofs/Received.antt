@@ -6,8 +6,8 @@ use Rattle.texts.specs.Words.{sentence}
 use Rattle.silo_address.specs.Silo.{Silo, silo_eq}
 use Rattle.directory_rules.specs.declared.effect.Effect.{Effect}
 use Rattle.directory_rules.specs.declared.letter_kind.LetterKind.{LetterKind}
-use Rattle.directory_rules.specs.Host.{Host}
-use Rattle.directory_rules.specs.Letter.{Letter, Body, kind_of}
+use Rattle.directory_rules.specs.State.{Host, Letter, Body}
+use Rattle.directory_rules.specs.Letter.{kind_of}
 use Rattle.directory_rules.specs.Step.{Stepped}
 use Rattle.directory_node.specs.Follows.{RefusesBy}
 use Rattle.silo_rules.specs.SiloValue.{SiloValue}

@@ -8,8 +8,9 @@ use Rattle.directory_rules.specs.declared.effect.Effect.{Effect}
 use Rattle.directory_rules.specs.declared.held.Held.{Held}
 use Rattle.directory_rules.specs.declared.letter_kind.LetterKind.{LetterKind}
 use Rattle.directory_rules.specs.declared.outcome.Happening.TheVariants.{Did}
-use Rattle.directory_rules.specs.Host.{Host, entry_of}
-use Rattle.directory_rules.specs.Letter.{Letter, kind_of}
+use Rattle.directory_rules.specs.State.{Host, Letter}
+use Rattle.directory_rules.specs.Host.{entry_of}
+use Rattle.directory_rules.specs.Letter.{kind_of}
 use Rattle.script_rules.specs.Lines.{happening_words}
 use Rattle.script_lines.proofs.SomeWords.{happening_has_words}
 use Rattle.process_rules.specs.Happened.{body_words, delivered_words, is_ignored, received_words}

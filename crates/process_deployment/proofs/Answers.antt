@@ -22,9 +22,7 @@ use Rattle.directory_rules.specs.declared.policy.Policy.{Policy}
 use Rattle.directory_rules.specs.declared.reply.Reply.{Reply}
 use Rattle.directory_rules.specs.declared.reply.Reply.TheVariants as reply
 use Rattle.directory_rules.specs.declared.outcome.Happening.TheVariants.{Saw, Did}
-use Rattle.directory_rules.specs.Host.{Host}
-use Rattle.directory_rules.specs.Letter.{Letter, Body, Request_letter, Reply_letter, Ask_letter, Page_letter, Missing_letter, Done_letter, Query_letter, Report_letter, Behind_letter, Ahead_letter, Offer_letter}
-use Rattle.directory_rules.specs.Piece.{Piece}
+use Rattle.directory_rules.specs.State.{Host, Letter, Body, Request_letter, Reply_letter, Ask_letter, Page_letter, Missing_letter, Done_letter, Query_letter, Report_letter, Behind_letter, Ahead_letter, Offer_letter, Piece}
 use Rattle.directory_rules.specs.Placement.{silo_for}
 use Rattle.silo_rules.specs.declared.news.News.{News}
 use Rattle.silo_rules.specs.declared.news.News.TheVariants.{Known, Made, Replaced}

@@ -6,7 +6,7 @@ use Rattle.texts.specs.Words.{sentence}
 use Rattle.silo_address.specs.Silo.{silo_eq}
 use Rattle.silo_address.proofs.Same.{Decides-silo}
 use Rattle.hash_ring.specs.declared.hashing.Hashing.{Hashing}
-use Rattle.directory_rules.specs.Letter.{Letter}
+use Rattle.directory_rules.specs.State.{Letter}
 use Rattle.directory_rules.specs.Membership.{Change, Join, Leave, Die}
 use Rattle.silo_rules.specs.SiloValue.{SiloValue, own_status}
 use Rattle.silo_rules.specs.Steps.{receives}

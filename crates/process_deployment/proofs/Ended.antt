@@ -17,14 +17,13 @@ use Rattle.directory_rules.specs.declared.outcome.Happening.TheVariants.{Saw, Di
 use Rattle.directory_rules.specs.declared.own_step.OwnStep.{OwnStep}
 use Rattle.directory_rules.specs.Input.{Does}
 use Rattle.directory_rules.specs.Laws.{is_live, ArePeopled}
-use Rattle.directory_rules.specs.Letter.{Letter}
+use Rattle.directory_rules.specs.State.{Letter, World}
 use Rattle.directory_rules.specs.Settings.{Settings, AreSettings}
 use Rattle.directory_rules.specs.Step.{Stepped}
 use Rattle.directory_rules.specs.Membership.{Change, Join, Leave, Die, Membership, changed}
 use Rattle.silo_rules.specs.SiloValue.{SiloValue, first_silo, own_status}
 use Rattle.silo_rules.specs.Steps.{does, sees, receives}
 use Rattle.silo_rules.specs.Told.{Heard, told}
-use Rattle.directory_rules.specs.World.{World}
 use Rattle.directory_rules.proofs.Peopled.{peopled_after}
 use Rattle.membership_view.specs.Whole.{IsViews}
 use Rattle.script_rules.specs.Lines.{happening_words, refusal_line}

@@ -19,14 +19,12 @@ use Rattle.directory_rules.specs.Happens.{node_of}
 use Rattle.directory_rules.specs.Host.{asking_under}
 use Rattle.directory_rules.specs.declared.own_step.OwnStep.{OwnStep}
 use Rattle.directory_rules.specs.Input.{Input, Does, Receives, step, sight_of}
-use Rattle.directory_rules.specs.Letter.{Letter, Body, Request_letter, Reply_letter, Ask_letter, Page_letter, Missing_letter, Done_letter, Query_letter, Report_letter, Behind_letter, Ahead_letter, Offer_letter}
-use Rattle.directory_rules.specs.Node.{Node}
+use Rattle.directory_rules.specs.State.{Letter, Body, Request_letter, Reply_letter, Ask_letter, Page_letter, Missing_letter, Done_letter, Query_letter, Report_letter, Behind_letter, Ahead_letter, Offer_letter, Node, World}
 use Rattle.directory_rules.specs.PlainMachine.{Life, Is_asking, Is_firm, life_on, step_of_effect}
 use Rattle.directory_rules.specs.Receive.{received, received_body}
 use Rattle.directory_rules.specs.Reply.{at_seen, confirmed_by}
 use Rattle.directory_rules.specs.Settings.{Settings, AreSettings}
 use Rattle.directory_rules.specs.Step.{Stepped, silently}
-use Rattle.directory_rules.specs.World.{World}
 use Rattle.directory_facts.specs.Own.{HoldsOnce}
 use Rattle.directory_facts.proofs.Lawful.{nodes_are_own}
 use Rattle.directory_rules.specs.Membership.{Change, Join, Leave, Die, is_seeable}

@@ -14,8 +14,7 @@ use Rattle.directory_rules.specs.declared.effect.Effect.TheVariants as effect
 use Rattle.directory_rules.specs.declared.reply.Reply.{Reply}
 use Rattle.directory_rules.specs.declared.reply.Reply.TheVariants as reply
 use Rattle.directory_rules.specs.Host.{held_of, asking_under, is_asking_under, confirmed, next_closing, with_closing}
-use Rattle.directory_rules.specs.Letter.{Letter, Reply_letter}
-use Rattle.directory_rules.specs.Node.{Node}
+use Rattle.directory_rules.specs.State.{Letter, Reply_letter, Node}
 use Rattle.directory_rules.specs.Answer.{answered}
 use Rattle.directory_rules.specs.Receive.{reply_effect}
 use Rattle.directory_rules.specs.Sight.{is_next}

@@ -10,7 +10,7 @@ use Rattle.silo_address.proofs.Order.{silo_cmp_total}
 use Rattle.membership_view.specs.Changes.{occupant}
 use Rattle.hash_ring.specs.declared.hashing.Hashing.{Hashing}
 use Rattle.directory_rules.specs.Headline.{Headline}
-use Rattle.directory_rules.specs.Letter.{Letter}
+use Rattle.directory_rules.specs.State.{Letter}
 use Rattle.directory_rules.specs.Settings.{Settings, AreSettings}
 use Rattle.directory_rules.specs.Settled.{IsFirmOn}
 use Rattle.directory_facts.proofs.SeenRings.{seen_keep}

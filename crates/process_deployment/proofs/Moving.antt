@@ -17,7 +17,7 @@ use Rattle.directory_rules.specs.declared.outcome.Happening.TheVariants.{Saw, Di
 use Rattle.directory_rules.specs.declared.own_step.OwnStep.{OwnStep}
 use Rattle.directory_rules.specs.OwnStep.{IsOwnStep}
 use Rattle.directory_rules.specs.Input.{Does, Receives, step}
-use Rattle.directory_rules.specs.Letter.{Letter}
+use Rattle.directory_rules.specs.State.{Letter}
 use Rattle.directory_rules.specs.Settings.{Settings}
 use Rattle.directory_rules.specs.Step.{Stepped, silently}
 use Rattle.silo_rules.specs.declared.news.News.TheVariants.{Known}

@@ -6,7 +6,7 @@ use Rattle.std.proofs.lemmas.List.Elements.{All-nil, All-cons, All-head}
 use Rattle.silo_address.specs.Silo.{Silo, IsSilo, silo_cmp}
 use Rattle.silo_address.proofs.Order.{silo_cmp_total}
 use Rattle.directory_rules.specs.PlainMachine.{PlainStep, Nothing_changes, IsPlainStep, plain_of}
-use Rattle.directory_rules.specs.World.{World}
+use Rattle.directory_rules.specs.State.{World}
 use Rattle.directory_rules.specs.Membership.{Change, changed}
 use Rattle.deployment_headline.specs.Deployment.{Deployment}
 use Rattle.deployment_headline.specs.Steps as deployment

@@ -16,10 +16,10 @@ use Rattle.directory_rules.specs.declared.act.Request.{Request}
 use Rattle.directory_rules.specs.declared.reply.Why.{Why}
 use Rattle.directory_rules.specs.declared.reply.Reply.{Reply}
 use Rattle.directory_rules.specs.declared.reply.Reply.TheVariants as reply
-use Rattle.directory_rules.specs.Table.{Table, entry_at, with_entry, without_grain}
-use Rattle.directory_rules.specs.Piece.{Piece, Holding}
-use Rattle.directory_rules.specs.Snapshot.{Snapshot, Page, page_count, page_of, page_from, is_snapshot, shelf_answer, Hands_page, Has_none, Is_behind}
-use Rattle.directory_rules.specs.Recovery.{Report, Recovery, Recovered, Awaits_more, Has_union, Rejects, with_report, is_among, awaits_still, recovered}
+use Rattle.directory_rules.specs.State.{Table, Piece, Holding, Snapshot, Page, Report, Recovery}
+use Rattle.directory_rules.specs.Table.{entry_at, with_entry, without_grain}
+use Rattle.directory_rules.specs.Snapshot.{page_count, page_of, page_from, is_snapshot, shelf_answer, Hands_page, Has_none, Is_behind}
+use Rattle.directory_rules.specs.Recovery.{Recovered, Awaits_more, Has_union, Rejects, with_report, is_among, awaits_still, recovered}
 use Rattle.directory_rules.specs.Answer.{Turned, is_previous, registered_over, deregistered_from, found_reply, piece_with, serving_piece, served_by, answered_from, answered}
 use Rattle.directory_rules.proofs.Cases.{on_bool}
 use Rattle.directory_facts.specs.Named.{IsNamed, AreNamed}

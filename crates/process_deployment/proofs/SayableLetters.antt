@@ -3,10 +3,9 @@ use Rattle.std.proofs.Common.{arith, ◌≡◌, ℕ, suc, ◌+◌, ◌≤◌, Li
 use Rattle.std.specs.Prelude.{⊤, All, map}
 use Rattle.std.specs.List.{enumerate_from}
 use Rattle.std.proofs.lemmas.List.Elements.{All-map, All-weaker}
-use Rattle.directory_rules.specs.Letter.{Letter}
+use Rattle.directory_rules.specs.State.{Letter, Posted, World}
 use Rattle.directory_rules.specs.Run.{run_from_start}
 use Rattle.directory_rules.specs.Settings.{Settings, AreSettings}
-use Rattle.directory_rules.specs.World.{Posted, World}
 use Rattle.directory_facts.proofs.Lawful.{settings_stay}
 use Rattle.directory_facts.proofs.Reached.{everywhere}
 use Rattle.deployment_headline.specs.Limits.{with_room}

@@ -25,11 +25,9 @@ use Rattle.directory_rules.specs.declared.held.Phase.TheVariants.{Asking, Firm, 
 use Rattle.directory_rules.specs.declared.piece_state.PieceState.{PieceState}
 use Rattle.directory_rules.specs.declared.piece_state.PieceState.TheVariants as state
 use Rattle.directory_rules.specs.Members.{is_dead_status, members_of}
-use Rattle.directory_rules.specs.Piece.{Piece}
-use Rattle.directory_rules.specs.Recovery.{Recovery, new_recovery}
-use Rattle.directory_rules.specs.Host.{Host, grain_of, entry_of, act_in, held_acts, find_acts, outstanding, requests_about}
-use Rattle.directory_rules.specs.Letter.{Letter, Body, Request_letter, Query_letter}
-use Rattle.directory_rules.specs.Node.{Node}
+use Rattle.directory_rules.specs.State.{Piece, Recovery, Host, Letter, Body, Request_letter, Query_letter, Node}
+use Rattle.directory_rules.specs.Recovery.{new_recovery}
+use Rattle.directory_rules.specs.Host.{grain_of, entry_of, act_in, held_acts, find_acts, outstanding, requests_about}
 use Rattle.directory_rules.specs.Sent.{letter_to, letter_if_owned, owner_by, hash_of, request_of, request_letters, all_requests, requests_of_grain, recovery_of, query_letters, wants_by, all_wants}
 use Rattle.directory_rules.specs.Settings.{Settings}
 use Rattle.directory_rules.proofs.Cases.{on_bool}

@@ -26,12 +26,11 @@ use Rattle.directory_rules.specs.Members.{members_of}
 use Rattle.directory_rules.specs.Settings.{Settings}
 use Rattle.directory_rules.specs.Sight.{is_next}
 use Rattle.directory_rules.specs.Table.{table_of}
-use Rattle.directory_rules.specs.Piece.{Piece}
+use Rattle.directory_rules.specs.State.{Piece, Report, Recovery, Host, Letter, Body, Request_letter, Reply_letter, Page_letter, Missing_letter, Done_letter, Report_letter, Behind_letter, Ahead_letter, Offer_letter, Node}
 use Rattle.directory_rules.specs.Receive.{replying}
-use Rattle.directory_rules.specs.Recovery.{Report, Recovery, Awaits_more, new_recovery, recovered}
-use Rattle.directory_rules.specs.Host.{Host, entry_of, held_of, next_held, with_started, next_closing, with_closing, with_find, without_find, without_held, confirmed, renewed, renewed_phase, new_number, renewed_about, held_renewed_about, new_number_about}
-use Rattle.directory_rules.specs.Letter.{Letter, Body, Request_letter, Reply_letter, Page_letter, Missing_letter, Done_letter, Report_letter, Behind_letter, Ahead_letter, Offer_letter}
-use Rattle.directory_rules.specs.Node.{Node, new_node}
+use Rattle.directory_rules.specs.Recovery.{Awaits_more, new_recovery, recovered}
+use Rattle.directory_rules.specs.Host.{entry_of, held_of, next_held, with_started, next_closing, with_closing, with_find, without_find, without_held, confirmed, renewed, renewed_phase, new_number, renewed_about, held_renewed_about, new_number_about}
+use Rattle.directory_rules.specs.Node.{new_node}
 use Rattle.directory_rules.specs.Sent.{recovery_of, all_requests, all_wants}
 use Rattle.directory_rules.specs.Step as at
 use Rattle.directory_rules.specs.Transfer as tr

@@ -14,7 +14,7 @@ use Rattle.silo_address.specs.Silo.{Silo, IsSilo}
 use Rattle.silo_address.specs.SiloText.{words_of, silo_text}
 use Rattle.silo_address.proofs.SiloLaws.{words_are_numerals}
 use Rattle.hash_ring.specs.declared.hashing.Hashing.{Hashing}
-use Rattle.directory_rules.specs.Letter.{Letter}
+use Rattle.directory_rules.specs.State.{Letter}
 use Rattle.directory_rules.proofs.Cases.{on_bool}
 use Rattle.script_rules.specs.Script.{Grammar, is_text, is_remark}
 use Rattle.process_rules.specs.ReadLine.{Asked, Receive, longest_line, commands, asked_if_known, asked_of_words, read_silo_line}

@@ -10,10 +10,9 @@ use Rattle.silo_address.proofs.Order.{silo_cmp_total, silo_cmp_exact}
 use Rattle.membership_view.specs.Views.{view_at}
 use Rattle.directory_rules.specs.Members.{is_dead_in}
 use Rattle.directory_rules.specs.Settings.{Settings, AreSettings}
-use Rattle.directory_rules.specs.World.{World}
+use Rattle.directory_rules.specs.State.{World, Node}
 use Rattle.directory_rules.specs.Happens.{node_of}
 use Rattle.directory_rules.specs.PlainMachine.{life_on, IsPlainStep, plain_of}
-use Rattle.directory_rules.specs.Node.{Node}
 use Rattle.directory_facts.proofs.Lookups.{found_put}
 use Rattle.silo_rules.specs.SiloValue.{SiloValue}
 use Rattle.deployment_headline.proofs.Lists.{over, lookup-over}

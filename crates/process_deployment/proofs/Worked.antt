@@ -20,7 +20,7 @@ use Rattle.ring_range.specs.Range.{circle}
 use Rattle.ring_range.specs.Text.{read_range}
 use Rattle.ring_range.specs.Meet.{meet_of}
 use Rattle.ring_range.specs.Cut.{cut_parts}
-use Rattle.directory_rules.specs.Letter.{Letter}
+use Rattle.directory_rules.specs.State.{Letter}
 use Rattle.directory_rules.specs.Worked.{silo_a, silo_b, grain_a}
 use Rattle.process_rules.specs.LetterText.{letter_line}
 use Rattle.process_rules.specs.ReadLetter.{read_letter}

@@ -4,7 +4,7 @@ use Rattle.std.specs.Prelude.{◌≢◌, IsErrAnd, IsOk}
 use Rattle.std.proofs.lemmas.List.{append-nil}
 use Rattle.silo_address.specs.declared.Entry.{Entry}
 use Rattle.ring_range.specs.Range.{Range}
-use Rattle.directory_rules.specs.Letter.{Letter, Page_letter, Report_letter}
+use Rattle.directory_rules.specs.State.{Letter, Page_letter, Report_letter}
 use Rattle.script_rules.specs.Script.{number_word, ◌>>=◌}
 use Rattle.process_rules.specs.Entries.{TellsEntries}
 use Rattle.process_rules.specs.ReadLetter.{Head, letter_of, range_word, digest_word, are_pairs, entries_in, entry_of_words, report_for, a_report, page_for}

@@ -8,7 +8,7 @@ use Rattle.std.proofs.lemmas.List.Folds.{list_all_at}
 use Rattle.texts.proofs.Decided.{both}
 use Rattle.texts.specs.Words.{carriage_return}
 use Rattle.ring_range.specs.Range.{IsRange}
-use Rattle.directory_rules.specs.Letter.{Letter}
+use Rattle.directory_rules.specs.State.{Letter}
 use Rattle.silo_rules.specs.SiloValue.{SiloValue}
 use Rattle.script_rules.specs.Script.{is_text}
 use Rattle.process_rules.specs.LetterText.{letter_line}

@@ -5,7 +5,7 @@ use Rattle.std.proofs.Common.{arith}
 use Rattle.std.proofs.lemmas.Bool.Decides.{nat_tests}
 use Rattle.ring_range.specs.Range.{IsRange}
 use Rattle.hash_ring.specs.declared.hashing.Hashing.{Hashing}
-use Rattle.directory_rules.specs.Letter.{Letter}
+use Rattle.directory_rules.specs.State.{Letter}
 use Rattle.script_rules.specs.Script.{◌>>=◌}
 use Rattle.process_rules.specs.LetterText.{letter_line}
 use Rattle.process_rules.specs.ReadLine.{Receive, longest_line, asked_of_words, read_silo_line}

@@ -10,7 +10,7 @@ use Rattle.directory_rules.specs.declared.outcome.Happening.TheVariants.{Saw, Di
 use Rattle.script_rules.specs.Lines.{happening_words, refusal_line}
 use Rattle.directory_rules.specs.declared.own_step.OwnStep.{OwnStep}
 use Rattle.directory_rules.specs.Input.{Does}
-use Rattle.directory_rules.specs.Letter.{Letter}
+use Rattle.directory_rules.specs.State.{Letter}
 use Rattle.directory_rules.specs.Step.{Stepped}
 use Rattle.directory_rules.specs.Membership.{Change, Join, Leave, Die}
 use Rattle.silo_rules.specs.SiloValue.{SiloValue, own_status}

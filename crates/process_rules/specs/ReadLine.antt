@@ -10,7 +10,7 @@ use Rattle.hash_ring.specs.declared.hashing.Hashing.{Hashing}
 use Rattle.directory_rules.specs.declared.policy.Policy.{Policy}
 use Rattle.directory_rules.specs.declared.policy.Policy.TheVariants.{LeastHeld}
 use Rattle.directory_rules.specs.declared.own_step.OwnStep.{OwnStep}
-use Rattle.directory_rules.specs.Letter.{Letter}
+use Rattle.directory_rules.specs.State.{Letter}
 use Rattle.script_rules.specs.Script.{silo_word, grain_word, number_word, places_in, policy_word, Grammar, no_word, a_grain, own_steps, is_text, is_remark, ◌>>=◌}
 use Rattle.process_rules.specs.ReadLetter.{read_letter}
 

@@ -8,14 +8,11 @@ use Rattle.silo_address.proofs.Same.{Decides-silo}
 use Rattle.directory_rules.specs.declared.act.Act.{Act}
 use Rattle.directory_rules.specs.Answer.{is_numbered}
 use Rattle.directory_rules.specs.Host as host
-use Rattle.directory_rules.specs.Host.{Host}
+use Rattle.directory_rules.specs.State.{Host, Letter, Node, World, Accepted}
 use Rattle.directory_rules.specs.Laws.{requests_of, AreNumbered}
-use Rattle.directory_rules.specs.Letter.{Letter}
-use Rattle.directory_rules.specs.Node.{Node}
 use Rattle.directory_rules.specs.Event.{Deliver, Do}
 use Rattle.directory_rules.specs.Step.{Stepped}
 use Rattle.directory_rules.specs.Input.{Does}
-use Rattle.directory_rules.specs.World.{World, Accepted}
 use Rattle.directory_rules.specs.Happens.{happens, node_of, least_deliverable}
 use Rattle.directory_rules.specs.declared.own_step.OwnStep.TheVariants.{Nudge}
 use Rattle.directory_rules.proofs.Cases.{on_bool}

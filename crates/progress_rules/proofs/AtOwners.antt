@@ -15,12 +15,11 @@ use Rattle.directory_rules.specs.declared.held.Held.{Held}
 use Rattle.directory_rules.specs.declared.held.Phase.{Phase}
 use Rattle.directory_rules.specs.declared.held.Phase.TheVariants as phase
 use Rattle.directory_rules.specs.Answer.{is_numbered}
-use Rattle.directory_rules.specs.Host.{Host, act_in, entry_on, held_acts, find_acts, outstanding, new_number, renewed, renewed_phase}
+use Rattle.directory_rules.specs.State.{Host, Node, World}
+use Rattle.directory_rules.specs.Host.{act_in, entry_on, held_acts, find_acts, outstanding, new_number, renewed, renewed_phase}
 use Rattle.directory_rules.specs.Laws.{requests_of, AreNumbered}
-use Rattle.directory_rules.specs.Node.{Node}
 use Rattle.directory_rules.specs.Happens.{node_of}
 use Rattle.directory_rules.specs.Sight.{is_owner}
-use Rattle.directory_rules.specs.World.{World}
 use Rattle.progress_rules.specs.Second.{owner_in}
 use Rattle.progress_rules.specs.AnyOrder.{is_at_owner, asked_of}
 use Rattle.progress_rules.proofs.Fewer.{mapped_count, same_tests, no_more}

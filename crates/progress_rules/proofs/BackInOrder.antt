@@ -12,8 +12,7 @@ use Rattle.directory_rules.specs.Event.{Event, IsEvent}
 use Rattle.directory_rules.specs.Answer.{is_numbered}
 use Rattle.directory_rules.specs.Host.{held_acts, find_acts, outstanding}
 use Rattle.directory_rules.specs.Laws.{requests_of}
-use Rattle.directory_rules.specs.Node.{Node}
-use Rattle.directory_rules.specs.World.{World}
+use Rattle.directory_rules.specs.State.{Node, World}
 use Rattle.directory_rules.specs.Happens.{node_of}
 use Rattle.directory_facts.specs.Laws.{world_by}
 use Rattle.progress_rules.specs.Plan.{and_then, synced, IsBack, IsBackUnowned, HasOwners}

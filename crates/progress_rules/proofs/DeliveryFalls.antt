@@ -10,16 +10,14 @@ use Rattle.std.proofs.lemmas.List.Sums.{sum_by-cons}
 use Rattle.silo_address.specs.Silo.{silo_cmp}
 use Rattle.membership_view.specs.View.{ViewValue}
 use Rattle.directory_rules.specs.Members.{members_of}
-use Rattle.directory_rules.specs.Snapshot.{Page}
-use Rattle.directory_rules.specs.Gatherings.{Gathering, Refuses, gathered}
+use Rattle.directory_rules.specs.State.{Page, Gathering, Letter, Page_letter, Node, World, Posted}
+use Rattle.directory_rules.specs.Gatherings.{Refuses, gathered}
 use Rattle.directory_rules.specs.Host.{outstanding}
-use Rattle.directory_rules.specs.Letter.{Letter, Page_letter}
-use Rattle.directory_rules.specs.Node.{Node}
 use Rattle.directory_rules.specs.Sent.{gathering_of}
 use Rattle.directory_rules.specs.Step.{Stepped}
 use Rattle.directory_rules.specs.Receive.{received}
 use Rattle.directory_rules.specs.Transfer.{is_page_awaited}
-use Rattle.directory_rules.specs.World.{World, Posted, current_view}
+use Rattle.directory_rules.specs.World.{current_view}
 use Rattle.directory_rules.specs.Mail.{letter_of, with_delivered}
 use Rattle.directory_rules.specs.Happens.{node_of, with_node}
 use Rattle.directory_facts.proofs.Reached.{found_node}

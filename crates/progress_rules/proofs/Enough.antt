@@ -3,8 +3,7 @@ use Rattle.std.proofs.Common.{arith, ◌≡◌, refl, ap, ℕ}
 use Rattle.std.specs.Prelude.{true, false, is_some, option_map, Option, Some}
 use Rattle.std.proofs.lemmas.List.Sums.{count_by-le-length}
 use Rattle.texts.proofs.Decided.{both}
-use Rattle.directory_rules.specs.Node.{Node}
-use Rattle.directory_rules.specs.World.{Posted, World}
+use Rattle.directory_rules.specs.State.{Node, Posted, World}
 use Rattle.directory_rules.specs.Mail.{letter_of}
 use Rattle.directory_rules.specs.Laws.{IsMail}
 use Rattle.directory_rules.specs.Happens.{node_of, is_deliverable}

@@ -12,13 +12,11 @@ use Rattle.texts.proofs.Orderings.{at_itself, at_lower}
 use Rattle.silo_address.specs.Silo.{Silo, silo_cmp, silo_eq}
 use Rattle.silo_address.proofs.Order.{silo_cmp_total, silo_cmp_exact}
 use Rattle.silo_address.proofs.Same.{Decides-silo}
-use Rattle.directory_rules.specs.Letter.{Letter}
-use Rattle.directory_rules.specs.Node.{Node}
+use Rattle.directory_rules.specs.State.{Letter, Node, World, Posted, Accepted}
 use Rattle.directory_rules.specs.Event.{Deliver, Do}
 use Rattle.directory_rules.specs.Step.{Stepped}
 use Rattle.directory_rules.specs.Input.{Input, Does, step}
 use Rattle.directory_rules.specs.Receive.{received}
-use Rattle.directory_rules.specs.World.{World, Posted, Accepted}
 use Rattle.directory_rules.specs.Mail.{fresh_letter, numbered, letter_of, has_room_for, with_sent, with_delivered}
 use Rattle.directory_rules.specs.Laws.{RiseBetween}
 use Rattle.directory_rules.specs.declared.outcome.Happening.{Happening}

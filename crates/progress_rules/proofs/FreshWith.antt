@@ -8,8 +8,7 @@ use Rattle.std.specs.BTreeMap.{is_at}
 use Rattle.std.proofs.lemmas.List.{map-append}
 use Rattle.std.proofs.lemmas.List.Sums.{sum_by-cons, sum_by-append}
 use Rattle.std.proofs.lemmas.Map.Entries.{sum_by-set_value}
-use Rattle.directory_rules.specs.Letter.{Letter, Body}
-use Rattle.directory_rules.specs.World.{World, Posted}
+use Rattle.directory_rules.specs.State.{Letter, Body, World, Posted}
 use Rattle.directory_rules.specs.Mail.{fresh_letter, numbered, with_sent, with_delivered}
 use Rattle.progress_rules.specs.Room.{fresh_with}
 

@@ -14,12 +14,11 @@ use Rattle.directory_rules.specs.declared.act.Act.TheVariants as act
 use Rattle.directory_rules.specs.declared.effect.Effect.{Effect}
 use Rattle.directory_rules.specs.declared.effect.Effect.TheVariants as effect
 use Rattle.directory_rules.specs.declared.piece_state.PieceState.TheVariants as state
-use Rattle.directory_rules.specs.Table.{Table, table_of}
-use Rattle.directory_rules.specs.Snapshot.{Snapshot, Page, ShelfAnswer, Hands_page, Is_behind, is_snapshot, has_snapshot, shelf_answer, shelf_without}
+use Rattle.directory_rules.specs.State.{Table, Snapshot, Page, Letter, Body, Page_letter, Done_letter, Node}
+use Rattle.directory_rules.specs.Table.{table_of}
+use Rattle.directory_rules.specs.Snapshot.{ShelfAnswer, Hands_page, Is_behind, is_snapshot, has_snapshot, shelf_answer, shelf_without}
 use Rattle.directory_rules.specs.Host as host
 use Rattle.directory_rules.specs.Host.{next_held, entry_of}
-use Rattle.directory_rules.specs.Letter.{Letter, Body, Page_letter, Done_letter}
-use Rattle.directory_rules.specs.Node.{Node}
 use Rattle.directory_rules.specs.Sent.{request_letters, all_requests, requests_of_grain, all_wants}
 use Rattle.directory_rules.specs.Step.{Stepped, silently, sight, started}
 use Rattle.directory_rules.specs.Sight.{is_next}

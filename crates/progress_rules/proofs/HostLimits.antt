@@ -17,8 +17,8 @@ use Rattle.directory_rules.specs.declared.act.Act.TheVariants as act
 use Rattle.directory_rules.specs.declared.held.Held.{Held}
 use Rattle.directory_rules.specs.declared.held.Phase.TheVariants.{Firm}
 use Rattle.directory_rules.specs.Settings.{Settings}
-use Rattle.directory_rules.specs.Host.{Host, grain_of, outstanding, held_acts, find_acts, act_in, is_full_of_activations, is_full_of_finds, next_held, with_started, next_closing, with_closing, with_find, confirmed, without_held, without_find, renewed, renewed_phase, new_number, renewed_about, held_renewed_about, new_number_about}
-use Rattle.directory_rules.specs.Node.{Node}
+use Rattle.directory_rules.specs.State.{Host, Node}
+use Rattle.directory_rules.specs.Host.{grain_of, outstanding, held_acts, find_acts, act_in, is_full_of_activations, is_full_of_finds, next_held, with_started, next_closing, with_closing, with_find, confirmed, without_held, without_find, renewed, renewed_phase, new_number, renewed_about, held_renewed_about, new_number_about}
 use Rattle.directory_rules.specs.Step.{Stepped}
 use Rattle.directory_rules.specs.Input.{Input, step}
 use Rattle.directory_rules.proofs.Cases.{on_bool}

@@ -5,9 +5,8 @@ use Rattle.std.specs.Ordering.{nat_cmp}
 use Rattle.std.specs.Map.{lookup}
 use Rattle.std.specs.BTreeMap.{is_at}
 use Rattle.texts.proofs.Decided.{both}
-use Rattle.directory_rules.specs.Letter.{Letter}
+use Rattle.directory_rules.specs.State.{Letter, World, Posted, Accepted}
 use Rattle.directory_rules.specs.Event.{Deliver}
-use Rattle.directory_rules.specs.World.{World, Posted, Accepted}
 use Rattle.directory_rules.specs.Happens.{happens, least_deliverable}
 use Rattle.progress_rules.specs.Plan.{then_on, ended}
 use Rattle.progress_rules.specs.Second.{Flies}

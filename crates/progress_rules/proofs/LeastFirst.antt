@@ -5,7 +5,7 @@ use Rattle.std.specs.Ordering.{nat_cmp}
 use Rattle.std.specs.Map.{lookup}
 use Rattle.std.specs.BTreeMap.{is_at}
 use Rattle.directory_rules.specs.Event.{Event, Deliver}
-use Rattle.directory_rules.specs.World.{World, Accepted}
+use Rattle.directory_rules.specs.State.{World, Accepted}
 use Rattle.directory_rules.specs.Happens.{happens, least_deliverable}
 use Rattle.directory_rules.specs.Laws.{IsMail}
 use Rattle.directory_rules.proofs.Mails.{mail_there}

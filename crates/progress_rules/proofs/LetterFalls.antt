@@ -20,16 +20,14 @@ use Rattle.directory_rules.specs.declared.effect.Effect.TheVariants as effect
 use Rattle.directory_rules.specs.declared.piece_state.PieceState.{PieceState}
 use Rattle.directory_rules.specs.declared.piece_state.PieceState.TheVariants as state
 use Rattle.directory_rules.specs.Members.{members_of}
-use Rattle.directory_rules.specs.Table.{Table, rise_by_grain, lie_in}
-use Rattle.directory_rules.specs.Piece.{Piece}
-use Rattle.directory_rules.specs.Snapshot.{Page, shelf_answer}
-use Rattle.directory_rules.specs.Gatherings.{Gathering, Refuses, gathered}
-use Rattle.directory_rules.specs.Recovery.{Report, Recovered, Awaits_more, Has_union, Rejects, recovered}
-use Rattle.directory_rules.specs.Host.{Host, asking_under, closing_under, is_finding, is_outstanding, confirmed, without_held, without_find, with_started, next_held, entry_of}
-use Rattle.directory_rules.specs.Cache.{Cache, learnt}
+use Rattle.directory_rules.specs.State.{Table, Piece, Page, Gathering, Report, Host, Cache, Letter, Body, Request_letter, Reply_letter, Ask_letter, Page_letter, Missing_letter, Done_letter, Query_letter, Report_letter, Behind_letter, Ahead_letter, Offer_letter, Node}
+use Rattle.directory_rules.specs.Table.{rise_by_grain, lie_in}
+use Rattle.directory_rules.specs.Snapshot.{shelf_answer}
+use Rattle.directory_rules.specs.Gatherings.{Refuses, gathered}
+use Rattle.directory_rules.specs.Recovery.{Recovered, Awaits_more, Has_union, Rejects, recovered}
+use Rattle.directory_rules.specs.Host.{asking_under, closing_under, is_finding, is_outstanding, confirmed, without_held, without_find, with_started, next_held, entry_of}
+use Rattle.directory_rules.specs.Cache.{learnt}
 use Rattle.directory_rules.specs.Answer.{answered}
-use Rattle.directory_rules.specs.Letter.{Letter, Body, Request_letter, Reply_letter, Ask_letter, Page_letter, Missing_letter, Done_letter, Query_letter, Report_letter, Behind_letter, Ahead_letter, Offer_letter}
-use Rattle.directory_rules.specs.Node.{Node}
 use Rattle.directory_rules.specs.Sent.{letter_if_owned, owner_by, hash_of, request_of, gathering_of, recovery_of}
 use Rattle.directory_rules.specs.Step.{Stepped, silently, started}
 use Rattle.directory_rules.specs.Reply.{replied, at_seen, confirmed_by, yielded_by, ended_by, found_by, not_found_by}

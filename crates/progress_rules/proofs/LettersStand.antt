@@ -23,12 +23,11 @@ use Rattle.ring_range.specs.Range.{Range}
 use Rattle.hash_ring.specs.Places.{PlacesValue}
 use Rattle.directory_rules.proofs.Decided.{died}
 use Rattle.directory_rules.specs.Settings.{Settings, AreSettings}
-use Rattle.directory_rules.specs.Letter.{Letter, Body, Page_letter, Done_letter}
-use Rattle.directory_rules.specs.Node.{Node}
+use Rattle.directory_rules.specs.State.{Letter, Body, Page_letter, Done_letter, Node, World, Posted, Accepted}
 use Rattle.directory_rules.specs.Step.{Stepped}
 use Rattle.directory_rules.specs.Input.{Input, Sees, Receives, step, sight_of}
 use Rattle.directory_rules.specs.Event.{Event, IsEvent}
-use Rattle.directory_rules.specs.World.{World, Posted, Accepted, first_world, membership_of}
+use Rattle.directory_rules.specs.World.{first_world, membership_of}
 use Rattle.directory_rules.specs.Mail.{fresh_letter, numbered, letter_of, with_delivered, with_lost}
 use Rattle.directory_rules.specs.Happens.{happens, node_of, after_joining, counted}
 use Rattle.directory_rules.specs.Run.{run, world_after}

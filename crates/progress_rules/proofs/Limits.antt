@@ -6,7 +6,7 @@ use Rattle.directory_rules.specs.Settings.{Settings, AreSettings}
 use Rattle.directory_rules.specs.Input.{Input}
 use Rattle.directory_rules.specs.Event.{Event, IsEvent}
 use Rattle.directory_facts.specs.Laws.{world_by}
-use Rattle.directory_rules.specs.World.{World}
+use Rattle.directory_rules.specs.State.{World}
 use Rattle.progress_rules.specs.Plan.{plan}
 use Rattle.progress_rules.specs.Limits.{IsLimit, LimitsAloneRefuse, NumbersSuffice, NumbersNeverRefuse}
 use Rattle.progress_rules.proofs.Refused.{Refused}

@@ -11,14 +11,11 @@ use Rattle.ring_range.specs.Range.{Range}
 use Rattle.directory_rules.specs.declared.act.Act.{Act}
 use Rattle.directory_rules.specs.declared.piece_state.PieceState.{PieceState}
 use Rattle.directory_rules.specs.declared.piece_state.PieceState.TheVariants as state
-use Rattle.directory_rules.specs.Piece.{Piece}
+use Rattle.directory_rules.specs.State.{Piece, Letter, Body, Request_letter, Query_letter, Node, World}
 use Rattle.directory_rules.specs.Host as host
 use Rattle.directory_rules.specs.Host.{outstanding}
-use Rattle.directory_rules.specs.Letter.{Letter, Body, Request_letter, Query_letter}
-use Rattle.directory_rules.specs.Node.{Node}
 use Rattle.directory_rules.specs.Sent.{letter_to, letter_if_owned, owner_by, hash_of, request_of, request_letters, recovery_of, wants_by, all_requests, all_wants}
 use Rattle.directory_rules.specs.Step.{Stepped, having_nudged}
-use Rattle.directory_rules.specs.World.{World}
 use Rattle.directory_rules.specs.Happens.{node_of, with_node}
 use Rattle.progress_rules.specs.Room.{is_question, is_offer, fresh_with, over_pieces, requests_out, missing_of, awaits_one, pages_shelved}
 use Rattle.progress_rules.proofs.Resting.{IsResting}

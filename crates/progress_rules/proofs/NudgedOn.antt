@@ -12,15 +12,14 @@ use Rattle.range_moves.specs.Arcs.{owner_silo}
 use Rattle.directory_rules.specs.declared.act.Act.{Act}
 use Rattle.directory_rules.specs.declared.act.Request.{Request}
 use Rattle.directory_rules.specs.Host as host
-use Rattle.directory_rules.specs.Host.{Host, outstanding, grain_of}
+use Rattle.directory_rules.specs.State.{Host, Letter, Request_letter, Node, World, Accepted}
+use Rattle.directory_rules.specs.Host.{outstanding, grain_of}
 use Rattle.directory_rules.specs.Answer.{last_served, is_numbered}
-use Rattle.directory_rules.specs.Letter.{Letter, Request_letter}
-use Rattle.directory_rules.specs.Node.{Node}
 use Rattle.directory_rules.specs.Event.{Do}
 use Rattle.directory_rules.specs.Sent.{letter_to, hash_of, request_of, owner_by, all_requests}
 use Rattle.directory_rules.specs.Step.{Stepped, having_nudged}
 use Rattle.directory_rules.specs.Input.{Does}
-use Rattle.directory_rules.specs.World.{World, Accepted, current_ring}
+use Rattle.directory_rules.specs.World.{current_ring}
 use Rattle.directory_rules.specs.Happens.{happens, node_of}
 use Rattle.directory_rules.specs.Laws.{is_live, AreNumbered}
 use Rattle.directory_rules.specs.declared.own_step.OwnStep.TheVariants.{Nudge}

@@ -12,11 +12,12 @@ use Rattle.membership_view.specs.Changes.{occupant}
 use Rattle.hash_ring.specs.Places.{PlacesValue}
 use Rattle.directory_rules.specs.Settings.{Settings}
 use Rattle.directory_rules.specs.Host.{outstanding, has_numbers}
-use Rattle.directory_rules.specs.Node.{Node, new_node}
+use Rattle.directory_rules.specs.State.{Node, World, Accepted}
+use Rattle.directory_rules.specs.Node.{new_node}
 use Rattle.directory_rules.specs.Event.{Event}
 use Rattle.directory_rules.specs.Step.{Stepped}
 use Rattle.directory_rules.specs.Input.{Input, Receives, step, sight_of}
-use Rattle.directory_rules.specs.World.{World, Accepted, first_world, membership_of}
+use Rattle.directory_rules.specs.World.{first_world, membership_of}
 use Rattle.directory_rules.specs.Happens.{happens, node_of, counted, after_joining}
 use Rattle.directory_rules.specs.Run.{run, world_after}
 use Rattle.directory_facts.specs.Laws.{world_by}

@@ -21,11 +21,9 @@ use Rattle.directory_rules.specs.declared.piece_state.PieceState.{PieceState}
 use Rattle.directory_rules.specs.declared.piece_state.PieceState.TheVariants as state
 use Rattle.directory_rules.specs.Members.{members_of}
 use Rattle.directory_rules.specs.Table.{table_of, rise_by_grain, lie_in}
-use Rattle.directory_rules.specs.Snapshot.{Page}
-use Rattle.directory_rules.specs.Gatherings.{Gathering, Gathered, Wants_page, Has_all, Refuses, new_gathering, gathered}
-use Rattle.directory_rules.specs.Recovery.{Recovery, new_recovery}
-use Rattle.directory_rules.specs.Letter.{Letter, Ask_letter, Page_letter, Missing_letter, Query_letter}
-use Rattle.directory_rules.specs.Node.{Node}
+use Rattle.directory_rules.specs.State.{Page, Gathering, Recovery, Letter, Ask_letter, Page_letter, Missing_letter, Query_letter, Node}
+use Rattle.directory_rules.specs.Gatherings.{Gathered, Wants_page, Has_all, Refuses, new_gathering, gathered}
+use Rattle.directory_rules.specs.Recovery.{new_recovery}
 use Rattle.directory_rules.specs.Sent.{letter_to, gathering_of, recovery_of}
 use Rattle.directory_rules.specs.Step.{silently}
 use Rattle.directory_rules.specs.Transfer.{awaits, with_gathering, with_settled, gathered_by, is_page_awaited, paged, turned_to_recovery, querying, missing}

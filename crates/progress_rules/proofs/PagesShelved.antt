@@ -6,10 +6,8 @@ use Rattle.std.proofs.lemmas.List.Elements.{All-head, All-tail}
 use Rattle.silo_address.specs.declared.Entry.{Entry}
 use Rattle.membership_view.specs.View.{ViewValue}
 use Rattle.ring_range.specs.Range.{Range}
-use Rattle.directory_rules.specs.Snapshot.{Snapshot, Page, page_count, is_snapshot, has_snapshot}
-use Rattle.directory_rules.specs.Letter.{Letter, Page_letter}
-use Rattle.directory_rules.specs.Node.{Node}
-use Rattle.directory_rules.specs.World.{World}
+use Rattle.directory_rules.specs.State.{Snapshot, Page, Letter, Page_letter, Node, World}
+use Rattle.directory_rules.specs.Snapshot.{page_count, is_snapshot, has_snapshot}
 use Rattle.directory_rules.specs.Mail.{letter_of}
 use Rattle.directory_rules.specs.Happens.{node_of}
 use Rattle.directory_rules.proofs.Cases.{on_bool}

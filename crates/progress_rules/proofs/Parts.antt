@@ -21,8 +21,8 @@ use Rattle.directory_rules.specs.declared.reply.Reply.{Reply}
 use Rattle.directory_rules.specs.declared.reply.Reply.TheVariants as reply
 use Rattle.directory_rules.specs.declared.effect.Effect.TheVariants as effect
 use Rattle.directory_rules.specs.declared.own_step.OwnStep.TheVariants.{NudgeGrain}
-use Rattle.directory_rules.specs.Host.{Host, grain_of, entry_of, act_in, held_acts, find_acts, outstanding, requests_about, has_numbers, new_number_about, phase_renewed_about, held_renewed_about, renewed_about, is_asking_under, is_closing_under, asking_under, closing_under, is_finding, is_outstanding, without_find}
-use Rattle.directory_rules.specs.Node.{Node}
+use Rattle.directory_rules.specs.State.{Host, Node}
+use Rattle.directory_rules.specs.Host.{grain_of, entry_of, act_in, held_acts, find_acts, outstanding, requests_about, has_numbers, new_number_about, phase_renewed_about, held_renewed_about, renewed_about, is_asking_under, is_closing_under, asking_under, closing_under, is_finding, is_outstanding, without_find}
 use Rattle.directory_rules.specs.Step.{Stepped, silently, having_nudged_grain}
 use Rattle.directory_rules.specs.Input.{Does, step}
 use Rattle.directory_rules.specs.Cache.{learnt}

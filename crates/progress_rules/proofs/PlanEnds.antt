@@ -9,11 +9,10 @@ use Rattle.std.proofs.lemmas.List.Elements.{All-nil, All-cons, All-head, All-tai
 use Rattle.silo_address.specs.Silo.{Silo, IsSilo, silo_cmp}
 use Rattle.silo_address.proofs.Order.{silo_cmp_total}
 use Rattle.directory_rules.specs.Settings.{Settings, AreSettings}
-use Rattle.directory_rules.specs.Node.{Node}
+use Rattle.directory_rules.specs.State.{Node, Letter, World, Posted, Accepted}
 use Rattle.directory_rules.specs.Event.{See, Do, Deliver}
-use Rattle.directory_rules.specs.Letter.{Letter}
 use Rattle.directory_rules.specs.Input.{Input, Does, Receives, sight_of}
-use Rattle.directory_rules.specs.World.{World, Posted, Accepted, membership_of}
+use Rattle.directory_rules.specs.World.{membership_of}
 use Rattle.directory_rules.specs.Happens.{happens, node_of}
 use Rattle.directory_rules.proofs.Cases.{on_bool}
 use Rattle.directory_rules.proofs.Kept.{On}

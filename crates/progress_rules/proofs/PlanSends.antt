@@ -11,10 +11,8 @@ use Rattle.ring_range.specs.Range.{Range}
 use Rattle.directory_rules.specs.declared.piece_state.PieceState.{PieceState}
 use Rattle.directory_rules.specs.declared.piece_state.PieceState.TheVariants as state
 use Rattle.directory_rules.specs.Settings.{Settings, AreSettings}
-use Rattle.directory_rules.specs.Piece.{Piece}
-use Rattle.directory_rules.specs.Node.{Node}
+use Rattle.directory_rules.specs.State.{Piece, Node, World}
 use Rattle.directory_rules.specs.Event.{Event, IsEvent}
-use Rattle.directory_rules.specs.World.{World}
 use Rattle.directory_facts.specs.Laws.{world_by}
 use Rattle.progress_rules.specs.Plan.{and_then, synced, round, IsSettledPiece}
 use Rattle.progress_rules.specs.ComeBack.{HaveSeen, AreSettled}

@@ -9,10 +9,8 @@ use Rattle.ring_range.specs.Range.{Range}
 use Rattle.directory_rules.specs.declared.act.Act.{Act}
 use Rattle.directory_rules.specs.declared.piece_state.PieceState.{PieceState}
 use Rattle.directory_rules.specs.declared.piece_state.PieceState.TheVariants as state
-use Rattle.directory_rules.specs.Piece.{Piece}
+use Rattle.directory_rules.specs.State.{Piece, Letter, Body, Request_letter, Ask_letter, Query_letter, Offer_letter, Node}
 use Rattle.directory_rules.specs.Host.{outstanding, requests_about}
-use Rattle.directory_rules.specs.Letter.{Letter, Body, Request_letter, Ask_letter, Query_letter, Offer_letter}
-use Rattle.directory_rules.specs.Node.{Node}
 use Rattle.directory_rules.specs.Sent.{letter_to, letter_if_owned, owner_by, hash_of, request_of, request_letters, gathering_of, recovery_of, query_letters, wants_by, all_requests, requests_of_grain, all_wants}
 use Rattle.progress_rules.specs.Room.{is_question, is_offer}
 use Rattle.progress_rules.proofs.FreshWith.{sent_with}

@@ -11,7 +11,8 @@ use Rattle.membership_view.specs.Whole.{IsViews}
 use Rattle.directory_rules.specs.Membership.{is_seeable, joined_in}
 use Rattle.directory_rules.specs.Settings.{Settings, AreSettings}
 use Rattle.directory_rules.specs.Event.{Event, IsEvent}
-use Rattle.directory_rules.specs.World.{World, Accepted, membership_of}
+use Rattle.directory_rules.specs.State.{World, Accepted}
+use Rattle.directory_rules.specs.World.{membership_of}
 use Rattle.directory_rules.specs.Laws.{IsMail, ArePeopled}
 use Rattle.directory_rules.specs.Happens.{happens}
 use Rattle.directory_rules.specs.Run.{world_after}

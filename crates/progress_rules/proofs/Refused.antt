@@ -6,14 +6,13 @@ use Rattle.silo_address.specs.Silo.{Silo}
 use Rattle.membership_view.specs.Views.{view_at}
 use Rattle.directory_rules.specs.Membership.{is_seeable}
 use Rattle.directory_rules.specs.Host.{outstanding, has_numbers}
-use Rattle.directory_rules.specs.Letter.{Letter}
-use Rattle.directory_rules.specs.Node.{Node}
+use Rattle.directory_rules.specs.State.{Letter, Node, World, Accepted}
 use Rattle.directory_rules.specs.Sight.{is_next}
 use Rattle.directory_rules.specs.Step.{Stepped, sight}
 use Rattle.directory_rules.specs.Input.{Input, Does, Receives, step, sight_of}
 use Rattle.directory_rules.specs.Receive.{received}
 use Rattle.directory_rules.specs.Event.{See, Do, Deliver}
-use Rattle.directory_rules.specs.World.{World, Accepted, membership_of}
+use Rattle.directory_rules.specs.World.{membership_of}
 use Rattle.directory_rules.specs.Mail.{letter_of, has_room_for, with_delivered}
 use Rattle.directory_rules.specs.declared.outcome.Happening.{Happening}
 use Rattle.directory_rules.specs.declared.own_step.OwnStep.TheVariants.{Nudge}

@@ -5,14 +5,11 @@ use Rattle.std.proofs.lemmas.List.Elements.{All-nil}
 use Rattle.silo_address.specs.Silo.{Silo}
 use Rattle.directory_rules.specs.declared.act.Act.{Act}
 use Rattle.directory_rules.specs.declared.reply.Reply.{Reply}
-use Rattle.directory_rules.specs.Piece.{Holding}
+use Rattle.directory_rules.specs.State.{Holding, Letter, Body, Reply_letter, Node, World}
 use Rattle.directory_rules.specs.Answer.{last_served, is_numbered}
-use Rattle.directory_rules.specs.Letter.{Letter, Body, Reply_letter}
-use Rattle.directory_rules.specs.Node.{Node}
 use Rattle.directory_rules.specs.Step.{Stepped}
 use Rattle.directory_rules.specs.Reply.{replied}
 use Rattle.directory_rules.specs.Receive.{received, received_body}
-use Rattle.directory_rules.specs.World.{World}
 use Rattle.directory_rules.specs.Happens.{node_of}
 use Rattle.progress_rules.specs.Plan.{IsSettledPiece}
 use Rattle.progress_rules.specs.Requests.{Ends}

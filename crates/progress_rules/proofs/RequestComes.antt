@@ -11,15 +11,13 @@ use Rattle.range_moves.specs.Arcs.{owner_silo}
 use Rattle.directory_rules.specs.declared.act.Act.{Act}
 use Rattle.directory_rules.specs.declared.act.Request.{Request}
 use Rattle.directory_rules.specs.declared.effect.Effect.TheVariants as effect
-use Rattle.directory_rules.specs.Piece.{Piece}
+use Rattle.directory_rules.specs.State.{Piece, Letter, Body, Request_letter, Reply_letter, Node, World}
 use Rattle.directory_rules.specs.Sent.{letter_to}
 use Rattle.directory_rules.specs.Host.{grain_of}
 use Rattle.directory_rules.specs.Answer.{last_served, is_numbered, answered}
-use Rattle.directory_rules.specs.Letter.{Letter, Body, Request_letter, Reply_letter}
-use Rattle.directory_rules.specs.Node.{Node}
 use Rattle.directory_rules.specs.Step.{Stepped, silently}
 use Rattle.directory_rules.specs.Receive.{received, received_body, replying}
-use Rattle.directory_rules.specs.World.{World, current_ring}
+use Rattle.directory_rules.specs.World.{current_ring}
 use Rattle.directory_rules.specs.Mail.{letter_of, with_delivered}
 use Rattle.directory_rules.specs.Happens.{node_of}
 use Rattle.directory_rules.proofs.Cases.{on_bool}

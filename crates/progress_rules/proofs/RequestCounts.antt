@@ -15,7 +15,8 @@ use Rattle.directory_rules.specs.declared.act.Act.TheVariants as act
 use Rattle.directory_rules.specs.declared.held.Held.{Held}
 use Rattle.directory_rules.specs.declared.held.Phase.{Phase}
 use Rattle.directory_rules.specs.declared.held.Phase.TheVariants as phase
-use Rattle.directory_rules.specs.Host.{Host, act_in, held_acts, find_acts, outstanding, next_held, with_started, confirmed, without_held, without_find, new_number, renewed, renewed_phase}
+use Rattle.directory_rules.specs.State.{Host}
+use Rattle.directory_rules.specs.Host.{act_in, held_acts, find_acts, outstanding, next_held, with_started, confirmed, without_held, without_find, new_number, renewed, renewed_phase}
 use Rattle.directory_rules.specs.Laws.{requests_of}
 use Rattle.directory_rules.proofs.Cases.{on_bool}
 use Rattle.progress_rules.proofs.HostLimits.{removed_few, all_put_few}

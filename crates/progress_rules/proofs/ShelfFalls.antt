@@ -8,9 +8,8 @@ use Rattle.ring_range.specs.Range.{Range, range_eq}
 use Rattle.ring_range.proofs.Same.{Decides-range}
 use Rattle.hash_ring.specs.declared.Hashing.{Hashing}
 use Rattle.directory_rules.specs.declared.effect.Effect.TheVariants as effect
-use Rattle.directory_rules.specs.Snapshot.{Snapshot, Page, ShelfAnswer, Hands_page, Has_none, Is_behind, shelf_answer, is_snapshot, has_snapshot, shelf_without, page_from, page_of, page_count}
-use Rattle.directory_rules.specs.Letter.{Letter, Ask_letter, Page_letter, Missing_letter, Done_letter, Behind_letter}
-use Rattle.directory_rules.specs.Node.{Node}
+use Rattle.directory_rules.specs.State.{Snapshot, Page, Letter, Ask_letter, Page_letter, Missing_letter, Done_letter, Behind_letter, Node}
+use Rattle.directory_rules.specs.Snapshot.{ShelfAnswer, Hands_page, Has_none, Is_behind, shelf_answer, is_snapshot, has_snapshot, shelf_without, page_from, page_of, page_count}
 use Rattle.directory_rules.specs.Step.{silently}
 use Rattle.directory_rules.specs.Transfer.{asked_by, done}
 use Rattle.directory_rules.specs.Laws.{requests_of}

@@ -7,10 +7,8 @@ use Rattle.silo_address.specs.Silo.{Silo}
 use Rattle.membership_view.specs.View.{ViewValue}
 use Rattle.membership_view.specs.Views.{ViewsValue, status_at}
 use Rattle.ring_range.specs.Range.{Range}
-use Rattle.directory_rules.specs.Snapshot.{Page, has_snapshot}
-use Rattle.directory_rules.specs.Letter.{Letter, Body, Page_letter, Done_letter}
-use Rattle.directory_rules.specs.Node.{Node}
-use Rattle.directory_rules.specs.World.{World, Posted}
+use Rattle.directory_rules.specs.State.{Page, Letter, Body, Page_letter, Done_letter, Node, World, Posted}
+use Rattle.directory_rules.specs.Snapshot.{has_snapshot}
 use Rattle.directory_rules.specs.Happens.{node_of}
 use Rattle.progress_rules.specs.Gathers.{AwaitsFrom}
 use Rattle.progress_rules.proofs.HandedPages.{IsPast}

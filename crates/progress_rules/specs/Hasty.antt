@@ -2,7 +2,7 @@
 -- A nudge gives each request a new number, and a reply to the old one is ignored. One of another grain, or of the ranges, doesn't.
 use Rattle.std.specs.Prelude.{◌≡◌, ℕ, zero, suc, ◌+◌, true, List, [], ◌∷◌, ◌++◌}
 use Rattle.directory_rules.specs.Event.{Event, Join, See, Do, Deliver}
-use Rattle.directory_rules.specs.World.{World}
+use Rattle.directory_rules.specs.State.{World}
 use Rattle.directory_rules.specs.Run.{run_from_start}
 use Rattle.directory_rules.specs.declared.own_step.OwnStep.TheVariants.{Wake, Nudge, NudgeGrain, NudgeRanges}
 use Rattle.directory_rules.specs.Worked.{silo_a, silo_b, grain_a, grain_b}

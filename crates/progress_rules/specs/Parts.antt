@@ -9,7 +9,7 @@ use Rattle.directory_rules.specs.declared.effect.Effect.TheVariants.{Nudged}
 use Rattle.directory_rules.specs.declared.own_step.OwnStep.TheVariants.{NudgeGrain, NudgeRanges}
 use Rattle.directory_rules.specs.Settings.{Settings}
 use Rattle.directory_rules.specs.Host.{grain_of}
-use Rattle.directory_rules.specs.Node.{Node}
+use Rattle.directory_rules.specs.State.{Node}
 use Rattle.directory_rules.specs.Sent.{all_wants}
 use Rattle.directory_rules.specs.Event.{Event}
 use Rattle.directory_rules.specs.Step.{Stepped}

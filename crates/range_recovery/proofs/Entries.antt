@@ -6,7 +6,8 @@ use Rattle.silo_address.specs.Grain.{Grain}
 use Rattle.silo_address.specs.declared.Entry.{Entry}
 use Rattle.silo_address.proofs.Order.{grain_cmp_total}
 use Rattle.directory_rules.specs.Recovery.{with_reported}
-use Rattle.directory_rules.specs.Table.{Table, entry_at, with_entry, without_grain}
+use Rattle.directory_rules.specs.State.{Table}
+use Rattle.directory_rules.specs.Table.{entry_at, with_entry, without_grain}
 use Rattle.range_recovery.specs.Gathered.{without_grains}
 
 -- one grain more is taken out before the others

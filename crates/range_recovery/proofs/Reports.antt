@@ -9,7 +9,8 @@ use Rattle.hash_ring.proofs.Members.{In}
 use Rattle.hash_ring.proofs.StrictOrder.{Rising, Rising-from_sorted}
 use Rattle.std.specs.List.Sorted.{IsStrictlySortedBy}
 use Rattle.directory_rules.proofs.Cases.{on_bool}
-use Rattle.directory_rules.specs.Recovery.{Recovery, Report, Recovered, Rejects, recovered, with_report, awaits_still, is_among}
+use Rattle.directory_rules.specs.State.{Recovery, Report}
+use Rattle.directory_rules.specs.Recovery.{Recovered, Rejects, recovered, with_report, awaits_still, is_among}
 use Rattle.range_recovery.specs.declared.progress.RecoveryProgress.{RecoveryProgress}
 use Rattle.range_recovery.specs.declared.progress.RecoveryProgress.TheVariants.{More, Complete}
 use Rattle.range_recovery.specs.Progress.{progress_of}

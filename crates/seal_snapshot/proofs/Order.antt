@@ -5,7 +5,7 @@ use Rattle.std.specs.List.Sorted.{IsPartitionedBy}
 use Rattle.std.specs.Prelude.{nat_lt, ◌==◌, ◌&&◌, ◌||◌}
 use Rattle.std.proofs.lemmas.Bool.{and_parts, or_cases, cases_eq, or_right, and_from}
 use Rattle.std.proofs.lemmas.List.Elements.{All-filter, All-append}
-use Rattle.directory_rules.specs.Snapshot.{Snapshot}
+use Rattle.directory_rules.specs.State.{Snapshot}
 use Rattle.directory_rules.proofs.Cases.{on_bool}
 use Rattle.hash_ring.proofs.Members.{In-left, In-right, All-of, All-from_each}
 use Rattle.seal_snapshot.specs.Shelf.{AreInOrder, comes_before, is_before}

@@ -7,9 +7,8 @@ use Rattle.membership_view.specs.View.{ViewValue}
 use Rattle.ring_range.specs.Range.{Range}
 use Rattle.hash_ring.specs.declared.Hashing.{Hashing}
 use Rattle.range_moves.specs.declared.RingArc.{RingArc}
-use Rattle.directory_rules.specs.Piece.{Piece}
+use Rattle.directory_rules.specs.State.{Piece, Snapshot}
 use Rattle.directory_rules.specs.Sight.{is_handed_over, kept_entries, sealed, snapshot_for}
-use Rattle.directory_rules.specs.Snapshot.{Snapshot}
 use Rattle.directory_rules.specs.Table.{entries_of}
 use Rattle.directory_rules.proofs.Cases.{on_bool}
 use Rattle.seal_snapshot.specs.Laws.{SealedComesBehind}

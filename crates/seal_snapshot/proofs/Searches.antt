@@ -7,7 +7,8 @@ use Rattle.std.proofs.lemmas.Bool.{and_parts, cases_order, false_from_ne_true}
 use Rattle.std.proofs.lemmas.List.Elements.{All-head, All-tail}
 use Rattle.silo_address.specs.Silo.{Silo, silo_eq}
 use Rattle.ring_range.specs.Range.{Range, range_eq}
-use Rattle.directory_rules.specs.Snapshot.{Snapshot, is_snapshot, shelf_answer, page_from, Has_none, Is_behind}
+use Rattle.directory_rules.specs.State.{Snapshot}
+use Rattle.directory_rules.specs.Snapshot.{is_snapshot, shelf_answer, page_from, Has_none, Is_behind}
 use Rattle.seal_snapshot.specs.Shelf.{AreInOrder, IsAt, comes_before, is_before}
 use Rattle.seal_snapshot.proofs.Order.{apart, ordered_at}
 

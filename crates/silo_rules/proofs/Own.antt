@@ -1,7 +1,7 @@
 -- A step leaves a node its silo's, by the same settings.
 use Rattle.std.proofs.Common.{◌≡◌, refl}
 use Rattle.std.specs.Prelude.{Ok}
-use Rattle.directory_rules.specs.Node.{Node}
+use Rattle.directory_rules.specs.State.{Node}
 use Rattle.directory_rules.specs.Step.{Stepped}
 use Rattle.directory_rules.specs.Input.{Input, step}
 use Rattle.directory_facts.proofs.Ways.{Ways}

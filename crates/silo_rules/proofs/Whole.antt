@@ -11,7 +11,7 @@ use Rattle.hash_ring.specs.Places.{PlacesValue, after_add}
 use Rattle.hash_ring.specs.Ring.{ring_of}
 use Rattle.hash_ring.proofs.Lawful.{ring_stays}
 use Rattle.directory_rules.specs.Settings.{Settings, AreSettings}
-use Rattle.directory_rules.specs.Node.{Node}
+use Rattle.directory_rules.specs.State.{Node}
 use Rattle.directory_rules.specs.Step.{Stepped}
 use Rattle.directory_rules.specs.Input.{Input, Sees, Does, Receives, step, sight_of}
 use Rattle.directory_facts.specs.Seen.{SeesItsVersion}

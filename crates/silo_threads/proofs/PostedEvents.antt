@@ -4,7 +4,8 @@ use mathlib.Core.List.{IsPrefix}
 use Rattle.directory_rules.specs.Event.{Event}
 use Rattle.directory_rules.specs.Happens.{happens}
 use Rattle.directory_rules.specs.Settings.{Settings}
-use Rattle.directory_rules.specs.World.{World, accepted_as}
+use Rattle.directory_rules.specs.State.{World}
+use Rattle.directory_rules.specs.World.{accepted_as}
 use Rattle.directory_node.specs.Follows.{Follows, RefusesBy}
 use Rattle.directory_core.specs.Numbers.{IsNumberedUnlessMemory, event_refusal_number}
 use Rattle.directory_core.specs.declared.refusal.EventRefusal.{EventRefusal}

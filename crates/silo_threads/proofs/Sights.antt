@@ -9,8 +9,7 @@ use Rattle.directory_rules.specs.Event as rule
 use Rattle.directory_rules.specs.Event.{See}
 use Rattle.directory_rules.specs.EventModel.{event_of}
 use Rattle.directory_rules.specs.declared.Event.{Event}
-use Rattle.directory_rules.specs.Node.{Node}
-use Rattle.directory_rules.specs.World.{World}
+use Rattle.directory_rules.specs.State.{Node, World}
 use Rattle.script_rules.specs.Output.{sync_events, unseen_versions}
 
 -- those of a silo that are left

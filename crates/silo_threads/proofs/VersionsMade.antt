@@ -3,7 +3,8 @@ use Rattle.std.proofs.Common.{◌≡◌, ◌≤◌, ℕ, Option, Some, None, Res
 use Rattle.directory_rules.specs.Event.{Event}
 use Rattle.directory_rules.specs.declared.outcome.Outcome.{Outcome}
 use Rattle.directory_rules.specs.Happens.{happens}
-use Rattle.directory_rules.specs.World.{Accepted, World, accepted_as}
+use Rattle.directory_rules.specs.State.{Accepted, World}
+use Rattle.directory_rules.specs.World.{accepted_as}
 use Rattle.directory_headline.proofs.Events.{by_event}
 use Rattle.silo_threads.specs.Followed.{version_made}
 

@@ -9,7 +9,8 @@ use Rattle.directory_rules.specs.Event.{Deliver}
 use Rattle.directory_rules.specs.Happens.{happens}
 use Rattle.directory_rules.specs.Mail.{letter_of}
 use Rattle.directory_rules.specs.Settings.{Settings}
-use Rattle.directory_rules.specs.World.{World, accepted_as}
+use Rattle.directory_rules.specs.State.{World}
+use Rattle.directory_rules.specs.World.{accepted_as}
 use Rattle.cluster_board.specs.Commits.{Declines}
 use Rattle.cluster_board.specs.Work.{Work}
 use Rattle.cluster_board.specs.declared.refusal.CommitRefusal.{CommitRefusal}

@@ -1,5 +1,5 @@
 use Rattle.std.proofs.Common.{ap, ◌∙◌, rules}
-use Rattle.directory_rules.specs.Host.{Host}
+use Rattle.directory_rules.specs.State.{Host}
 use Rattle.console_command.proofs.Counted.{place_chosen}
 use Rattle.console_command.proofs.place.chosen_place.Goals as goal
 

@@ -5,7 +5,8 @@ use Rattle.membership_view.specs.declared.status.Status.{Status}
 use Rattle.membership_view.specs.View.{ViewValue}
 use Rattle.membership_view.specs.Views.{ViewsValue, view_at}
 use Rattle.directory_rules.specs.Happens.{node_of}
-use Rattle.directory_rules.specs.World.{World, current_view}
+use Rattle.directory_rules.specs.State.{World}
+use Rattle.directory_rules.specs.World.{current_view}
 use Rattle.script_lines.proofs.Fronts.{begins_with_the_first}
 use Rattle.script_rules.specs.Show.{silo_lines}
 use Rattle.console_command.proofs.Lines.{begins_with_itself}

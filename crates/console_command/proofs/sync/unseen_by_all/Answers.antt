@@ -2,7 +2,7 @@ use Rattle.std.proofs.Common.{◌++◌, List, map, ap, sym, ◌∙◌, append-ni
 use Rattle.std.specs.Prelude.{flat_map}
 use Rattle.silo_address.specs.Silo.{Silo}
 use Rattle.directory_rules.specs.Event.{See}
-use Rattle.directory_rules.specs.Node.{Node}
+use Rattle.directory_rules.specs.State.{Node}
 use Rattle.script_rules.specs.Output.{unseen_versions}
 use Rattle.console_command.specs.Commands.{sights}
 use Rattle.console_command.specs.declared.sync.Unseen.{Unseen}

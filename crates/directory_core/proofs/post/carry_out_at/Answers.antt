@@ -1,7 +1,7 @@
 use Rattle.std.proofs.Common.{rules, ◌≡◌, ◌∙◌, length}
 use Rattle.silo_address.specs.Silo.{silo_cmp}
 use Rattle.silo_address.proofs.Order.{silo_cmp_total}
-use Rattle.directory_rules.specs.Node.{Node}
+use Rattle.directory_rules.specs.State.{Node}
 use Rattle.directory_node.specs.Plans.{changed}
 use Rattle.letter_mail.proofs.TakenBack.{undone}
 use Rattle.directory_core.proofs.Entries.{put_at}

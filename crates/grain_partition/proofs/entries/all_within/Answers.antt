@@ -4,7 +4,7 @@ use Rattle.silo_address.specs.Grain.{grain_cmp}
 use Rattle.texts.proofs.Entries.{sorted-nil}
 use Rattle.ring_range.specs.Range.{holds}
 use Rattle.hash_ring.specs.Hash.{hash_grain}
-use Rattle.directory_rules.specs.Piece.{Piece}
+use Rattle.directory_rules.specs.State.{Piece}
 use Rattle.directory_rules.specs.Table.{entries_of, with_entry}
 use Rattle.grain_table.specs.Table.{TableValue}
 use Rattle.grain_partition.proofs.Within.{one_piece_more, with_within, within-fold}

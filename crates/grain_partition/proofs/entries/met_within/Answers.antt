@@ -3,7 +3,7 @@ use Rattle.std.specs.Prelude.{filter, fold, Some, None, IsSome, option_copied}
 use Rattle.ring_range.specs.Range.{Range, holds}
 use Rattle.hash_ring.specs.Hash.{hash_grain}
 use Rattle.directory_rules.specs.Answer.{piece_with}
-use Rattle.directory_rules.specs.Piece.{Piece}
+use Rattle.directory_rules.specs.State.{Piece}
 use Rattle.directory_rules.specs.Sight.{was_settled}
 use Rattle.directory_rules.specs.Table.{entries_of, with_entry}
 use Rattle.grain_table.specs.Table.{TableValue}

@@ -3,9 +3,9 @@ use Rattle.std.specs.Prelude.{filter, fold, Some, None, IsSome, option_copied}
 use Rattle.std.specs.List.Sorted.{IsPermutation}
 use Rattle.ring_range.specs.Range.{Range, holds}
 use Rattle.directory_rules.specs.Answer.{piece_with}
-use Rattle.directory_rules.specs.Piece.{Piece}
+use Rattle.directory_rules.specs.State.{Piece, Table}
 use Rattle.directory_rules.specs.Sight.{is_kept, was_settled}
-use Rattle.directory_rules.specs.Table.{Table, entries_of, with_entry}
+use Rattle.directory_rules.specs.Table.{entries_of, with_entry}
 use Rattle.grain_partition.proofs.EntriesByWalk.{has_piece, less_behind, settles_at}
 use Rattle.grain_partition.proofs.ListsByWalk.{AreListed, listed_all, listed_more, listed_none}
 use Rattle.grain_partition.proofs.SettledHashes.{with_has}

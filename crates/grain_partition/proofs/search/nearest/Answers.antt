@@ -4,7 +4,7 @@ use Rattle.std.specs.Map.{lookup}
 use Rattle.std.specs.BTreeMap.{is_at}
 use Rattle.std.proofs.lemmas.Map.Keys.{le_from_not_gt, ge_from_not_lt}
 use Rattle.texts.proofs.Orderings.{upto_nat}
-use Rattle.directory_rules.specs.Piece.{Piece}
+use Rattle.directory_rules.specs.State.{Piece}
 use Rattle.grain_partition.proofs.PieceSearch.{nearest_before, nearest_round, past_where}
 use Rattle.grain_partition.proofs.search.nearest.Goals as goal
 

@@ -1,6 +1,6 @@
 use Rattle.std.proofs.Common.{◌≡◌, ◌<◌, true, false, sym, ◌∙◌, ap, if◌then◌else◌, Some, None, arith}
 use Rattle.ring_range.specs.Range.{circle, Range, holds}
-use Rattle.directory_rules.specs.Piece.{Piece}
+use Rattle.directory_rules.specs.State.{Piece}
 use Rattle.grain_partition.proofs.PieceSearch.{piece_with_nearest}
 use Rattle.grain_partition.proofs.search.piece_with.Goals as goal
 

@@ -1,7 +1,7 @@
 use Rattle.std.proofs.Common.{◌≡◌, ◌<◌, true, false, MatchOption, refl, sym, ◌∙◌, ap, subst, arith}
 use Rattle.ring_range.specs.Range.{circle, holds}
 use Rattle.directory_rules.specs.Laws.{lies_settled}
-use Rattle.directory_rules.specs.Piece.{Piece}
+use Rattle.directory_rules.specs.State.{Piece}
 use Rattle.directory_rules.specs.Sight.{is_settled}
 use Rattle.directory_rules.proofs.Cases.{on_bool}
 use Rattle.grain_partition.specs.Search.{SettlesAt}

@@ -2,7 +2,7 @@ use Rattle.std.proofs.Common.{◌≡◌, true, ap, ◌∙◌, rules}
 use Rattle.std.specs.Prelude.{IsOk}
 use Rattle.silo_address.specs.Silo.{silo_eq}
 use Rattle.membership_view.specs.View.{ViewValue}
-use Rattle.directory_rules.specs.Node.{Node}
+use Rattle.directory_rules.specs.State.{Node}
 use Rattle.directory_letters.specs.LetterModel.{body_of}
 use Rattle.directory_silo.specs.Numbers.{silo_refusal_number}
 use Rattle.process_answers.proofs.Received.{letter_refused, letter_taken}

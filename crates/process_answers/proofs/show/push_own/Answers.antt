@@ -2,8 +2,7 @@ use Rattle.std.proofs.Common.{ap, ◌∙◌, ◌++◌, ◌∷◌, [], codes, len
 use Rattle.std.specs.Fmt.{decimal}
 use Rattle.silo_address.specs.SiloText.{silo_text}
 use Rattle.membership_view.specs.View.{ViewValue}
-use Rattle.directory_rules.specs.Host.{Host}
-use Rattle.directory_rules.specs.Node.{Node}
+use Rattle.directory_rules.specs.State.{Host, Node}
 use Rattle.script_lines.specs.Spaced.{spaced}
 use Rattle.process_rules.specs.Show.{own_word}
 use Rattle.script_lines.proofs.Fronts.{begins_with_the_first}

@@ -2,7 +2,7 @@ use Rattle.std.proofs.Common.{◌≡◌, ap, sym, ◌∙◌, ℕ, List, Option, 
 use Rattle.hash_ring.specs.declared.hashing.Hashing.{Hashing}
 use Rattle.texts.specs.Words.{words_in}
 use Rattle.directory_rules.specs.declared.letter_kind.LetterKind.{LetterKind}
-use Rattle.directory_rules.specs.Letter.{Letter}
+use Rattle.directory_rules.specs.State.{Letter}
 use Rattle.process_rules.specs.ReadLetter.{Head, head_of_words, kinds, kind_among, letter_by, form_of, read_letter}
 use Rattle.process_lines.specs.Fronts.{Four, four_in}
 use Rattle.process_lines.specs.ReadAs.{Reads, head_of, told}

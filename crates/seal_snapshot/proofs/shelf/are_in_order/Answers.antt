@@ -1,6 +1,6 @@
 use Rattle.std.proofs.Common.{◌≡◌, ◌∙◌, ◌-◌, ap, sym, refl, true, false, get_or, arith}
 use Rattle.std.proofs.lemmas.List.{get_or_default}
-use Rattle.directory_rules.specs.Snapshot.{Snapshot}
+use Rattle.directory_rules.specs.State.{Snapshot}
 use Rattle.seal_snapshot.specs.Shelf.{comes_before}
 use Rattle.seal_snapshot.proofs.InOrder.{in_order-from_next}
 use Rattle.seal_snapshot.proofs.Order.{ordered_at}

@@ -1,5 +1,5 @@
 use Rattle.std.proofs.Common.{◌≡◌, ℕ, ◌+◌, ◌<◌, true, get_or}
-use Rattle.directory_rules.specs.Snapshot.{Snapshot}
+use Rattle.directory_rules.specs.State.{Snapshot}
 use Rattle.seal_snapshot.specs.Shelf.{comes_before}
 use Rattle.seal_snapshot.proofs.shelf.are_in_order.Given as goal
 

@@ -1,7 +1,7 @@
 use Rattle.std.proofs.Common.{◌≡◌, ◌∙◌, ◌++◌, ap, filter, not, rules}
 use Rattle.std.proofs.lemmas.Fn.{filter_same}
 use Rattle.directory_rules.specs.Members.{is_dead_in}
-use Rattle.directory_rules.specs.Snapshot.{Snapshot}
+use Rattle.directory_rules.specs.State.{Snapshot}
 use Rattle.seal_snapshot.proofs.shelf.fill.Goals as goal
 
 pub returns : goal.returns

@@ -4,7 +4,7 @@ use Rattle.silo_address.specs.Silo.{Silo}
 use Rattle.directory_rules.specs.Event as rule
 use Rattle.directory_rules.specs.Event.{See}
 use Rattle.directory_rules.specs.EventModel.{event_of}
-use Rattle.directory_rules.specs.Node.{Node}
+use Rattle.directory_rules.specs.State.{Node}
 use Rattle.script_rules.specs.Output.{unseen_versions}
 use Rattle.silo_threads.proofs.sync.sights.Goals as goal
 

@@ -1,5 +1,5 @@
 use Rattle.std.proofs.Common.{◌≡◌, Some, sym, subst, ap, ◌∙◌}
-use Rattle.directory_rules.specs.Node.{Node}
+use Rattle.directory_rules.specs.State.{Node}
 use Rattle.directory_rules.specs.Happens.{node_of}
 use Rattle.cluster_board.specs.Board.{BoardValue}
 use Rattle.cluster_board.specs.Due.{IsWorkOf}

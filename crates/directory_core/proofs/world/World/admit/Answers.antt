@@ -1,7 +1,7 @@
 use Rattle.std.proofs.Common.{◌≡◌, Ok, sym, subst}
 use Rattle.membership_view.specs.Changes.{after_join, with_join}
 use Rattle.directory_rules.specs.Membership.{Join}
-use Rattle.directory_rules.specs.World.{World}
+use Rattle.directory_rules.specs.State.{World}
 use Rattle.directory_core.specs.WorldModel.{world_of}
 use Rattle.directory_core.proofs.Kept.{joined_so, kept_made}
 use Rattle.directory_core.proofs.Made.{peopled}

@@ -1,5 +1,6 @@
 use Rattle.std.proofs.Common.{rules, ◌≤◌, ◌<◌, sym, subst, ap, arith}
-use Rattle.directory_rules.specs.World.{World, accepted_as}
+use Rattle.directory_rules.specs.State.{World}
+use Rattle.directory_rules.specs.World.{accepted_as}
 use Rattle.directory_rules.specs.EventModel.{event_of}
 use Rattle.directory_node.specs.Follows.{Follows}
 use Rattle.directory_core.specs.Applied.{excused}

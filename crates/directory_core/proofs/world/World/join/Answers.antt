@@ -2,7 +2,8 @@ use Rattle.std.proofs.Common.{refl, sym, ◌∙◌, ap, subst}
 use Rattle.std.specs.Prelude.{IsOk}
 use Rattle.directory_rules.specs.Happens.{decides}
 use Rattle.directory_rules.specs.Membership.{Join, changed}
-use Rattle.directory_rules.specs.World.{World, membership_of}
+use Rattle.directory_rules.specs.State.{World}
+use Rattle.directory_rules.specs.World.{membership_of}
 use Rattle.directory_rules.specs.declared.outcome.Happening.TheVariants.{Joined}
 use Rattle.directory_node.specs.Follows.{RefusesBy}
 use Rattle.directory_node.specs.MembershipModel.{change_refusal_number}

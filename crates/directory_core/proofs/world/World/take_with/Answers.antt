@@ -4,9 +4,8 @@ use Rattle.std.proofs.lemmas.Option.{same_Some}
 use Rattle.silo_address.specs.Silo.{Silo}
 use Rattle.directory_rules.specs.declared.LetterKind.{LetterKind}
 use Rattle.directory_rules.specs.declared.outcome.Happening.TheVariants.{Delivered}
-use Rattle.directory_rules.specs.Letter.{Letter, kind_of}
-use Rattle.directory_rules.specs.Node.{Node}
-use Rattle.directory_rules.specs.World.{World}
+use Rattle.directory_rules.specs.State.{Letter, Node, World}
+use Rattle.directory_rules.specs.Letter.{kind_of}
 use Rattle.directory_rules.specs.Mail.{has_room_for, letter_of, span_of, with_delivered}
 use Rattle.directory_rules.specs.Happens.{node_of}
 use Rattle.directory_node.specs.Plans.{Fits, changed}

@@ -1,6 +1,6 @@
 use Rattle.std.proofs.Common.{sym, ◌∙◌, ap, subst}
 use Rattle.hash_ring.specs.Places.{PlacesValue}
-use Rattle.directory_rules.specs.World.{World}
+use Rattle.directory_rules.specs.State.{World}
 use Rattle.directory_node.specs.Placed.{ArePlaced}
 use Rattle.directory_core.proofs.Made.{placed_sight}
 use Rattle.directory_core.proofs.world.World.transition.Goals as goal

@@ -3,8 +3,7 @@ use Rattle.std.specs.Map.{lookup}
 use Rattle.std.specs.BTreeMap.{is_at}
 use Rattle.std.specs.Ordering.{nat_cmp}
 use Rattle.ring_range.specs.Range.{Range}
-use Rattle.directory_rules.specs.Recovery.{Recovery}
-use Rattle.directory_rules.specs.Node.{Node}
+use Rattle.directory_rules.specs.State.{Recovery, Node}
 use Rattle.directory_rules.specs.Transfer.{with_settled}
 use Rattle.directory_node.specs.NodeModel.{node_of}
 use Rattle.node_plans.proofs.CountedReports.{Takes, counted, kept_by_taking, left_by_more, left_by_union, takes_by}

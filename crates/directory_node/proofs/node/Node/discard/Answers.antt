@@ -1,6 +1,7 @@
 use Rattle.std.proofs.Common.{◌≤◌, sym, subst, List}
 use Rattle.std.specs.Prelude.{All, not}
-use Rattle.directory_rules.specs.Snapshot.{Snapshot, is_snapshot}
+use Rattle.directory_rules.specs.State.{Snapshot}
+use Rattle.directory_rules.specs.Snapshot.{is_snapshot}
 use Rattle.node_plans.proofs.Kept.{all_kept}
 use Rattle.directory_node.proofs.node.Node.discard.Goals as goal
 

@@ -4,8 +4,8 @@ use Rattle.std.specs.Option.{unwrap_or}
 use Rattle.std.specs.Map.{lookup}
 use Rattle.std.specs.BTreeMap.{insert_entry, is_at}
 use Rattle.std.specs.Ordering.{nat_cmp}
-use Rattle.directory_rules.specs.Gatherings.{Gathering, gathered, new_gathering, with_page}
-use Rattle.directory_rules.specs.Node.{Node}
+use Rattle.directory_rules.specs.State.{Gathering, Node}
+use Rattle.directory_rules.specs.Gatherings.{gathered, new_gathering, with_page}
 use Rattle.directory_rules.specs.Table.{rise_by_grain}
 use Rattle.seal_snapshot.specs.Progress.{progress_of}
 use Rattle.node_plans.specs.Plans.{GoesOn}

@@ -1,6 +1,6 @@
 use Rattle.std.proofs.Common.{◌≡◌, refl, sym, subst}
 use Rattle.std.specs.Prelude.{All, true}
-use Rattle.directory_rules.specs.Gatherings.{Gathering}
+use Rattle.directory_rules.specs.State.{Gathering}
 use Rattle.directory_rules.specs.Table.{rise_by_grain}
 use Rattle.node_plans.proofs.Values.{all_put}
 use Rattle.directory_node.proofs.node.Node.gather_anew.Goals as goal

@@ -3,7 +3,7 @@ use Rattle.std.specs.Prelude.{flat_map}
 use Rattle.std.proofs.lemmas.Result.{IfOk-weaker}
 use Rattle.hash_ring.specs.Ring.{RingValue}
 use Rattle.directory_rules.specs.Host.{outstanding, renewed}
-use Rattle.directory_rules.specs.Node.{Node}
+use Rattle.directory_rules.specs.State.{Node}
 use Rattle.directory_rules.specs.Sent.{request_letters}
 use Rattle.node_plans.specs.Sender.{ahead, bare, wants_of}
 use Rattle.node_plans.proofs.Alike.{bare_requests, bare_wants}

@@ -1,5 +1,5 @@
 use Rattle.std.proofs.Common.{ap, ◌∙◌}
-use Rattle.directory_rules.specs.Node.{Node}
+use Rattle.directory_rules.specs.State.{Node}
 use Rattle.grain_partition.specs.Seen.{pieces_seen}
 use Rattle.directory_node.proofs.node.Node.pieces_seen.Goals as goal
 

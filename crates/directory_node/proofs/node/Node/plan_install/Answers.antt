@@ -2,7 +2,7 @@ use Rattle.std.proofs.Common.{◌≡◌, sym, subst, ap, ◌∙◌, ◌++◌, �
 use Rattle.std.proofs.lemmas.Result.{IfOk-weaker}
 use Rattle.ring_range.specs.Range.{Range}
 use Rattle.directory_rules.specs.declared.Effect.TheVariants.{Installed}
-use Rattle.directory_rules.specs.Letter.{Done_letter}
+use Rattle.directory_rules.specs.State.{Done_letter}
 use Rattle.directory_rules.specs.Table.{table_of}
 use Rattle.directory_rules.specs.Transfer.{answer_to, gathered_by, with_settled}
 use Rattle.grain_partition.specs.Holdings.{HasPiece}

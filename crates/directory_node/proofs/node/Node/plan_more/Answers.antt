@@ -2,7 +2,7 @@ use Rattle.std.proofs.Common.{arith, ◌≡◌, ◌+◌, refl, sym, ap, ◌∙�
 use Rattle.std.proofs.lemmas.Result.{IfOk-weaker}
 use Rattle.directory_rules.specs.declared.Effect.TheVariants as effect
 use Rattle.directory_rules.specs.Gatherings.{with_page}
-use Rattle.directory_rules.specs.Letter.{Ask_letter}
+use Rattle.directory_rules.specs.State.{Ask_letter}
 use Rattle.directory_rules.specs.Sent.{gathering_of, letter_to}
 use Rattle.directory_rules.specs.Step.{Stepped}
 use Rattle.directory_rules.specs.Transfer.{with_gathering}

@@ -3,7 +3,8 @@ use Rattle.std.specs.Prelude.{Ok, Err}
 use Rattle.std.proofs.lemmas.Result.{IfOk-weaker}
 use Rattle.ring_range.specs.Range.{Range}
 use Rattle.directory_rules.specs.declared.Effect.TheVariants.{Refused}
-use Rattle.directory_rules.specs.Gatherings.{Gathering, gathered, new_gathering}
+use Rattle.directory_rules.specs.State.{Gathering}
+use Rattle.directory_rules.specs.Gatherings.{gathered, new_gathering}
 use Rattle.directory_rules.specs.Sent.{gathering_of}
 use Rattle.directory_rules.specs.Step.{Stepped}
 use Rattle.directory_rules.specs.Table.{rise_by_grain}

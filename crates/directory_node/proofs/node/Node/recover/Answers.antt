@@ -4,8 +4,7 @@ use Rattle.std.specs.BTreeMap.{insert_entry, is_at}
 use Rattle.std.specs.Ordering.{nat_cmp}
 use Rattle.ring_range.specs.Range.{Range}
 use Rattle.directory_rules.specs.Answer.{with_piece}
-use Rattle.directory_rules.specs.Piece.{Piece, Holding}
-use Rattle.directory_rules.specs.Gatherings.{Gathering}
+use Rattle.directory_rules.specs.State.{Piece, Holding, Gathering}
 use Rattle.directory_rules.specs.Table.{rise_by_grain}
 use Rattle.directory_rules.specs.declared.PieceState.TheVariants.{Recovering}
 use Rattle.node_plans.specs.Node.{HaveRecoveries}

@@ -1,6 +1,6 @@
 use Rattle.std.proofs.Common.{ap, ◌∙◌, length}
 use Rattle.directory_rules.specs.Host.{has_numbers, requests_about}
-use Rattle.directory_rules.specs.Node.{Node}
+use Rattle.directory_rules.specs.State.{Node}
 use Rattle.node_plans.proofs.Numbers.{numbers_fit}
 use Rattle.directory_node.proofs.node.Node.renew_about.Goals as goal
 

@@ -1,7 +1,6 @@
 use Rattle.std.proofs.Common.{◌≡◌, ap, subst}
 use Rattle.std.specs.Prelude.{IfOk}
-use Rattle.directory_rules.specs.Host.{Host}
-use Rattle.directory_rules.specs.Node.{Node}
+use Rattle.directory_rules.specs.State.{Host, Node}
 use Rattle.host_activations.specs.Renewal.{renewal_of}
 use Rattle.directory_node.proofs.node.Node.renewal.Goals as goal
 

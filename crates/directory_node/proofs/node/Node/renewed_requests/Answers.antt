@@ -1,7 +1,7 @@
 use Rattle.std.proofs.Common.{◌≡◌, ap, subst, sym, ◌∙◌}
 use Rattle.std.specs.Prelude.{IfOk}
-use Rattle.directory_rules.specs.Host.{Host, outstanding, renewed}
-use Rattle.directory_rules.specs.Node.{Node}
+use Rattle.directory_rules.specs.State.{Host, Node}
+use Rattle.directory_rules.specs.Host.{outstanding, renewed}
 use Rattle.host_activations.specs.Renewal.{renewal_of}
 use Rattle.directory_node.proofs.node.Node.renewed_requests.Goals as goal
 

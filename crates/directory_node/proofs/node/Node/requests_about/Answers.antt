@@ -1,7 +1,7 @@
 use Rattle.std.proofs.Common.{◌≡◌, ap, subst, ◌∙◌, length}
 use Rattle.std.specs.Prelude.{IfOk}
-use Rattle.directory_rules.specs.Host.{Host, has_numbers, renewed_about, requests_about}
-use Rattle.directory_rules.specs.Node.{Node}
+use Rattle.directory_rules.specs.State.{Host, Node}
+use Rattle.directory_rules.specs.Host.{has_numbers, renewed_about, requests_about}
 use Rattle.node_plans.proofs.Numbers.{numbers_fit}
 use Rattle.directory_node.proofs.node.Node.requests_about.Goals as goal
 

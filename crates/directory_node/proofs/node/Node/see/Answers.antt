@@ -1,7 +1,6 @@
 use Rattle.std.proofs.Common.{◌≡◌, length, sym, ap, subst, ◌∙◌, []}
 use Rattle.directory_rules.specs.Host.{has_numbers, outstanding}
-use Rattle.directory_rules.specs.Node.{Node}
-use Rattle.directory_rules.specs.Piece.{Holding}
+use Rattle.directory_rules.specs.State.{Node, Holding}
 use Rattle.directory_rules.specs.Sight.{pieces_after}
 use Rattle.grain_partition.specs.Holdings.{ArePieces}
 use Rattle.host_activations.specs.Renewal.{renewal_of}

@@ -1,12 +1,11 @@
 use Rattle.std.proofs.Common.{◌≡◌, refl, sym, subst, ap, ◌∙◌, ℕ}
 use Rattle.std.specs.Prelude.{All, true}
 use Rattle.std.specs.Map.{remove_entry}
-use Rattle.directory_rules.specs.Gatherings.{Gathering}
+use Rattle.directory_rules.specs.State.{Gathering, Piece, Holding}
 use Rattle.directory_rules.specs.Table.{rise_by_grain}
 use Rattle.std.specs.BTreeMap.{is_at}
 use Rattle.std.specs.Ordering.{nat_cmp}
 use Rattle.directory_rules.specs.Answer.{with_piece}
-use Rattle.directory_rules.specs.Piece.{Piece, Holding}
 use Rattle.directory_rules.specs.declared.PieceState.TheVariants.{Settled}
 use Rattle.node_plans.specs.Node.{HaveRecoveries}
 use Rattle.node_plans.proofs.Kept.{settled_removes}

@@ -1,5 +1,5 @@
 use Rattle.std.proofs.Common.{◌∙◌, ap, sym, subst}
-use Rattle.directory_rules.specs.Piece.{Holding}
+use Rattle.directory_rules.specs.State.{Holding}
 use Rattle.grain_table.proofs.Within.{if_ok}
 use Rattle.grain_partition.specs.Seen.{pieces_seen}
 use Rattle.grain_partition.specs.Sight.{AreApart}

@@ -1,5 +1,5 @@
 use Rattle.std.proofs.Common.{◌≡◌, ◌∙◌, ap, sym, subst}
-use Rattle.directory_rules.specs.Piece.{Holding}
+use Rattle.directory_rules.specs.State.{Holding}
 use Rattle.directory_rules.specs.Sight.{pieces_after}
 use Rattle.grain_partition.specs.Holdings.{ArePieces}
 use Rattle.grain_partition.specs.Sight.{AreApart}

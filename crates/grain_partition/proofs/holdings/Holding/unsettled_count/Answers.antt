@@ -2,7 +2,7 @@ use Rattle.std.proofs.Common.{◌≡◌, refl, ap, ◌∙◌, ℕ, List, [], ◌
 use Rattle.std.specs.Prelude.{count_by}
 use Rattle.std.specs.Map.{values_of}
 use Rattle.std.proofs.lemmas.List.Sums.{length-filter, sum_by-cons}
-use Rattle.directory_rules.specs.Piece.{Holding, Piece}
+use Rattle.directory_rules.specs.State.{Holding, Piece}
 use Rattle.directory_rules.specs.Sight.{is_settled}
 use Rattle.grain_partition.proofs.holdings.Holding.unsettled_count.Goals as goal
 

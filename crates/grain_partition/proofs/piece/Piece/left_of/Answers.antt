@@ -2,9 +2,8 @@ use Rattle.std.proofs.Common.{◌∙◌, ap, [], ◌∷◌}
 use Rattle.std.specs.Prelude.{filter, not}
 use Rattle.directory_rules.specs.declared.PieceState.TheVariants.{Settled}
 use Rattle.directory_rules.specs.Members.{is_dead_in}
-use Rattle.directory_rules.specs.Piece.{Piece}
+use Rattle.directory_rules.specs.State.{Piece, Table}
 use Rattle.directory_rules.specs.Sight.{kept_entries}
-use Rattle.directory_rules.specs.Table.{Table}
 use Rattle.grain_table.specs.Table.{TableValue}
 use Rattle.grain_partition.proofs.Tidy.{kept_in_steps}
 use Rattle.grain_partition.proofs.piece.Piece.left_of.Goals as goal

@@ -1,6 +1,7 @@
 use Rattle.std.proofs.Common.{◌≡◌, sym, ap, subst, ◌∙◌, ◌+◌, Some, None}
 use Rattle.std.specs.Prelude.{IfSome}
-use Rattle.directory_rules.specs.Host.{Host, held_of, with_closing}
+use Rattle.directory_rules.specs.State.{Host}
+use Rattle.directory_rules.specs.Host.{held_of, with_closing}
 use Rattle.directory_rules.specs.declared.Phase.TheVariants.{Closing}
 use Rattle.host_activations.specs.Activations.{ActivationsValue}
 use Rattle.host_activations.specs.HostModel.{host_of}

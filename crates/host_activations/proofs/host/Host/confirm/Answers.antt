@@ -1,6 +1,7 @@
 use Rattle.std.proofs.Common.{◌≡◌, sym, ap, subst, ◌∙◌, None}
 use Rattle.std.specs.Prelude.{MatchOption}
-use Rattle.directory_rules.specs.Host.{Host, confirmed}
+use Rattle.directory_rules.specs.State.{Host}
+use Rattle.directory_rules.specs.Host.{confirmed}
 use Rattle.directory_rules.specs.declared.Phase.TheVariants.{Firm}
 use Rattle.host_activations.specs.Activations.{ActivationsValue}
 use Rattle.host_activations.proofs.Fields.{meant}

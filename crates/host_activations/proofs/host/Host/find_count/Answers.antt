@@ -1,5 +1,5 @@
 use Rattle.std.proofs.Common.{ap, ◌∙◌, length}
-use Rattle.directory_rules.specs.Host.{Host}
+use Rattle.directory_rules.specs.State.{Host}
 use Rattle.host_activations.proofs.host.Host.find_count.Goals as goal
 
 pub returns : goal.returns

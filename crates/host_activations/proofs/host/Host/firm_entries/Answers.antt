@@ -1,6 +1,7 @@
 use Rattle.std.proofs.Common.{ap, subst, ◌≡◌}
 use Rattle.std.specs.Prelude.{IfOk}
-use Rattle.directory_rules.specs.Host.{Host, firm_entries}
+use Rattle.directory_rules.specs.State.{Host}
+use Rattle.directory_rules.specs.Host.{firm_entries}
 use Rattle.host_activations.proofs.host.Host.firm_entries.Goals as goal
 
 pub returns : goal.returns

@@ -1,5 +1,6 @@
 use Rattle.std.proofs.Common.{ap, sym, ◌∙◌, is_some}
-use Rattle.directory_rules.specs.Host.{Host, is_finding}
+use Rattle.directory_rules.specs.State.{Host}
+use Rattle.directory_rules.specs.Host.{is_finding}
 use Rattle.host_activations.proofs.Finds.{find_under}
 use Rattle.host_activations.proofs.host.Host.is_finding.Goals as goal
 

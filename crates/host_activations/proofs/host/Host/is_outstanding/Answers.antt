@@ -1,5 +1,6 @@
 use Rattle.std.proofs.Common.{ap, ◌∙◌}
-use Rattle.directory_rules.specs.Host.{Host, is_outstanding}
+use Rattle.directory_rules.specs.State.{Host}
+use Rattle.directory_rules.specs.Host.{is_outstanding}
 use Rattle.host_activations.proofs.OutstandingActs.{outstanding_is}
 use Rattle.host_activations.proofs.host.Host.is_outstanding.Goals as goal
 

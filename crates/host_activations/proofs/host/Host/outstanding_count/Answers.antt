@@ -1,5 +1,6 @@
 use Rattle.std.proofs.Common.{sym, ap, ◌∙◌, length}
-use Rattle.directory_rules.specs.Host.{Host, outstanding}
+use Rattle.directory_rules.specs.State.{Host}
+use Rattle.directory_rules.specs.Host.{outstanding}
 use Rattle.host_activations.proofs.OutstandingActs.{as_many}
 use Rattle.host_activations.proofs.host.Host.outstanding_count.Goals as goal
 

@@ -2,7 +2,7 @@ use Rattle.std.proofs.Common.{subst}
 use Rattle.std.specs.List.Sorted.{IsStrictlySortedBy}
 use Rattle.std.specs.Map.{keys_of}
 use Rattle.std.specs.Ordering.{nat_cmp}
-use Rattle.directory_rules.specs.Host.{Host}
+use Rattle.directory_rules.specs.State.{Host}
 use Rattle.directory_rules.specs.Laws.{AreNumbered}
 use Rattle.host_activations.proofs.Counted.{are_numbered}
 use Rattle.host_activations.proofs.Finds.{finds_sorted}

@@ -2,7 +2,7 @@ use Rattle.std.proofs.Common.{sym, ◌∙◌, ap}
 use Rattle.std.specs.Map.{keys_of}
 use Rattle.letter_mail.specs.Mail.{MailValue, letter_in}
 use Rattle.std.specs.Option.{option_map}
-use Rattle.directory_rules.specs.World.{Posted}
+use Rattle.directory_rules.specs.State.{Posted}
 use Rattle.letter_mail.specs.declared.slots.Slot.{Slot}
 use Rattle.letter_mail.specs.Slots.{posted_in}
 use Rattle.letter_mail.specs.MailModel.{mail_in}

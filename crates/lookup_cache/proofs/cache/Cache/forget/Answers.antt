@@ -1,5 +1,6 @@
 use Rattle.std.proofs.Common.{◌≡◌, ◌∙◌, ap, sym, Some}
-use Rattle.directory_rules.specs.Cache.{Cache, hint_of, without_pair}
+use Rattle.directory_rules.specs.State.{Cache}
+use Rattle.directory_rules.specs.Cache.{hint_of, without_pair}
 use Rattle.lookup_cache.proofs.Caches.{seen, seen_forgot, seen_kept}
 use Rattle.lookup_cache.proofs.cache.Cache.forget.Goals as goal
 

@@ -1,5 +1,6 @@
 use Rattle.std.proofs.Common.{◌∙◌, ap, sym}
-use Rattle.directory_rules.specs.Cache.{Cache, cache_seeing}
+use Rattle.directory_rules.specs.State.{Cache}
+use Rattle.directory_rules.specs.Cache.{cache_seeing}
 use Rattle.lookup_cache.proofs.Caches.{cached, seen}
 use Rattle.lookup_cache.proofs.NoneDead.{all_living}
 use Rattle.lookup_cache.proofs.cache.Cache.see.Goals as goal

@@ -1,6 +1,6 @@
 use Rattle.std.proofs.Common.{◌≡◌, ◌++◌, take}
 use Rattle.std.specs.Prelude.{map}
-use Rattle.directory_rules.specs.Letter.{Query_letter}
+use Rattle.directory_rules.specs.State.{Query_letter}
 use Rattle.directory_rules.specs.Sent.{letter_to}
 use Rattle.node_plans.specs.Sender.{sending}
 use Rattle.node_plans.proofs.senders.Sender.send_queries.Given as goal

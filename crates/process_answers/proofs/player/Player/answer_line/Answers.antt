@@ -1,5 +1,5 @@
 use Rattle.std.proofs.Common.{◌∙◌, ap}
-use Rattle.directory_rules.specs.Node.{Node}
+use Rattle.directory_rules.specs.State.{Node}
 use Rattle.directory_rules.specs.Settings.{Settings}
 use Rattle.process_lines.specs.FaultNumbers.{line_fault_number}
 use Rattle.process_lines.specs.AskedModel.{asked_of}

@@ -1,5 +1,6 @@
 use Rattle.std.proofs.Common.{◌≡◌, ◌∙◌, ap, sym, subst, get_or, IfOk, List}
-use Rattle.directory_rules.specs.Snapshot.{Snapshot, ShelfAnswer}
+use Rattle.directory_rules.specs.State.{Snapshot}
+use Rattle.directory_rules.specs.Snapshot.{ShelfAnswer}
 use Rattle.seal_snapshot.specs.Shelf.{AreInOrder, IsPageless, answer_of}
 use Rattle.seal_snapshot.proofs.Searches.{answer_found, answer_missing}
 use Rattle.seal_snapshot.proofs.shelf.Shelf.answer.Goals as goal

@@ -1,6 +1,7 @@
 use Rattle.std.proofs.Common.{◌≡◌, ◌∙◌, ap, sym, subst, not, List}
 use Rattle.std.specs.List.{remove}
-use Rattle.directory_rules.specs.Snapshot.{Snapshot, is_snapshot, shelf_without}
+use Rattle.directory_rules.specs.State.{Snapshot}
+use Rattle.directory_rules.specs.Snapshot.{is_snapshot, shelf_without}
 use Rattle.seal_snapshot.specs.Shelf.{AreInOrder}
 use Rattle.seal_snapshot.proofs.Searches.{has_none, without_at, without_none}
 use Rattle.seal_snapshot.proofs.Order.{in_order-filter}

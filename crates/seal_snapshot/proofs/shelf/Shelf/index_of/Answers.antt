@@ -1,7 +1,8 @@
 use Rattle.std.proofs.Common.{◌≡◌, ◌∙◌, ap, sym, subst, true, false, get_or, List}
 use Rattle.std.specs.List.Sorted.{IsPartitionPoint}
 use Rattle.std.proofs.lemmas.List.{get_or_default}
-use Rattle.directory_rules.specs.Snapshot.{Snapshot, is_snapshot}
+use Rattle.directory_rules.specs.State.{Snapshot}
+use Rattle.directory_rules.specs.Snapshot.{is_snapshot}
 use Rattle.seal_snapshot.specs.Shelf.{AreInOrder, is_before}
 use Rattle.seal_snapshot.proofs.Searches.{nobody_there}
 use Rattle.seal_snapshot.proofs.shelf.Shelf.index_of.Goals as goal

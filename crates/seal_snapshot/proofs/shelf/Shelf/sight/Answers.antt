@@ -1,6 +1,6 @@
 use Rattle.std.proofs.Common.{◌++◌, ◌∙◌, List, filter, not, sym, subst}
 use Rattle.directory_rules.specs.Members.{is_dead_in}
-use Rattle.directory_rules.specs.Snapshot.{Snapshot}
+use Rattle.directory_rules.specs.State.{Snapshot}
 use Rattle.seal_snapshot.specs.Shelf.{AreInOrder}
 use Rattle.seal_snapshot.proofs.Order.{in_order-kept}
 use Rattle.seal_snapshot.proofs.shelf.Shelf.sight.Goals as goal

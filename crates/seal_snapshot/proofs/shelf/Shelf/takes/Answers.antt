@@ -1,5 +1,5 @@
 use Rattle.std.proofs.Common.{◌≡◌, ◌∙◌, sym, subst, true, false, List}
-use Rattle.directory_rules.specs.Snapshot.{Snapshot}
+use Rattle.directory_rules.specs.State.{Snapshot}
 use Rattle.seal_snapshot.specs.Shelf.{AreInOrder, Meets}
 use Rattle.seal_snapshot.proofs.InOrder.{in_order-behind, in_order-joined, meets-from_order}
 use Rattle.seal_snapshot.proofs.shelf.Shelf.takes.Goals as goal

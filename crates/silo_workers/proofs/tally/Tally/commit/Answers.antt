@@ -1,7 +1,7 @@
 use Rattle.std.proofs.Common.{◌≡◌, ◌∙◌, List, ap, subst, sym}
 use Rattle.std.proofs.lemmas.Result.{err_from_is_err_and}
 use mathlib.Core.List.{IsPrefix}
-use Rattle.directory_rules.specs.World.{World}
+use Rattle.directory_rules.specs.State.{World}
 use Rattle.cluster_board.specs.Board.{BoardValue}
 use Rattle.cluster_board.specs.Commits.{Declines}
 use Rattle.cluster_journal.specs.Entry.{EntryValue}
