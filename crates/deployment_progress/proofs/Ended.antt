@@ -45,7 +45,8 @@ use Rattle.deployment_progress.proofs.Letters.{quiet_before, quiet_between, b_re
 use Rattle.deployment_progress.proofs.Numbers.{its_numbered, Numbers, numbers_on, step_numbers, step_serves, numbers_later, served_later}
 
 -- ---- a request comes, and its reply
-module _ (own node : Node) (silo owner : Silo) (e : ℕ × Act) (piece : Piece) (seen : node.view.version ≡ own.view.version) (holding : own.holding.seen ≡ own.view.version) where
+module _ (own node : Node) (silo owner : Silo) (e : ℕ × Act) (piece : Piece) (seen : node.view.version ≡ own.view.version)
+    (holding : own.holding.seen ≡ own.view.version) where
   abbrev letter : Letter
   letter = letter_of node e owner
 
@@ -55,12 +56,15 @@ module _ (own node : Node) (silo owner : Silo) (e : ℕ × Act) (piece : Piece) 
   pub request_comes : received own letter ≡ replying own request (answered own.holding request)
   request_comes =
       ap (λ b. cond b (replying own request (answered own.holding request)) (silently own effect.Ignored))
-      (both_true (silo_eq node.host.silo node.host.silo) (node.view.version == node.view.version) ((Decides-silo node.host.silo node.host.silo).1 refl) (eq-eqb node.view.version node.view.version refl))
+      (both_true (silo_eq node.host.silo node.host.silo) (node.view.version == node.view.version)
+      ((Decides-silo node.host.silo node.host.silo).1 refl) (eq-eqb node.view.version node.view.version refl))
 
-  pub reply_ends : piece_with (hash_of node e.1) own.holding.pieces ≡ Some piece → piece.state ≡ Settled → (is_numbered e.1 ≡ true → last_served node.host.silo own.holding.served < e.0) → Ends e.1 (answered own.holding request).reply
+  pub reply_ends : piece_with (hash_of node e.1) own.holding.pieces ≡ Some piece → piece.state ≡ Settled
+      → (is_numbered e.1 ≡ true → last_served node.host.silo own.holding.served < e.0) → Ends e.1 (answered own.holding request).reply
   reply_ends found settled above = requests_are_served own.holding request piece (seen ∙ sym holding) found settled above
 
-module _ (d : Deployment) (r : IsAtRest d) (silo : Silo) (steps : List Step) (q : IsQuiet steps) (node : Node) (there : node_at d silo ≡ Some node) (e : ℕ × Act) (owes : Owes node.host e) (s : IsServed d silo node steps e)
+module _ (d : Deployment) (r : IsAtRest d) (silo : Silo) (steps : List Step) (q : IsQuiet steps) (node : Node)
+    (there : node_at d silo ≡ Some node) (e : ℕ × Act) (owes : Owes node.host e) (s : IsServed d silo node steps e)
     (low : (own : Node) → node_at d s.turn.owner ≡ Some own → is_numbered e.1 ≡ true → last_served silo own.holding.served < e.0) where
   abbrev letter_it : Letter
   letter_it = letter_of node e s.turn.owner
@@ -84,10 +88,14 @@ module _ (d : Deployment) (r : IsAtRest d) (silo : Silo) (steps : List Step) (q 
   own_there = ap (option_map its_node) s.there
 
   own_facts : own.holding.seen ≡ own.view.version
-  own_facts = let its = w b b_rest in (node_facts its.world its.rests s.turn.owner (node_with_room its.events its.letters own) (in_world b b_rest s.turn.owner own own_there)).of_one_version.holding
+  own_facts =
+      let its = w b b_rest in (node_facts its.world its.rests s.turn.owner (node_with_room its.events its.letters own)
+      (in_world b b_rest s.turn.owner own own_there)).of_one_version.holding
 
   version_b : node.view.version ≡ own.view.version
-  version_b = its_version d r silo node there ∙ ap (λ (m : Membership). m.views.version) (sym (same_membership d r a.before before_quiet)) ∙ sym (its_version b b_rest s.turn.owner own own_there)
+  version_b =
+      its_version d r silo node there ∙ ap (λ (m : Membership). m.views.version) (sym (same_membership d r a.before before_quiet))
+      ∙ sym (its_version b b_rest s.turn.owner own own_there)
 
   -- it is served
   above : is_numbered e.1 ≡ true → last_served silo own.holding.served < e.0
@@ -97,7 +105,8 @@ module _ (d : Deployment) (r : IsAtRest d) (silo : Silo) (steps : List Step) (q 
 
   ends : Ends e.1 (answered own.holding (request own node silo s.turn.owner e s.piece version_b own_facts)).reply
   ends =
-      reply_ends own node silo s.turn.owner e s.piece version_b own_facts s.found s.settled (λ numbered. subst (λ t. last_served t own.holding.served < e.0) (sym (its_silo d r silo node there)) (above numbered))
+      reply_ends own node silo s.turn.owner e s.piece version_b own_facts s.found s.settled
+      (λ numbered. subst (λ t. last_served t own.holding.served < e.0) (sym (its_silo d r silo node there)) (above numbered))
 
   abbrev reply : Letter
   reply = letter_to node.host.silo own (Reply_letter e.0 (answered own.holding (request_of node e.0 e.1)).reply)
@@ -107,7 +116,9 @@ module _ (d : Deployment) (r : IsAtRest d) (silo : Silo) (steps : List Step) (q 
 
   written : slice_get asked.written (length b.written) ≡ Some reply
   written =
-      wrote b b_rest asked s.turn.owner own letter_it reply (came b b_rest s.turn.owner s.turn.index letter_it own refl (stays_written d r a.before before_quiet s.turn.index letter_it s.turn.written) own_there)
+      wrote b b_rest asked s.turn.owner own letter_it reply
+      (came b b_rest s.turn.owner s.turn.index letter_it own refl
+      (stays_written d r a.before before_quiet s.turn.index letter_it s.turn.written) own_there)
       (ap (λ (t : Stepped). t.letters) (request_comes own node silo s.turn.owner e s.piece version_b own_facts))
 
   between : IsQuiet a.between
@@ -142,7 +153,9 @@ module _ (d : Deployment) (r : IsAtRest d) (silo : Silo) (steps : List Step) (q 
   told = (received last_it.node reply).node
 
   told_there : node_at next silo ≡ Some told
-  told_there = (came l l_rest silo (length b.written) reply last_it.node (its_silo d r silo node there) (stays_written asked asked_rest a.between between (length b.written) reply written) last_it.there).there
+  told_there =
+      (came l l_rest silo (length b.written) reply last_it.node (its_silo d r silo node there)
+      (stays_written asked asked_rest a.between between (length b.written) reply written) last_it.there).there
 
   seen : own.view.version ≡ last_it.node.view.version
   seen = sym version_b ∙ ap (λ (v : ViewValue). v.version) (sym (last_it.view ∙ asking.view))
@@ -153,18 +166,25 @@ module _ (d : Deployment) (r : IsAtRest d) (silo : Silo) (steps : List Step) (q 
       let its = w l l_rest in
       let once = (node_facts its.world its.rests silo (node_with_room its.events its.letters last_it.node) (in_world l l_rest silo last_it.node last_it.there)).own.once in
       let answer = (answered own.holding (request_of node e.0 e.1)).reply in
-      ended last_it.node once own.view.version seen e.0 (its_numbered l l_rest silo last_it.node last_it.there) e.1 answer ends ((replies_quiet last_it.node own.view.version e.0 answer).owes e left) e.1 left
+      ended last_it.node once own.view.version seen e.0 (its_numbered l l_rest silo last_it.node last_it.there) e.1 answer ends
+      ((replies_quiet last_it.node own.view.version e.0 answer).owes e left) e.1 left
 
   -- ---- nor later
   to_last : Numbers asking.node last_it.node
   unfolding after_all
   to_last =
-      numbers_later b b_rest (Receive s.turn.owner s.turn.index ∷ a.between) (record { named = All-cons IsStep (Receive s.turn.owner s.turn.index) a.between tt between.named; none = All-cons DecidesNone (Receive s.turn.owner s.turn.index) a.between tt between.none }) silo asking.node last_it.node asking.there last_it.there
+      numbers_later b b_rest (Receive s.turn.owner s.turn.index ∷ a.between)
+      (record {
+        named = All-cons IsStep (Receive s.turn.owner s.turn.index) a.between tt between.named;
+        none = All-cons DecidesNone
+            (Receive s.turn.owner s.turn.index) a.between tt between.none;
+      }) silo asking.node last_it.node asking.there last_it.there
 
   to_told : Numbers node told
   to_told =
       numbers_on node asking.node told (numbers_later d r a.before before_quiet silo node asking.node there asking.there)
-      (numbers_on asking.node last_it.node told to_last (step_numbers l l_rest back next next_rest silo last_it.node told last_it.there told_there (quiet_moves l l_rest back tt)))
+      (numbers_on asking.node last_it.node told to_last
+      (step_numbers l l_rest back next next_rest silo last_it.node told last_it.there told_there (quiet_moves l l_rest back tt)))
 
   pub not_owed : (last : Node) → node_at (after_all d steps) silo ≡ Some last → Owes last.host e → ⊥
   not_owed last at left =
@@ -174,7 +194,8 @@ module _ (d : Deployment) (r : IsAtRest d) (silo : Silo) (steps : List Step) (q 
       elim (end.owes e left) [ inl still ↦ not_told still | inr free ↦ omega (arith, free, below, rises) ]
 
 -- ---- after a nudge
-module _ (d : Deployment) (r : IsAtRest d) (silo : Silo) (part : OwnStep) (steps : List Step) (q : IsQuiet steps) (n : IsNudged d silo part steps) where
+module _ (d : Deployment) (r : IsAtRest d) (silo : Silo) (part : OwnStep) (steps : List Step) (q : IsQuiet steps)
+    (n : IsNudged d silo part steps) where
   abbrev d1 : Deployment
   d1 = after d (Do silo part)
 
@@ -192,15 +213,19 @@ module _ (d : Deployment) (r : IsAtRest d) (silo : Silo) (part : OwnStep) (steps
 
   -- each request that it renews has a number that was free before
   free : (e : ℕ × Act) → Renews part e → Owes node1.host e → first.host.next_number ≤ e.0
-  free e renews owes = renewed_free part e renews first n.nudged (nudge_taken d r silo part steps q n).3 (its_numbered d1 r1 silo node1 there1) owes
+  free e renews owes =
+      renewed_free part e renews first n.nudged (nudge_taken d r silo part steps q n).3 (its_numbered d1 r1 silo node1 there1) owes
 
   -- and so one above the last that was served
-  low : (e : ℕ × Act) → Renews part e → Owes node1.host e → (owner : Silo) (own : Node) → node_at d1 owner ≡ Some own → last_served silo own.holding.served < e.0
+  low : (e : ℕ × Act) → Renews part e → Owes node1.host e → (owner : Silo) (own : Node) → node_at d1 owner ≡ Some own
+      → last_served silo own.holding.served < e.0
   low e renews owes owner own at =
       let was = was_there d (Do silo part) d1 (quiet_moves d r (Do silo part) tt) owner own at in
       let its = w d r in
       let below : last_served silo was.0.holding.served < first.host.next_number =
-      served_below its.world its.rests owner silo (node_with_room its.events its.letters was.0) (node_with_room its.events its.letters first) (in_world d r owner was.0 was.1) (in_world d r silo first (first_there d r silo part steps q n)) in
+      served_below its.world its.rests owner silo (node_with_room its.events its.letters was.0)
+      (node_with_room its.events its.letters first) (in_world d r owner was.0 was.1)
+      (in_world d r silo first (first_there d r silo part steps q n)) in
       let enough = free e renews owes in
       elim (step_serves d r (Do silo part) d1 r1 owner was.0 own was.1 at (quiet_moves d r (Do silo part) tt) silo) [
         | inl same ↦ omega (arith, same, below, enough)
@@ -213,17 +238,23 @@ module _ (d : Deployment) (r : IsAtRest d) (silo : Silo) (part : OwnStep) (steps
           let step_is = its.3 in
           cc (step_is)
 
-  pub ends_so : (last : Node) → node_at (after_all d steps) silo ≡ Some last → (e : ℕ × Act) → Renews part e → Owes node1.host e → IsServed d1 silo node1 n.rest e → Owes last.host e → ⊥
+  pub ends_so : (last : Node) → node_at (after_all d steps) silo ≡ Some last → (e : ℕ × Act) → Renews part e → Owes node1.host e
+      → IsServed d1 silo node1 n.rest e → Owes last.host e → ⊥
   ends_so last at e renews owes s left =
-      not_owed d1 r1 silo n.rest (quiet_after d r silo part steps q n) node1 there1 e owes s (λ own there numbered. low e renews owes s.turn.owner own there) last (ap (λ x. node_at x silo) (sym (after_nudge d r silo part steps q n)) ∙ at) left
+      not_owed d1 r1 silo n.rest (quiet_after d r silo part steps q n) node1 there1 e owes s
+      (λ own there numbered. low e renews owes s.turn.owner own there) last
+      (ap (λ x. node_at x silo) (sym (after_nudge d r silo part steps q n)) ∙ at) left
 
   pub later_numbers : (last : Node) → node_at (after_all d steps) silo ≡ Some last → Numbers node1 last
-  later_numbers last at = numbers_later d1 r1 n.rest (quiet_after d r silo part steps q n) silo node1 last there1 (ap (λ x. node_at x silo) (sym (after_nudge d r silo part steps q n)) ∙ at)
+  later_numbers last at =
+      numbers_later d1 r1 n.rest (quiet_after d r silo part steps q n) silo node1 last there1
+      (ap (λ x. node_at x silo) (sym (after_nudge d r silo part steps q n)) ∙ at)
 
 -- ---- the laws
 pub requests_end : RequestsEnd
 requests_end settings steps later are named seen named_later none silo part n t e renews owes s at left =
-    ends_so (deployed settings steps) (starts_at_rest settings steps are named seen) silo part later (record { named = named_later; none = none }) n t.node (ap (option_map its_node) at) e renews owes s left
+    ends_so (deployed settings steps) (starts_at_rest settings steps are named seen) silo part later
+    (record { named = named_later; none = none }) n t.node (ap (option_map its_node) at) e renews owes s left
 
 pub old_requests_end : OldRequestsEnd
 old_requests_end settings steps later are named seen named_later none silo part n t all at e renews left =

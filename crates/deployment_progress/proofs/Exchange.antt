@@ -51,10 +51,12 @@ module _ (d : Deployment) (r : IsAtRest d) (silo : Silo) (steps : List Step) (q 
   pub less1 : WaitsForLess first node1
   less1 =
       let came = nudge_taken d r silo x.part steps q n in
-      subst (λ (n : Node). WaitsForLess n node1) came.2 (subst (λ (t : Stepped). WaitsForLess came.0.node t.node) came.1 (stepped_on d r silo (Do silo x.part) d1 came.0).less)
+      subst (λ (n : Node). WaitsForLess n node1) came.2
+      (subst (λ (t : Stepped). WaitsForLess came.0.node t.node) came.1 (stepped_on d r silo (Do silo x.part) d1 came.0).less)
 
   -- what the pieces want is written, and answered
-  wants : (letter : Letter) → Contains (all_wants node1) letter → IsWant letter.body → (index : ℕ) × (slice_get d1.written index ≡ Some letter) × IsAnswered d1 silo n.rest index letter
+  wants : (letter : Letter) → Contains (all_wants node1) letter → IsWant letter.body
+      → (index : ℕ) × (slice_get d1.written index ≡ Some letter) × IsAnswered d1 silo n.rest index letter
   wants letter has want =
       let came = nudge_taken d r silo x.part steps q n in
       let sent : Contains n.nudged.letters letter = sends_wants x.part x.wants first n.nudged came.3 letter has in
@@ -93,18 +95,26 @@ module _ (d : Deployment) (r : IsAtRest d) (silo : Silo) (steps : List Step) (q 
         let other_there = awaited_there d1 r1 silo node1 there1 range other waits in
         let other_then = later_so d1 r1 a.before before other other_there.0 other_there.1 in
         let still : Recovers answers.node range = still_recovers node1 answers.node last range (waits_on node1 asks.node answers.node asks.less (to_answer d1 r1 silo n.rest quiet_x it.0 letter a node1 there1)) to_last waits.recovers recovers in
-        query_back (after_all d1 a.before) rests other it.0 a.between (quiet_between d1 r1 silo n.rest quiet_x it.0 letter a node1 there1) silo silo range letter other_then.node answers.node refl other_then.there
+        query_back (after_all d1 a.before) rests other it.0 a.between (quiet_between d1 r1 silo n.rest quiet_x it.0 letter a node1 there1)
+        silo silo range letter other_then.node answers.node refl other_then.there
         (stays_written d1 r1 a.before before it.0 letter it.1)
         (record {
           from = its_silo d1 r1 silo node1 there1;
           to = refl;
-          version_is = its_version d1 r1 silo node1 there1 ∙ ap (λ (m : Membership). m.views.version) (sym (same_membership d1 r1 a.before before));
+          version_is =
+              its_version d1 r1 silo node1 there1 ∙ ap (λ (m : Membership). m.views.version) (sym (same_membership d1 r1 a.before before));
           body = refl;
         })
         answers.there (to_last.reports range other still waits_last)
       where
-        still_recovers : (one two three : Node) (range : Range) → WaitsForLess one two → WaitsForLess two three → Recovers one range → Recovers three range → Recovers two range
-        still_recovers one two three range a b was is = elim (a.recovers range was) [ inl still ↦ still | inr settled ↦ absurd (not_settled_and_recovers three range (b.settled range settled) is) ]
+        still_recovers : (one two three : Node) (range : Range) → WaitsForLess one two → WaitsForLess two three → Recovers one range
+            → Recovers three range → Recovers two range
+        still_recovers one two three range a b was is =
+            elim (a.recovers range was) [
+              | inl still ↦ still
+              | inr settled ↦ absurd
+                  (not_settled_and_recovers three range (b.settled range settled) is)
+            ]
 
     pub recovers_end : (range : Range) → Recovers first range → HasSettled last range
     recovers_end range was =
@@ -117,7 +127,8 @@ module _ (d : Deployment) (r : IsAtRest d) (silo : Silo) (steps : List Step) (q 
         ]
 
     -- a page more, and it was one of so many
-    pub pages_come : (pages : ℕ) → AreAtMost pages d → (range : Range) (giver : Silo) → AwaitsFrom last range giver → ((gathering_of first range).next < (gathering_of last range).next) × ((gathering_of first range).next < pages)
+    pub pages_come : (pages : ℕ) → AreAtMost pages d → (range : Range) (giver : Silo) → AwaitsFrom last range giver
+        → ((gathering_of first range).next < (gathering_of last range).next) × ((gathering_of first range).next < pages)
     pages_come pages shelves range giver waits_last =
         let was = less_to_last.pages range giver waits_last in
         let letter = letter_to giver node1 (Ask_letter range (gathering_of node1 range).next) in
@@ -139,7 +150,8 @@ module _ (d : Deployment) (r : IsAtRest d) (silo : Silo) (steps : List Step) (q 
         (record {
           from = its_silo d1 r1 silo node1 there1;
           to = refl;
-          version_is = its_version d1 r1 silo node1 there1 ∙ ap (λ (m : Membership). m.views.version) (sym (same_membership d1 r1 a.before before));
+          version_is =
+              its_version d1 r1 silo node1 there1 ∙ ap (λ (m : Membership). m.views.version) (sym (same_membership d1 r1 a.before before));
           body = refl;
         })
         asks.there late answers.there answered.0 in

@@ -27,7 +27,8 @@ use Rattle.deployment_progress.proofs.Rest.{node_at, IsAtRest}
 use Rattle.deployment_progress.proofs.Quiet.{HasMoved, does_is, nudge_comes, rests_on}
 use Rattle.deployment_progress.proofs.Later.{IsQuiet, quiet_rest, starts_at_rest}
 
-module _ (d : Deployment) (r : IsAtRest d) (silo : Silo) (part : OwnStep) (steps : List Step) (q : IsQuiet steps) (n : IsNudged d silo part steps) where
+module _ (d : Deployment) (r : IsAtRest d) (silo : Silo) (part : OwnStep) (steps : List Step) (q : IsQuiet steps)
+    (n : IsNudged d silo part steps) where
   abbrev nudged_to : Deployment
   nudged_to = after d (Do silo part)
 
@@ -43,7 +44,8 @@ module _ (d : Deployment) (r : IsAtRest d) (silo : Silo) (part : OwnStep) (steps
   pub nudged_rests : IsAtRest nudged_to
   nudged_rests = rests_on d r (Do silo part) (All-head IsStep (Do silo part) n.rest quiet_all.named) tt
 
-  pub nudge_taken : (m : HasMoved d (Do silo part) nudged_to silo) × (m.stepped ≡ n.nudged) × (m.node ≡ first) × (step first (Does part) ≡ Ok n.nudged)
+  pub nudge_taken : (m : HasMoved d (Do silo part) nudged_to silo) × (m.stepped ≡ n.nudged) × (m.node ≡ first) ×
+      (step first (Does part) ≡ Ok n.nudged)
   nudge_taken = nudge_comes d r silo part n.process n.nudged n.there n.is_nudged
 
   pub first_there : node_at d silo ≡ Some first
@@ -58,7 +60,8 @@ module _ (d : Deployment) (r : IsAtRest d) (silo : Silo) (part : OwnStep) (steps
 
 -- ---- what it sends, and what it renews
 -- what the pieces want goes out
-pub sends_wants : (part : OwnStep) → SendsWants part → (first : Node) (nudged : Stepped) → step first (Does part) ≡ Ok nudged → (letter : Letter) → Contains (all_wants nudged.node) letter → Contains nudged.letters letter
+pub sends_wants : (part : OwnStep) → SendsWants part → (first : Node) (nudged : Stepped) → step first (Does part) ≡ Ok nudged
+    → (letter : Letter) → Contains (all_wants nudged.node) letter → Contains nudged.letters letter
 sends_wants Nudge wants first nudged is letter has =
     let its : Node = record first { host = renewed first.host } in
     let did : nudged ≡ having_nudged its = nudge_is first nudged is in
@@ -70,25 +73,31 @@ sends_wants NudgeRanges wants first nudged is letter has =
 sends_wants other wants first nudged is letter has = absurd wants
 
 -- each request that is renewed has a number that was free before
-pub renewed_free : (part : OwnStep) (e : ℕ × Act) → Renews part e → (first : Node) (nudged : Stepped) → step first (Does part) ≡ Ok nudged → AreNumbered nudged.node.host → Owes nudged.node.host e → first.host.next_number ≤ e.0
+pub renewed_free : (part : OwnStep) (e : ℕ × Act) → Renews part e → (first : Node) (nudged : Stepped) → step first (Does part) ≡ Ok nudged
+    → AreNumbered nudged.node.host → Owes nudged.node.host e → first.host.next_number ≤ e.0
 renewed_free Nudge e renews first nudged is numbered owes =
     let did : nudged ≡ having_nudged (record first { host = renewed first.host }) = nudge_is first nudged is in
     let then : AreNumbered (renewed first.host) = subst (λ (t : Stepped). AreNumbered t.node.host) did numbered in
-    (All-contains (IsRenewed first.host) (outstanding (renewed first.host)) e (renewed_from first.host) (outstanding_has (renewed first.host) then e (subst (λ (t : Stepped). Owes t.node.host e) did owes))).0
+    (All-contains (IsRenewed first.host) (outstanding (renewed first.host)) e (renewed_from first.host)
+    (outstanding_has (renewed first.host) then e (subst (λ (t : Stepped). Owes t.node.host e) did owes))).0
 renewed_free (NudgeGrain grain) e renews first nudged is numbered owes =
     let did : having_nudged_grain (record first { host = renewed_about grain first.host }) grain ≡ nudged = grain_nudge_is first grain nudged is in
     renewed_about_from first.host grain e (subst (λ (t : Stepped). Owes t.node.host e) (sym did) owes) renews
 renewed_free other e renews first nudged is numbered owes = absurd renews
 
 -- ---- when it is refused
-refused_so : (b : Bool) (stepped : Stepped) (number : ℕ) → cond {A = Result Stepped ℕ} (not b) (Err 805) (Ok stepped) ≡ Err number → number ≡ 805
+refused_so : (b : Bool) (stepped : Stepped) (number : ℕ) → cond {A = Result Stepped ℕ} (not b) (Err 805) (Ok stepped) ≡ Err number
+    → number ≡ 805
 refused_so true stepped number is = absurd (cc (is))
 refused_so false stepped number is = cc (is)
 
 refused_by : (part : OwnStep) → IsNudge part → (node : Node) (number : ℕ) → step node (Does part) ≡ Err number → number ≡ 805
-refused_by Nudge nudge node number is = refused_so (has_numbers node.settings node.host (length (outstanding node.host))) (having_nudged (record node { host = renewed node.host })) number is
+refused_by Nudge nudge node number is =
+    refused_so (has_numbers node.settings node.host (length (outstanding node.host)))
+    (having_nudged (record node { host = renewed node.host })) number is
 refused_by (NudgeGrain grain) nudge node number is =
-    refused_so (has_numbers node.settings node.host (length (requests_about grain node.host))) (having_nudged_grain (record node { host = renewed_about grain node.host }) grain) number is
+    refused_so (has_numbers node.settings node.host (length (requests_about grain node.host)))
+    (having_nudged_grain (record node { host = renewed_about grain node.host }) grain) number is
 refused_by NudgeRanges nudge node number is = absurd (cc is)
 refused_by other nudge node number is = absurd nudge
 

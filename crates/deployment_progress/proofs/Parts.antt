@@ -51,29 +51,38 @@ module _ (settings : Settings) (steps : List Step) (are : AreSettings settings) 
       let test = is_at (silo_cmp silo) in
       let found : lookup test (over its_node (over (process_with_room most letters) d.processes)) ≡ Some (process_with_room most letters s).node =
       lookup-over its_node test (over (process_with_room most letters) d.processes)
-      ∙ ap (option_map its_node) (lookup-over (process_with_room most letters) test d.processes ∙ ap (option_map (process_with_room most letters)) there) in
+      ∙ ap (option_map its_node) (lookup-over (process_with_room most letters) test d.processes
+      ∙ ap (option_map (process_with_room most letters)) there) in
       let facts = everywhere sorted_facts sorted_keep (with_room most letters settings) all.events tt (λ k other below. tt) in
-      (found_node sorted_facts (run_from_start (with_room most letters settings) all.events).world silo (process_with_room most letters s).node facts (ap (λ (w : World). node_of w silo) all.is ∙ found)).0
+      (found_node sorted_facts (run_from_start (with_room most letters settings) all.events).world silo
+      (process_with_room most letters s).node facts (ap (λ (w : World). node_of w silo) all.is ∙ found)).0
 
 pub grain_nudges_leave_others : GrainNudgesLeaveOthers
 grain_nudges_leave_others settings steps are named silo s grain nudged there is =
-    grain_nudge_leaves s.node grain nudged (numbered settings steps are named silo s there) (unbarred (barred s) (step s.node (Does (NudgeGrain grain))) nudged is)
+    grain_nudge_leaves s.node grain nudged (numbered settings steps are named silo s there)
+    (unbarred (barred s) (step s.node (Does (NudgeGrain grain))) nudged is)
 
 -- ---- ranges
-same_put : (d : Deployment) (silo : Silo) (s : SiloValue) → process_of d silo ≡ Some s → (other : Silo) → lookup (is_at (silo_cmp other)) (insert_entry silo_cmp d.processes silo s) ≡ process_of d other
+same_put : (d : Deployment) (silo : Silo) (s : SiloValue) → process_of d silo ≡ Some s → (other : Silo)
+    → lookup (is_at (silo_cmp other)) (insert_entry silo_cmp d.processes silo s) ≡ process_of d other
 same_put d silo s there other =
-    on_bool (λ b. silo_eq other silo ≡ b → lookup (is_at (silo_cmp other)) (insert_entry silo_cmp d.processes silo s) ≡ process_of d other) (silo_eq other silo)
+    on_bool (λ b. silo_eq other silo ≡ b → lookup (is_at (silo_cmp other)) (insert_entry silo_cmp d.processes silo s) ≡ process_of d other)
+    (silo_eq other silo)
     (λ t is.
     let same = (Decides-silo other silo).0 is in
-    ap (λ q. lookup (is_at (silo_cmp q)) (insert_entry silo_cmp d.processes silo s)) same ∙ found_put silo_cmp silo_cmp_total silo_cmp_exact silo s d.processes ∙ sym there ∙ ap (process_of d) (sym same))
-    (λ f is. found_beside_put silo_cmp silo_cmp_total silo_cmp_exact silo s d.processes other (λ same. let it = (Decides-silo other silo).1 same in cc (it, is)))
+    ap (λ q. lookup (is_at (silo_cmp q)) (insert_entry silo_cmp d.processes silo s)) same
+    ∙ found_put silo_cmp silo_cmp_total silo_cmp_exact silo s d.processes ∙ sym there ∙ ap (process_of d) (sym same))
+    (λ f is. found_beside_put silo_cmp silo_cmp_total silo_cmp_exact silo s d.processes other
+    (λ same. let it = (Decides-silo other silo).1 same in cc (it, is)))
     refl
 
-by_outcome : (d : Deployment) (silo : Silo) (s : SiloValue) → process_of d silo ≡ Some s → (o : Option ℕ) → ChangesNoProcess d (took (unless_barred o (Ok (nudge_ranges s.node))) d silo s)
+by_outcome : (d : Deployment) (silo : Silo) (s : SiloValue) → process_of d silo ≡ Some s → (o : Option ℕ)
+    → ChangesNoProcess d (took (unless_barred o (Ok (nudge_ranges s.node))) d silo s)
 by_outcome d silo s there None = record { membership = refl; processes = same_put d silo s there }
 by_outcome d silo s there (Some number) = record { membership = refl; processes = λ other. refl }
 
-by_process : (d : Deployment) (silo : Silo) (o : Option SiloValue) → process_of d silo ≡ o → ChangesNoProcess d (does_at o d silo (Does NudgeRanges))
+by_process : (d : Deployment) (silo : Silo) (o : Option SiloValue) → process_of d silo ≡ o
+    → ChangesNoProcess d (does_at o d silo (Does NudgeRanges))
 by_process d silo None there = record { membership = refl; processes = λ other. refl }
 by_process d silo (Some s) there = by_outcome d silo s there (barred s)
 

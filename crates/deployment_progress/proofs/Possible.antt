@@ -16,17 +16,22 @@ use Rattle.deployment_progress.specs.Exchanges.{SendsWants, IsAnswered, Exchange
 answering : Deployment → (silo : Silo) → List Letter → (index : ℕ) → List Step
 answering d silo [] index = []
 answering d silo (letter ∷ letters) index =
-    Receive letter.to index ∷ Receive silo (length d.written) ∷ answering (after (after d (Receive letter.to index)) (Receive silo (length d.written))) silo letters (suc index)
+    Receive letter.to index ∷ Receive silo (length d.written) ∷ answering
+    (after (after d (Receive letter.to index)) (Receive silo (length d.written))) silo letters (suc index)
 
-all_come : (P : Step → Type 0) → ((to : Silo) (k : ℕ) → P (Receive to k)) → (d : Deployment) (silo : Silo) (letters : List Letter) (index : ℕ) → All P (answering d silo letters index)
+all_come : (P : Step → Type 0) → ((to : Silo) (k : ℕ) → P (Receive to k))
+    → (d : Deployment) (silo : Silo) (letters : List Letter) (index : ℕ) → All P (answering d silo letters index)
 unfolding answering
 all_come P receives d silo [] index = All-nil P
 all_come P receives d silo (letter ∷ letters) index =
     let next = after (after d (Receive letter.to index)) (Receive silo (length d.written)) in
     let rest = answering next silo letters (suc index) in
-    All-cons P (Receive letter.to index) (Receive silo (length d.written) ∷ rest) (receives letter.to index) (All-cons P (Receive silo (length d.written)) rest (receives silo (length d.written)) (all_come P receives next silo letters (suc index)))
+    All-cons P (Receive letter.to index) (Receive silo (length d.written) ∷ rest) (receives letter.to index)
+    (All-cons P (Receive silo (length d.written)) rest (receives silo (length d.written))
+    (all_come P receives next silo letters (suc index)))
 
-has_answer : (d : Deployment) (silo : Silo) (letters : List Letter) (index k : ℕ) (letter : Letter) → slice_get letters k ≡ Some letter → IsAnswered d silo (answering d silo letters index) (index + k) letter
+has_answer : (d : Deployment) (silo : Silo) (letters : List Letter) (index k : ℕ) (letter : Letter) → slice_get letters k ≡ Some letter
+    → IsAnswered d silo (answering d silo letters index) (index + k) letter
 unfolding answering after_all
 has_answer d silo [] index k letter found = absurd (cc (found))
 has_answer d silo (x ∷ xs) index zero letter found =
@@ -37,7 +42,9 @@ has_answer d silo (x ∷ xs) index zero letter found =
       before = [];
       between = [];
       rest = answering next silo xs (suc index);
-      is = ap (λ (l : Letter). Receive l.to index ∷ Receive silo (length d.written) ∷ answering next silo xs (suc index)) same ∙ ap (λ n. Receive letter.to n ∷ Receive silo (length d.written) ∷ answering next silo xs (suc index)) here;
+      is =
+          ap (λ (l : Letter). Receive l.to index ∷ Receive silo (length d.written) ∷ answering next silo xs (suc index)) same
+          ∙ ap (λ n. Receive letter.to n ∷ Receive silo (length d.written) ∷ answering next silo xs (suc index)) here;
     }
 has_answer d silo (x ∷ xs) index (suc k) letter found =
     let next = after (after d (Receive x.to index)) (Receive silo (length d.written)) in
@@ -67,7 +74,8 @@ exchanges_can_be d silo part s nudged wants named there is =
         wants = wants;
         nudge = record { process = s; there = there; nudged = nudged; is_nudged = is; rest = rest; begins = refl };
         answered = λ index letter low found want.
-            (let here : 0 + index ≡ index = omega arith in subst (λ n. IsAnswered d1 silo rest n letter) here (has_answer d1 silo d1.written 0 index letter found));
+            (let here : 0 + index ≡ index = omega arith in
+            subst (λ n. IsAnswered d1 silo rest n letter) here (has_answer d1 silo d1.written 0 index letter found));
       },
       refl,
     )

@@ -155,7 +155,9 @@ firm = refl
 pub worked_request : WorkedRequest
 unfolding nudge
 worked_request = record {
-  seen = λ silo s there. (found_so (λ (e : Silo × SiloValue). e.1.node.view.version ≡ 1) (is_at (silo_cmp silo)) s asking.processes all_seen there).2 ∙ sym version_is;
+  seen =
+      λ silo s there. (found_so (λ (e : Silo × SiloValue). e.1.node.view.version ≡ 1) (is_at (silo_cmp silo)) s asking.processes all_seen
+      there).2 ∙ sym version_is;
   asks = asks;
   nudge = nudge;
   served = λ e owes. subst (IsServed nudged silo_a node (Receive silo_a 3 ∷ Receive silo_a 4 ∷ [])) (only_its e owes) served;

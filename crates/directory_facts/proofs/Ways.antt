@@ -95,59 +95,82 @@ pub record Ways (node : Node) (P : Input → Stepped → Type 0) : Type 0 where
   -- nothing changes, also to the plain machine, and no letter goes out
   pub nothing : (input : Input) (effect : Effect) → step_of_effect effect ≡ Nothing_changes → P input (silently node effect)
   -- steps of the silo's own
-  pub sees : (before view : ViewValue) (places : PlacesValue) → node.view.version < view.version → has_numbers node.settings node.host (length (outstanding node.host)) ≡ true
+  pub sees : (before view : ViewValue) (places : PlacesValue) → node.view.version < view.version
+      → has_numbers node.settings node.host (length (outstanding node.host)) ≡ true
       → P (Sees before view places) (sight (is_next node.view before view node.host.silo) node before view places)
   pub wakes : (grain : Grain) → MayBegin node grain → P (Does (Wake grain)) (started node grain None)
   pub closes : (grain : Grain) (held : Held) → MayClose node grain held → P (Does (Close grain)) (closing node grain held)
   pub cancels : (grain : Grain) (held : Held) → MayCancel node grain held → P (Does (Cancel grain)) (cancelled node grain held)
-  pub offers : (grain : Grain) (held : Held) (to : Silo) → MayClose node grain held → is_active_in node.view to ≡ true → to ≢ node.host.silo → P (Does (Offer grain to)) (offered node grain held to)
+  pub offers : (grain : Grain) (held : Held) (to : Silo) → MayClose node grain held → is_active_in node.view to ≡ true → to ≢ node.host.silo
+      → P (Does (Offer grain to)) (offered node grain held to)
   pub uses_hint : (grain : Grain) (activation : ActivationId) → hint_of node.cache grain ≡ Some activation
-      → P (Does (Find grain)) (silently (record node { cache = in_front node.cache grain activation }) (effect.Cached (record { grain = grain; activation = activation })))
-  pub finds : (grain : Grain) → is_full_of_finds node.settings node.host ≡ false → has_numbers node.settings node.host 1 ≡ true → P (Does (Find grain)) (finding node grain)
-  pub forgets : (grain : Grain) (activation : ActivationId) → hint_of node.cache grain ≡ Some activation → P (Does (Forget grain)) (silently (record node { cache = without_pair node.cache grain activation }) (effect.Forgot grain))
-  pub nudges : has_numbers node.settings node.host (length (outstanding node.host)) ≡ true → P (Does Nudge) (having_nudged (record node { host = host.renewed node.host }))
+      → P (Does (Find grain)) (silently (record node { cache = in_front node.cache grain activation })
+      (effect.Cached (record { grain = grain; activation = activation })))
+  pub finds : (grain : Grain) → is_full_of_finds node.settings node.host ≡ false → has_numbers node.settings node.host 1 ≡ true
+      → P (Does (Find grain)) (finding node grain)
+  pub forgets : (grain : Grain) (activation : ActivationId) → hint_of node.cache grain ≡ Some activation
+      → P (Does (Forget grain)) (silently (record node { cache = without_pair node.cache grain activation }) (effect.Forgot grain))
+  pub nudges : has_numbers node.settings node.host (length (outstanding node.host)) ≡ true
+      → P (Does Nudge) (having_nudged (record node { host = host.renewed node.host }))
   pub nudges_grain : (grain : Grain) → has_numbers node.settings node.host (length (requests_about grain node.host)) ≡ true
       → P (Does (NudgeGrain grain)) (having_nudged_grain (record node { host = renewed_about grain node.host }) grain)
   pub nudges_ranges : P (Does NudgeRanges) (nudge_ranges node)
   -- a request is answered
-  pub answers : (letter : Letter) (request : Request) → letter.body ≡ Request_letter request → request.sender ≡ letter.from → request.version ≡ letter.version
+  pub answers : (letter : Letter) (request : Request) → letter.body ≡ Request_letter request → request.sender ≡ letter.from
+      → request.version ≡ letter.version
       → P (Receives letter) (replying node request (answered node.holding request))
   -- replies that count
-  pub confirms : (letter : Letter) (number : ℕ) (entry : Entry) (e : Grain × Held) → IsReply node letter number (reply.Registered entry) → asking_under node.host number ≡ Some e
+  pub confirms : (letter : Letter) (number : ℕ) (entry : Entry) (e : Grain × Held) → IsReply node letter number (reply.Registered entry)
+      → asking_under node.host number ≡ Some e
       → P (Receives letter) (silently (record node { host = confirmed node.host e.0 e.1 }) effect.Firm)
-  pub yields : (letter : Letter) (number : ℕ) (entry : Entry) (e : Grain × Held) → IsReply node letter number (reply.Taken entry) → asking_under node.host number ≡ Some e
+  pub yields : (letter : Letter) (number : ℕ) (entry : Entry) (e : Grain × Held) → IsReply node letter number (reply.Taken entry)
+      → asking_under node.host number ≡ Some e
       → P (Receives letter) (silently (record node { host = without_held node.host e.0; cache = learnt node.cache entry }) effect.Yielded)
-  pub removes : (letter : Letter) (number : ℕ) (e : Grain × Held) → IsReply node letter number reply.Removed → closing_under node.host number ≡ Some e
+  pub removes : (letter : Letter) (number : ℕ) (e : Grain × Held) → IsReply node letter number reply.Removed
+      → closing_under node.host number ≡ Some e
       → P (Receives letter) (silently (record node { host = without_held node.host e.0 }) effect.Ended)
-  pub misses : (letter : Letter) (number : ℕ) (e : Grain × Held) → IsReply node letter number reply.Absent → closing_under node.host number ≡ Some e
+  pub misses : (letter : Letter) (number : ℕ) (e : Grain × Held) → IsReply node letter number reply.Absent
+      → closing_under node.host number ≡ Some e
       → P (Receives letter) (silently (record node { host = without_held node.host e.0 }) effect.Ended)
-  pub learns : (letter : Letter) (number : ℕ) (entry : Entry) → IsReply node letter number (reply.Found entry) → is_finding node.host number ≡ true
+  pub learns : (letter : Letter) (number : ℕ) (entry : Entry) → IsReply node letter number (reply.Found entry)
+      → is_finding node.host number ≡ true
       → P (Receives letter) (silently (record node { host = without_find node.host number; cache = learnt node.cache entry }) effect.Learnt)
   pub notes : (letter : Letter) (number : ℕ) → IsReply node letter number reply.Nothing → is_finding node.host number ≡ true
       → P (Receives letter) (silently (record node { host = without_find node.host number }) effect.Noted)
   -- the previous owner
-  pub hands : (letter : Letter) (range : Range) (number : ℕ) (page : Page) → letter.body ≡ Ask_letter range number → shelf_answer node.shelf node.view.version letter.version range letter.from number ≡ Hands_page page
+  pub hands : (letter : Letter) (range : Range) (number : ℕ) (page : Page) → letter.body ≡ Ask_letter range number
+      → shelf_answer node.shelf node.view.version letter.version range letter.from number ≡ Hands_page page
       → P (Receives letter) (answering letter node (Page_letter page) effect.Page)
-  pub lacks : (letter : Letter) (range : Range) (number : ℕ) → letter.body ≡ Ask_letter range number → shelf_answer node.shelf node.view.version letter.version range letter.from number ≡ Has_none
+  pub lacks : (letter : Letter) (range : Range) (number : ℕ) → letter.body ≡ Ask_letter range number
+      → shelf_answer node.shelf node.view.version letter.version range letter.from number ≡ Has_none
       → P (Receives letter) (answering letter node (Missing_letter range) effect.Missing)
-  pub forgoes : (letter : Letter) (range : Range) → letter.body ≡ Done_letter range → has_snapshot node.shelf letter.version range letter.from ≡ true
+  pub forgoes : (letter : Letter) (range : Range) → letter.body ≡ Done_letter range
+      → has_snapshot node.shelf letter.version range letter.from ≡ true
       → P (Receives letter) (silently (record node { shelf = shelf_without node.shelf letter.version range letter.from }) effect.Deleted)
   -- a silo that is asked for a version that it hasn't seen yet, or has passed, or has just seen
   pub lags : (letter : Letter) (range : Range) → P (Receives letter) (answering letter node (Behind_letter range) effect.Behind)
   pub passed : (letter : Letter) (range : Range) → P (Receives letter) (answering letter node (Ahead_letter range) effect.Ahead)
-  pub reports : (letter : Letter) (range : Range) → letter.body ≡ Query_letter range → letter.version ≡ node.view.version → P (Receives letter) (answering letter node (Report_letter (report_of node range)) effect.Report)
+  pub reports : (letter : Letter) (range : Range) → letter.body ≡ Query_letter range → letter.version ≡ node.view.version
+      → P (Receives letter) (answering letter node (Report_letter (report_of node range)) effect.Report)
   -- the new owner
-  pub gathers : (letter : Letter) (page : Page) (gathering : Gathering) → IsPageTaken node letter page → gathered (gathering_of node page.range) page ≡ Wants_page gathering
+  pub gathers : (letter : Letter) (page : Page) (gathering : Gathering) → IsPageTaken node letter page
+      → gathered (gathering_of node page.range) page ≡ Wants_page gathering
       → P (Receives letter) (asking_on letter page.range (with_gathering node gathering))
-  pub installs : (letter : Letter) (page : Page) (entries : List Entry) → IsPageTaken node letter page → gathered (gathering_of node page.range) page ≡ Has_all entries
+  pub installs : (letter : Letter) (page : Page) (entries : List Entry) → IsPageTaken node letter page
+      → gathered (gathering_of node page.range) page ≡ Has_all entries
       → P (Receives letter) (answering letter (with_settled node page.range (table_of entries)) (Done_letter page.range) effect.Installed)
-  pub drops : (letter : Letter) (page : Page) (gathering : Gathering) → IsPageTaken node letter page → gathered (gathering_of node page.range) page ≡ Refuses 701 gathering
+  pub drops : (letter : Letter) (page : Page) (gathering : Gathering) → IsPageTaken node letter page
+      → gathered (gathering_of node page.range) page ≡ Refuses 701 gathering
       → P (Receives letter) (silently (with_gathering node gathering) (effect.Refused 701))
-  pub turns : (letter : Letter) (range : Range) (piece : Piece) → letter.body ≡ Missing_letter range → HasPiece node letter.version range piece → piece.state ≡ state.Awaiting letter.from
+  pub turns : (letter : Letter) (range : Range) (piece : Piece) → letter.body ≡ Missing_letter range
+      → HasPiece node letter.version range piece → piece.state ≡ state.Awaiting letter.from
       → P (Receives letter) (querying range (turned_to_recovery node range))
-  pub collects : (letter : Letter) (report : Report) (recovery : Recovery) → IsReportTaken node letter report → recovered (recovery_of node report.range) report ≡ Awaits_more recovery
+  pub collects : (letter : Letter) (report : Report) (recovery : Recovery) → IsReportTaken node letter report
+      → recovered (recovery_of node report.range) report ≡ Awaits_more recovery
       → P (Receives letter) (silently (with_recovery node recovery) effect.More)
-  pub completes : (letter : Letter) (report : Report) (table : Table) → IsReportTaken node letter report → recovered (recovery_of node report.range) report ≡ Has_union table
+  pub completes : (letter : Letter) (report : Report) (table : Table) → IsReportTaken node letter report
+      → recovered (recovery_of node report.range) report ≡ Has_union table
       → P (Receives letter) (silently (with_settled node report.range table) effect.Complete)
   -- an offer is taken
-  pub takes_over : (letter : Letter) (entry : Entry) → letter.body ≡ Offer_letter entry → letter.version ≤ node.view.version → MayBegin node entry.grain → P (Receives letter) (started node entry.grain (Some entry.activation))
+  pub takes_over : (letter : Letter) (entry : Entry) → letter.body ≡ Offer_letter entry → letter.version ≤ node.view.version
+      → MayBegin node entry.grain → P (Receives letter) (started node entry.grain (Some entry.activation))

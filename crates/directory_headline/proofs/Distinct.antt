@@ -30,7 +30,8 @@ nowhere : {X : Type 0} (n : ℕ) (es : List (ℕ × X)) → All (λ e. n ≢ e.0
 nowhere n [] all = refl
 nowhere n (e ∷ es) all =
     let later = nowhere n es (All-tail (λ x. n ≢ x.0) e es all) in
-    one_cases (λ r. r + times n (keys_of es) ≡ 0) n e.0 (λ same. absurd (All-head (λ x. n ≢ x.0) e es all (sym same))) (omega (later, arith))
+    one_cases (λ r. r + times n (keys_of es) ≡ 0) n e.0 (λ same. absurd (All-head (λ x. n ≢ x.0) e es all (sym same)))
+    (omega (later, arith))
 
 once_each : {X : Type 0} (n : ℕ) (es : List (ℕ × X)) → AllPairs (λ e later. e.0 ≢ later.0) es → times n (keys_of es) ≤ 1
 once_each n [] pairs = omega arith
@@ -55,7 +56,8 @@ module _ (new : ℕ → ℕ) (n : ℕ) where
   abbrev pub many : List (Grain × Held) → ℕ
   many es = times n (map new (numbers es))
 
-  many_phase : (phase : Phase) (ks : List ℕ) → times n (map new (with_number phase ks)) ≡ cond (gets true new n phase) 1 0 + times n (map new ks)
+  many_phase : (phase : Phase) (ks : List ℕ) → times n (map new (with_number phase ks)) ≡ cond (gets true new n phase) 1 0 + times n
+      (map new ks)
   unfolding one
   many_phase (Asking k) ks = refl
   many_phase Firm ks = omega arith
@@ -66,7 +68,8 @@ module _ (new : ℕ → ℕ) (n : ℕ) where
   many_more (x ∷ xs) ys = let later = many_more xs ys in omega (later, arith)
 
   -- one at least, where one is found
-  pub many_found : (grain : Grain) (held : Held) (es : List (Grain × Held)) → lookup (is_at (grain_cmp grain)) es ≡ Some held → gets true new n held.phase ≡ true → 1 ≤ many es
+  pub many_found : (grain : Grain) (held : Held) (es : List (Grain × Held)) → lookup (is_at (grain_cmp grain)) es ≡ Some held
+      → gets true new n held.phase ≡ true → 1 ≤ many es
   many_found grain held [] found got = absurd (cc (found))
   many_found grain held (e ∷ es) found got =
       let here = many_phase e.1.phase (numbers es) in
@@ -78,15 +81,18 @@ module _ (new : ℕ → ℕ) (n : ℕ) where
 
   -- two that are found are of one grain
   only_one :
-      (g r : Grain) (x y : Held) (es : List (Grain × Held)) → many es ≤ 1 → lookup (is_at (grain_cmp g)) es ≡ Some x → lookup (is_at (grain_cmp r)) es ≡ Some y
+      (g r : Grain) (x y : Held) (es : List (Grain × Held)) → many es ≤ 1 → lookup (is_at (grain_cmp g)) es ≡ Some x
+      → lookup (is_at (grain_cmp r)) es ≡ Some y
       → gets true new n x.phase ≡ true → gets true new n y.phase ≡ true → r ≡ g
   only_one g r x y [] few found other got got_too = absurd (cc (found))
   only_one g r x y (e ∷ es) few found other got got_too =
       let here = many_phase e.1.phase (numbers es) in
-      on_bool (λ b. is_at (grain_cmp g) e.0 ≡ b → cond b (Some e.1) (lookup (is_at (grain_cmp g)) es) ≡ Some x → r ≡ g) (is_at (grain_cmp g) e.0)
+      on_bool (λ b. is_at (grain_cmp g) e.0 ≡ b → cond b (Some e.1) (lookup (is_at (grain_cmp g)) es) ≡ Some x → r ≡ g)
+      (is_at (grain_cmp g) e.0)
       (λ t at is. let same : e.1 ≡ x = cc (is) in
       let one_here : cond {A = ℕ} (gets true new n e.1.phase) 1 0 ≡ 1 = ap (λ h. cond {A = ℕ} (gets true new n h.phase) 1 0) same ∙ ap (λ b. cond {A = ℕ} b 1 0) got in
-      on_bool (λ c. is_at (grain_cmp r) e.0 ≡ c → cond c (Some e.1) (lookup (is_at (grain_cmp r)) es) ≡ Some y → r ≡ g) (is_at (grain_cmp r) e.0)
+      on_bool (λ c. is_at (grain_cmp r) e.0 ≡ c → cond c (Some e.1) (lookup (is_at (grain_cmp r)) es) ≡ Some y → r ≡ g)
+      (is_at (grain_cmp r) e.0)
       (λ u too so. same_key grain_cmp grain_cmp_exact r e.0 too ∙ sym (same_key grain_cmp grain_cmp_exact g e.0 at))
       (λ u too so. let later = many_found r y es so got_too in absurd (omega (few, here, one_here, later, arith))) refl other)
       (λ f at is.
@@ -125,9 +131,12 @@ module _ (host : Host) (numbered : AreNumbered host) where
     from = λ k. omega arith;
     below = λ n grain held found got.
         on_bool (λ b. nat_lt n end ≡ b → n < end) (nat_lt n end) (λ t is. ltb-true n end is)
-        (λ f is. let none = none_above host numbered n (ltb-false n end is) in let some = many_found (new_number host) n grain held host.held found got in absurd (omega (none, some, arith))) refl;
+        (λ f is. let none = none_above host numbered n (ltb-false n end is) in
+        let some = many_found (new_number host) n grain held host.held found got in absurd (omega (none, some, arith))) refl;
     apart = λ n g r x y found there got too. only_one (new_number host) n g r x y host.held (few host numbered n) found there got too;
     next_number = refl;
     next_count = refl;
-    held = alike (λ grain phase. renewed_phase host phase) (λ grain phase. phase_anew true (new_number host) phase) (λ grain phase. phase_renewed host phase) host.held;
+    held =
+        alike (λ grain phase. renewed_phase host phase) (λ grain phase. phase_anew true (new_number host) phase)
+        (λ grain phase. phase_renewed host phase) host.held;
   }

@@ -22,7 +22,8 @@ module _ (m : Setting) (f : World) (w : protocol.World) (silo : Silo) (node : No
       let later = after m w (Find silo) in
       let number = was.host.next_number in
       acts m w silo (finding node grain) (Find silo) (alive m f w silo node here) refl
-      (host_changes m f w silo node here later (with_find node.host grain) node.cache (record { seen = refl; settled = refl; table = refl; served = refl }) (leaves_after m w (Find silo) silo refl).grows (record {
+      (host_changes m f w silo node here later (with_find node.host grain) node.cache
+      (record { seen = refl; settled = refl; table = refl; served = refl }) (leaves_after m w (Find silo) silo refl).grows (record {
         held = was.host.held;
         next_number = put_same silo (suc (w.next_number silo)) w.next_number ∙ omega arith;
         next_count = was.host.next_count;

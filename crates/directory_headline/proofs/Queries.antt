@@ -24,15 +24,19 @@ use Rattle.directory_headline.proofs.Frame.{Here, Moves, acts, alive, node_shown
 
 module _ (m : Setting) (f : World) (w : protocol.World) (silo : Silo) (node : Node) (here : Here m f w silo node) where
   firm : (range : Range) (grain : Grain) → holds range (m.hash grain) ≡ true
-      → protocol.firm_count (w.held silo grain) ≡ option_map (λ (e : Entry). e.activation.count) (entry_at grain (table_of (firm_entries node.settings.hashing node.host range)))
+      → protocol.firm_count (w.held silo grain) ≡ option_map (λ (e : Entry). e.activation.count)
+      (entry_at grain (table_of (firm_entries node.settings.hashing node.host range)))
   firm range grain lies =
       ap protocol.firm_count ((node_shown m f w silo node here).host.held grain)
-      ∙ firm_reported node.settings.hashing node.host range grain (node_facts m f w silo node here).own.once (ap (λ hash. holds range (hash grain)) (sym (hash_is m f w silo node here)) ∙ lies)
+      ∙ firm_reported node.settings.hashing node.host range grain (node_facts m f w silo node here).own.once
+      (ap (λ hash. holds range (hash grain)) (sym (hash_is m f w silo node here)) ∙ lies)
 
-  pub reports : (letter : Letter) (range : Range) → Moves m w silo (answering letter node (Report_letter (report_of node range)) effect.Report)
+  pub reports : (letter : Letter) (range : Range) → Moves m w silo
+      (answering letter node (Report_letter (report_of node range)) effect.Report)
   reports letter range =
       let later = after m w (Tell silo) in
-      acts m w silo (answering letter node (Report_letter (report_of node range)) effect.Report) (Tell silo) (alive m f w silo node here) refl
+      acts m w silo (answering letter node (Report_letter (report_of node range)) effect.Report) (Tell silo) (alive m f w silo node here)
+      refl
       (node_still m w later (leaves_after m w (Tell silo) silo refl).grows node (state_of w silo) (node_shown m f w silo node here))
       (one_letter (IsShownLetter m.hash later) (answer_to letter node (Report_letter (report_of node range))) (record {
         told = reported w silo;

@@ -55,14 +55,17 @@ gets passes new number (Closing k) = passes && (new k == number)
 -- the activations of these grains have their requests under new numbers, each its own, out of so many from the next one on
 pub record IsRenewal (host : Host) (passes : Grain → Bool) (new : ℕ → ℕ) (count : ℕ) (made : Host) : Type 0 where
   pub from : (k : ℕ) → host.next_number ≤ new k
-  pub below : (n : ℕ) (grain : Grain) (held : Held) → held_of host grain ≡ Some held → gets (passes grain) new n held.phase ≡ true → n < host.next_number + count
-  pub apart : (n : ℕ) (g r : Grain) (x y : Held) → held_of host g ≡ Some x → held_of host r ≡ Some y → gets (passes g) new n x.phase ≡ true → gets (passes r) new n y.phase ≡ true → r ≡ g
+  pub below : (n : ℕ) (grain : Grain) (held : Held) → held_of host grain ≡ Some held → gets (passes grain) new n held.phase ≡ true
+      → n < host.next_number + count
+  pub apart : (n : ℕ) (g r : Grain) (x y : Held) → held_of host g ≡ Some x → held_of host r ≡ Some y → gets (passes g) new n x.phase ≡ true
+      → gets (passes r) new n y.phase ≡ true → r ≡ g
   pub next_number : made.next_number ≡ host.next_number + count
   pub next_count : made.next_count ≡ host.next_count
   pub held : made.held ≡ map (made_by (λ grain phase. phase_anew (passes grain) new phase)) host.held
 
 -- the request of an activation of the silo, of a version that it has seen, under a number
-abbrev pub request_by : letters.Purpose → (version number : ℕ) → Silo → Grain → (count : ℕ) → (previous : Option ActivationId) → letters.Request
+abbrev pub request_by : letters.Purpose → (version number : ℕ) → Silo → Grain → (count : ℕ) → (previous : Option ActivationId)
+    → letters.Request
 request_by purpose version number silo grain count previous =
     record { purpose = purpose; version = version; number = number; sender = silo; grain = grain; count = count; previous = previous }
 
@@ -89,7 +92,8 @@ number_past : (b : Bool) (n low k : ℕ) → b && (n == low) ≡ false → cond 
 number_past true n low k other =
     on_bool (λ b. nat_lt n low ≡ b → cond (nat_lt n (low + 1)) n k ≡ cond b n k) (nat_lt n low)
     (λ t is. let below = ltb-true n low is in ap (λ b. cond b n k) (lt-ltb n (low + 1) (omega (below, arith))))
-    (λ f is. let from = ltb-false n low is in let apart = eqb-false n low other in ap (λ b. cond b n k) (le-ltb n (low + 1) (omega (from, apart, arith)))) refl
+    (λ f is. let from = ltb-false n low is in let apart = eqb-false n low other in
+    ap (λ b. cond b n k) (le-ltb n (low + 1) (omega (from, apart, arith)))) refl
 number_past false n low k other = refl
 
 number_here : (b : Bool) (n low k : ℕ) → b && (n == low) ≡ true → cond (b && nat_lt n (low + 1)) n k ≡ low
@@ -112,7 +116,8 @@ none_pass test (e ∷ es) none =
     on_bool (λ b. test e ≡ b → cond b (Some e) (find test es) ≡ None → All (λ x. test x ≡ false) (e ∷ es)) (test e)
     (λ t is its. absurd (cc (its))) (λ f is its. All-cons (λ x. test x ≡ false) e es is (none_pass test es its)) refl none
 
-none_taken : (test : Grain × Held → Bool) (grain : Grain) (held : Held) (es : List (Grain × Held)) → find test es ≡ None → lookup (is_at (grain_cmp grain)) es ≡ Some held → test (grain, held) ≡ false
+none_taken : (test : Grain × Held → Bool) (grain : Grain) (held : Held) (es : List (Grain × Held)) → find test es ≡ None
+    → lookup (is_at (grain_cmp grain)) es ≡ Some held → test (grain, held) ≡ false
 none_taken test grain held es none there =
     let so = found_so (λ e. test e ≡ false) (is_at (grain_cmp grain)) held es (none_pass test es none) there in
     subst (λ g. test (g, held) ≡ false) (sym (same_key grain_cmp grain_cmp_exact grain so.0 so.1)) so.2
@@ -122,17 +127,22 @@ all_found : {X : Type 0} (P : Grain × X → Type 0) (es : List (Grain × X)) �
     → ((grain : Grain) (x : X) → lookup (is_at (grain_cmp grain)) es ≡ Some x → P (grain, x)) → All P es
 all_found P [] once so = All-nil P
 all_found {X} P (e ∷ es) once so =
-    All-cons P e es (so e.0 e.1 (ap (λ b. cond b (Some e.1) (lookup (is_at (grain_cmp e.0)) es)) (ap is_eq (tied_itself grain_cmp_total e.0))))
+    All-cons P e es (so e.0 e.1 (ap (λ b. cond b (Some e.1) (lookup (is_at (grain_cmp e.0)) es))
+    (ap is_eq (tied_itself grain_cmp_total e.0))))
     (all_found P es (λ i j d lt below. once (suc i) (suc j) d (omega (arith, lt)) (omega (arith, below))) (λ grain x found.
     let there = found_so (λ (y : Grain × X). e.0 ≢ y.0) (is_at (grain_cmp grain)) x es (λ i d below. once 0 (suc i) d (omega arith) (omega (arith, below))) found in
     let other : grain ≢ e.0 = λ same. there.2 (sym same ∙ same_key grain_cmp grain_cmp_exact grain there.0 there.1) in
-    so grain x (ap (λ b. cond b (Some e.1) (lookup (is_at (grain_cmp grain)) es)) (apart_in_order grain_cmp grain_cmp_exact grain e.0 other) ∙ found)))
+    so grain x (ap (λ b. cond b (Some e.1) (lookup (is_at (grain_cmp grain)) es)) (apart_in_order grain_cmp grain_cmp_exact grain e.0 other)
+    ∙ found)))
 
 -- what is made of an entry is found under its key
-found_made : (make : Grain → Held → Held) (grain : Grain) (es : List (Grain × Held)) → lookup (is_at (grain_cmp grain)) (map (λ e. (e.0, make e.0 e.1)) es) ≡ option_map (make grain) (lookup (is_at (grain_cmp grain)) es)
+found_made : (make : Grain → Held → Held) (grain : Grain) (es : List (Grain × Held))
+    → lookup (is_at (grain_cmp grain)) (map (λ e. (e.0, make e.0 e.1)) es) ≡ option_map (make grain) (lookup (is_at (grain_cmp grain)) es)
 found_made make grain [] = refl
 found_made make grain (e ∷ es) =
-    on_bool (λ b. is_at (grain_cmp grain) e.0 ≡ b → cond b (Some (make e.0 e.1)) (lookup (is_at (grain_cmp grain)) (map (λ x. (x.0, make x.0 x.1)) es)) ≡ option_map (make grain) (cond b (Some e.1) (lookup (is_at (grain_cmp grain)) es)))
+    on_bool (λ b. is_at (grain_cmp grain) e.0 ≡ b → cond b (Some (make e.0 e.1))
+    (lookup (is_at (grain_cmp grain)) (map (λ x. (x.0, make x.0 x.1)) es)) ≡ option_map (make grain)
+    (cond b (Some e.1) (lookup (is_at (grain_cmp grain)) es)))
     (is_at (grain_cmp grain) e.0)
     (λ t at. ap (λ g. Some (make g e.1)) (sym (same_key grain_cmp grain_cmp_exact grain e.0 at))) (λ f at. found_made make grain es) refl
 
@@ -147,9 +157,11 @@ held_by passes new low held = held_in (phase_by passes new low held.phase) held.
 
 -- the phase's request was sent under its new number, if that is below this one
 abbrev IsSentBy : Bool → (ℕ → ℕ) → Phase → (low version : ℕ) → Silo → Grain → Held → List letters.Request → Type 0
-IsSentBy passes new (Asking k) low version silo grain held sent = passes ≡ true → new k < low → IsSent (Asking (new k)) version silo grain held sent
+IsSentBy passes new (Asking k) low version silo grain held sent =
+    passes ≡ true → new k < low → IsSent (Asking (new k)) version silo grain held sent
 IsSentBy passes new Firm low version silo grain held sent = ⊤
-IsSentBy passes new (Closing k) low version silo grain held sent = passes ≡ true → new k < low → IsSent (Closing (new k)) version silo grain held sent
+IsSentBy passes new (Closing k) low version silo grain held sent =
+    passes ≡ true → new k < low → IsSent (Closing (new k)) version silo grain held sent
 
 module _ (passes : Bool) (new : ℕ → ℕ) (low : ℕ) where
   phase_past : (phase : Phase) → gets passes new low phase ≡ false → phase_by passes new (low + 1) phase ≡ phase_by passes new low phase
@@ -157,17 +169,22 @@ module _ (passes : Bool) (new : ℕ → ℕ) (low : ℕ) where
   phase_past Firm other = refl
   phase_past (Closing k) other = ap Closing (number_past passes (new k) low k other)
 
-  held_past : (o : Option Held) → ((h : Held) → o ≡ Some h → gets passes new low h.phase ≡ false) → option_map (held_by passes new low) o ≡ option_map (held_by passes new (low + 1)) o
+  held_past : (o : Option Held) → ((h : Held) → o ≡ Some h → gets passes new low h.phase ≡ false)
+      → option_map (held_by passes new low) o ≡ option_map (held_by passes new (low + 1)) o
   held_past None other = refl
   held_past (Some h) other = ap (λ p. Some (held_in p h.count h.previous)) (sym (phase_past h.phase (other h refl)))
 
   -- more was sent, and it is still so
   sent_past :
-      (phase : Phase) (version : ℕ) (silo : Silo) (grain : Grain) (held : Held) (sent more : List letters.Request) → ((x : letters.Request) → Sent x sent → Sent x more)
-      → gets passes new low phase ≡ false → IsSentBy passes new phase low version silo grain held sent → IsSentBy passes new phase (low + 1) version silo grain held more
-  sent_past (Asking k) version silo grain held sent more grows other was = λ mine below. grows _ (was mine (past passes (new k) low other mine below))
+      (phase : Phase) (version : ℕ) (silo : Silo) (grain : Grain) (held : Held) (sent more : List letters.Request)
+      → ((x : letters.Request) → Sent x sent → Sent x more)
+      → gets passes new low phase ≡ false → IsSentBy passes new phase low version silo grain held sent
+      → IsSentBy passes new phase (low + 1) version silo grain held more
+  sent_past (Asking k) version silo grain held sent more grows other was =
+      λ mine below. grows _ (was mine (past passes (new k) low other mine below))
   sent_past Firm version silo grain held sent more grows other was = tt
-  sent_past (Closing k) version silo grain held sent more grows other was = λ mine below. grows _ (was mine (past passes (new k) low other mine below))
+  sent_past (Closing k) version silo grain held sent more grows other was =
+      λ mine below. grows _ (was mine (past passes (new k) low other mine below))
 
 -- the renewal of a host's requests has come so far
 record IsRenewed (host : Host) (passes : Grain → Bool) (new : ℕ → ℕ) (silo : Silo) (before w : protocol.World) (low : ℕ) : Type 0 where
@@ -176,17 +193,20 @@ record IsRenewed (host : Host) (passes : Grain → Bool) (new : ℕ → ℕ) (si
   next_count : w.next_count silo ≡ before.next_count silo
   next_number : w.next_number silo ≡ low
   held : (grain : Grain) → w.held silo grain ≡ option_map (held_by (passes grain) new low) (held_of host grain)
-  sent : (grain : Grain) (held : Held) → held_of host grain ≡ Some held → IsSentBy (passes grain) new held.phase low (before.seen silo) silo grain held w.requests
+  sent : (grain : Grain) (held : Held) → held_of host grain ≡ Some held
+      → IsSentBy (passes grain) new held.phase low (before.seen silo) silo grain held w.requests
 
 -- one number was taken
-record TakesOne (m : Setting) (host : Host) (passes : Grain → Bool) (new : ℕ → ℕ) (silo : Silo) (before w : protocol.World) (low : ℕ) : Type 0 where
+record TakesOne (m : Setting) (host : Host) (passes : Grain → Bool) (new : ℕ → ℕ) (silo : Silo) (before w : protocol.World) (low : ℕ) : Type
+    0 where
   a : Action
   allowed : Allowed m w a
   by : IsBy silo a
   then : IsRenewed host passes new silo before (after m w a) (low + 1)
 
 -- so many numbers were taken
-record TakesMany (m : Setting) (host : Host) (passes : Grain → Bool) (new : ℕ → ℕ) (silo : Silo) (before w : protocol.World) (low : ℕ) : Type 0 where
+record TakesMany (m : Setting) (host : Host) (passes : Grain → Bool) (new : ℕ → ℕ) (silo : Silo) (before w : protocol.World) (low : ℕ) :
+    Type 0 where
   actions : List Action
   allowed : AllAllowed m actions w
   by : AllBy silo actions
@@ -201,33 +221,39 @@ pub record SendsAnew (m : Setting) (passes : Grain → Bool) (made : Host) (silo
   pub shown : IsShownHost made (state_of (run m actions w) silo)
   pub sent : All (λ e. passes e.0 ≡ true → IsSent e.1.phase (w.seen silo) silo e.0 e.1 (run m actions w).requests) made.held
 
-module _ (m : Setting) (host made : Host) (passes : Grain → Bool) (new : ℕ → ℕ) (count : ℕ) (renewal : IsRenewal host passes new count made) (once : HoldsOnce host) (silo : Silo) (before : protocol.World) (alive : m.alive before.now silo ≡ true) where
+module _ (m : Setting) (host made : Host) (passes : Grain → Bool) (new : ℕ → ℕ) (count : ℕ) (renewal : IsRenewal host passes new count made)
+    (once : HoldsOnce host) (silo : Silo) (before : protocol.World) (alive : m.alive before.now silo ≡ true) where
   -- ---- one number more
   module _ (w : protocol.World) (low : ℕ) (is : IsRenewed host passes new silo before w low) where
     living : m.alive w.now silo ≡ true
     living = ap (λ now. m.alive now silo) is.now ∙ alive
 
     -- no other activation's request has the new number
-    other_grain : (g r : Grain) (its held : Held) → held_of host g ≡ Some its → gets (passes g) new low its.phase ≡ true → r ≢ g → held_of host r ≡ Some held → gets (passes r) new low held.phase ≡ false
+    other_grain : (g r : Grain) (its held : Held) → held_of host g ≡ Some its → gets (passes g) new low its.phase ≡ true → r ≢ g
+        → held_of host r ≡ Some held → gets (passes r) new low held.phase ≡ false
     other_grain g r its held found got apart there =
         on_bool (λ b. gets (passes r) new low held.phase ≡ b → b ≡ false) (gets (passes r) new low held.phase)
         (λ t so. absurd (apart (renewal.apart low g r its held found there got so))) (λ f so. refl) refl
 
     put_held :
-        (g : Grain) (its : Held) (x : protocol.Held) → held_of host g ≡ Some its → gets (passes g) new low its.phase ≡ true → x ≡ held_by (passes g) new (low + 1) its → (r : Grain)
+        (g : Grain) (its : Held) (x : protocol.Held) → held_of host g ≡ Some its → gets (passes g) new low its.phase ≡ true
+        → x ≡ held_by (passes g) new (low + 1) its → (r : Grain)
         → put_at silo g (Some x) w.held silo r ≡ option_map (held_by (passes r) new (low + 1)) (held_of host r)
     put_held g its x found got x_is r =
         elim (grain_cases r g) [
           | inl same ↦
-              ap (λ q. put_at silo g (Some x) w.held silo q) same ∙ put_at_same silo g (Some x) w.held ∙ ap Some x_is ∙ ap (option_map (held_by (passes g) new (low + 1))) (sym found)
+              ap (λ q. put_at silo g (Some x) w.held silo q) same ∙ put_at_same silo g (Some x) w.held ∙ ap Some x_is
+              ∙ ap (option_map (held_by (passes g) new (low + 1))) (sym found)
               ∙ ap (λ q. option_map (held_by (passes q) new (low + 1)) (held_of host q)) (sym same)
           | inr apart ↦
-              put_at_other silo g (Some x) w.held silo r (λ s. apart) ∙ is.held r ∙ held_past (passes r) new low (held_of host r) (λ h there. other_grain g r its h found got apart there)
+              put_at_other silo g (Some x) w.held silo r (λ s. apart) ∙ is.held r
+              ∙ held_past (passes r) new low (held_of host r) (λ h there. other_grain g r its h found got apart there)
         ]
 
     sent_one :
         (g : Grain) (its : Held) (x : letters.Request) → held_of host g ≡ Some its → gets (passes g) new low its.phase ≡ true
-        → IsSentBy (passes g) new its.phase (low + 1) (before.seen silo) silo g its (x ∷ w.requests) → (r : Grain) (held : Held) → held_of host r ≡ Some held
+        → IsSentBy (passes g) new its.phase (low + 1) (before.seen silo) silo g its (x ∷ w.requests) → (r : Grain) (held : Held)
+        → held_of host r ≡ Some held
         → IsSentBy (passes r) new held.phase (low + 1) (before.seen silo) silo r held (x ∷ w.requests)
     sent_one g its x found got now r held there =
         elim (grain_cases r g) [
@@ -237,14 +263,18 @@ module _ (m : Setting) (host made : Host) (passes : Grain → Bool) (new : ℕ �
               subst (λ q. IsSentBy (passes q) new held.phase (low + 1) (before.seen silo) silo q held (x ∷ w.requests)) (sym same)
               (subst (λ y. IsSentBy (passes g) new y.phase (low + 1) (before.seen silo) silo g y (x ∷ w.requests)) here now)
           | inr apart ↦
-              sent_past (passes r) new low held.phase (before.seen silo) silo r held w.requests (x ∷ w.requests) (λ y s. inr s) (other_grain g r its held found got apart there) (is.sent r held there)
+              sent_past (passes r) new low held.phase (before.seen silo) silo r held w.requests (x ∷ w.requests) (λ y s. inr s)
+              (other_grain g r its held found got apart there) (is.sent r held there)
         ]
 
     -- an activation's request is sent under the number
     renews :
-        (g : Grain) (its : Held) (x : protocol.Held) (purpose : letters.Purpose) → w.held silo g ≡ Some x → (n : ℕ) × (protocol.outstanding purpose x ≡ Some n)
-        → held_of host g ≡ Some its → gets (passes g) new low its.phase ≡ true → protocol.renumbered (w.next_number silo) x ≡ held_by (passes g) new (low + 1) its
-        → IsSentBy (passes g) new its.phase (low + 1) (before.seen silo) silo g its (asked w purpose silo g (protocol.count_of x) (protocol.previous_of x) ∷ w.requests)
+        (g : Grain) (its : Held) (x : protocol.Held) (purpose : letters.Purpose) → w.held silo g ≡ Some x
+        → (n : ℕ) × (protocol.outstanding purpose x ≡ Some n)
+        → held_of host g ≡ Some its → gets (passes g) new low its.phase ≡ true
+        → protocol.renumbered (w.next_number silo) x ≡ held_by (passes g) new (low + 1) its
+        → IsSentBy (passes g) new its.phase (low + 1) (before.seen silo) silo g its
+        (asked w purpose silo g (protocol.count_of x) (protocol.previous_of x) ∷ w.requests)
         → TakesOne m host passes new silo before w low
     renews g its x purpose there number found got renumbered sent =
         let n = is.next_number in
@@ -266,14 +296,17 @@ module _ (m : Setting) (host made : Host) (passes : Grain → Bool) (new : ℕ �
         (n : ℕ) (purpose : letters.Purpose) (g : Grain) (count : ℕ) (previous : Option ActivationId) → n ≡ low
         → request_by purpose (before.seen silo) n silo g count previous ≡ asked w purpose silo g count previous
     request_is n purpose g count previous at =
-        same_request purpose g previous (before.seen silo) (w.seen silo) n (w.next_number silo) silo silo count count (sym is.leaves.seen) (at ∙ sym is.next_number) refl refl
+        same_request purpose g previous (before.seen silo) (w.seen silo) n (w.next_number silo) silo silo count count (sym is.leaves.seen)
+        (at ∙ sym is.next_number) refl refl
 
-    renews_one : (phase : Phase) (g : Grain) (its : Held) → held_of host g ≡ Some (record its { phase = phase }) → gets (passes g) new low phase ≡ true → TakesOne m host passes new silo before w low
+    renews_one : (phase : Phase) (g : Grain) (its : Held) → held_of host g ≡ Some (record its { phase = phase })
+        → gets (passes g) new low phase ≡ true → TakesOne m host passes new silo before w low
     renews_one (Asking k) g its found got =
         let at = its_number (passes g) (new k) low got in
         let low_is : new k ≡ low = at.1 in
         renews g (record its { phase = Asking k }) (protocol.Asking its.count k its.previous) letters.Register
-        (is.held g ∙ ap (option_map (held_by (passes g) new low)) found ∙ ap (λ n. Some (protocol.Asking its.count n its.previous)) (number_before (passes g) (new k) low k (omega (low_is, arith))))
+        (is.held g ∙ ap (option_map (held_by (passes g) new low)) found
+        ∙ ap (λ n. Some (protocol.Asking its.count n its.previous)) (number_before (passes g) (new k) low k (omega (low_is, arith))))
         (k, refl) found got
         (ap (λ n. protocol.Asking its.count n its.previous) (is.next_number ∙ sym (number_here (passes g) (new k) low k got)))
         (λ mine below. inl (request_is (new k) letters.Register g its.count its.previous low_is))
@@ -282,13 +315,15 @@ module _ (m : Setting) (host made : Host) (passes : Grain → Bool) (new : ℕ �
         let at = its_number (passes g) (new k) low got in
         let low_is : new k ≡ low = at.1 in
         renews g (record its { phase = Closing k }) (protocol.Closing its.count k) letters.Deregister
-        (is.held g ∙ ap (option_map (held_by (passes g) new low)) found ∙ ap (λ n. Some (protocol.Closing its.count n)) (number_before (passes g) (new k) low k (omega (low_is, arith))))
+        (is.held g ∙ ap (option_map (held_by (passes g) new low)) found
+        ∙ ap (λ n. Some (protocol.Closing its.count n)) (number_before (passes g) (new k) low k (omega (low_is, arith))))
         (k, refl) found got
         (ap (λ n. protocol.Closing its.count n) (is.next_number ∙ sym (number_here (passes g) (new k) low k got)))
         (λ mine below. inl (request_is (new k) letters.Deregister g its.count None low_is))
 
     -- a find takes it, where no activation's request does
-    finds_one : ((grain : Grain) (held : Held) → held_of host grain ≡ Some held → gets (passes grain) new low held.phase ≡ false) → TakesOne m host passes new silo before w low
+    finds_one : ((grain : Grain) (held : Held) → held_of host grain ≡ Some held → gets (passes grain) new low held.phase ≡ false)
+        → TakesOne m host passes new silo before w low
     finds_one none =
         let n = is.next_number in
         record {
@@ -301,7 +336,9 @@ module _ (m : Setting) (host made : Host) (passes : Grain → Bool) (new : ℕ �
             next_count = is.next_count;
             next_number = put_same silo (suc (w.next_number silo)) w.next_number ∙ omega arith;
             held = λ r. is.held r ∙ held_past (passes r) new low (held_of host r) (none r);
-            sent = λ r held there. sent_past (passes r) new low held.phase (before.seen silo) silo r held w.requests w.requests (λ x s. s) (none r held there) (is.sent r held there);
+            sent =
+                λ r held there. sent_past (passes r) new low held.phase (before.seen silo) silo r held w.requests w.requests (λ x s. s)
+                (none r held there) (is.sent r held there);
           };
         }
 
@@ -317,7 +354,8 @@ module _ (m : Setting) (host made : Host) (passes : Grain → Bool) (new : ℕ �
             let there = find_looked grain_cmp grain_cmp_total grain_cmp_exact takes host.held e once found in
             renews_one e.1.phase e.0 e.1 there.1 there.0
 
-  takes_many : (n : ℕ) (w : protocol.World) (low : ℕ) → IsRenewed host passes new silo before w low → TakesMany m host passes new silo before w (low + n)
+  takes_many : (n : ℕ) (w : protocol.World) (low : ℕ) → IsRenewed host passes new silo before w low
+      → TakesMany m host passes new silo before w (low + n)
   takes_many zero w low is = record {
     actions = [];
     allowed = tt;
@@ -331,7 +369,9 @@ module _ (m : Setting) (host made : Host) (passes : Grain → Bool) (new : ℕ �
         actions = first.a ∷ rest.actions;
         allowed = (first.allowed, rest.allowed);
         by = (first.by, rest.by);
-        then = let same : low + 1 + n ≡ low + suc n = omega arith in subst (IsRenewed host passes new silo before (run m rest.actions (after m w first.a))) same rest.then;
+        then =
+            let same : low + 1 + n ≡ low + suc n = omega arith in
+            subst (IsRenewed host passes new silo before (run m rest.actions (after m w first.a))) same rest.then;
       }
 
   -- ---- the first number
@@ -344,7 +384,8 @@ module _ (m : Setting) (host made : Host) (passes : Grain → Bool) (new : ℕ �
   held_first its None = refl
   held_first its (Some h) = ap (λ p. Some (held_in p h.count h.previous)) (sym (phase_first its h.phase))
 
-  sent_first : (its : Bool) (phase : Phase) (version : ℕ) (grain : Grain) (held : Held) (sent : List letters.Request) → IsSentBy its new phase host.next_number version silo grain held sent
+  sent_first : (its : Bool) (phase : Phase) (version : ℕ) (grain : Grain) (held : Held) (sent : List letters.Request)
+      → IsSentBy its new phase host.next_number version silo grain held sent
   sent_first its (Asking k) version grain held sent = λ mine below. let from = renewal.from k in absurd (omega (below, from, arith))
   sent_first its Firm version grain held sent = tt
   sent_first its (Closing k) version grain held sent = λ mine below. let from = renewal.from k in absurd (omega (below, from, arith))
@@ -366,12 +407,16 @@ module _ (m : Setting) (host made : Host) (passes : Grain → Bool) (new : ℕ �
   abbrev anew : Grain → Held → Held
   anew grain held = record held { phase = phase_anew (passes grain) new held.phase }
 
-  phase_last : (phase : Phase) (grain : Grain) (held : Held) → held_of host grain ≡ Some (record held { phase = phase }) → phase_by (passes grain) new end phase ≡ phase_anew (passes grain) new phase
-  phase_last (Asking k) grain held found = ap Asking (number_after (passes grain) (new k) end k (renewal.below (new k) grain (record held { phase = Asking k }) found))
+  phase_last : (phase : Phase) (grain : Grain) (held : Held) → held_of host grain ≡ Some (record held { phase = phase })
+      → phase_by (passes grain) new end phase ≡ phase_anew (passes grain) new phase
+  phase_last (Asking k) grain held found =
+      ap Asking (number_after (passes grain) (new k) end k (renewal.below (new k) grain (record held { phase = Asking k }) found))
   phase_last Firm grain held found = refl
-  phase_last (Closing k) grain held found = ap Closing (number_after (passes grain) (new k) end k (renewal.below (new k) grain (record held { phase = Closing k }) found))
+  phase_last (Closing k) grain held found =
+      ap Closing (number_after (passes grain) (new k) end k (renewal.below (new k) grain (record held { phase = Closing k }) found))
 
-  held_last : (grain : Grain) (o : Option Held) → held_of host grain ≡ o → option_map (held_by (passes grain) new end) o ≡ option_map held_as (option_map (anew grain) o)
+  held_last : (grain : Grain) (o : Option Held) → held_of host grain ≡ o
+      → option_map (held_by (passes grain) new end) o ≡ option_map held_as (option_map (anew grain) o)
   held_last grain None found = refl
   held_last grain (Some h) found = ap (λ p. Some (held_in p h.count h.previous)) (phase_last h.phase grain h found)
 
@@ -384,8 +429,10 @@ module _ (m : Setting) (host made : Host) (passes : Grain → Bool) (new : ℕ �
   number_last false k mine = absurd (cc (mine))
 
   sent_last :
-      (phase : Phase) (version : ℕ) (grain : Grain) (held : Held) (sent : List letters.Request) → held_of host grain ≡ Some (record held { phase = phase }) → passes grain ≡ true
-      → IsSentBy (passes grain) new phase end version silo grain held sent → IsSent (phase_anew (passes grain) new phase) version silo grain (record held { phase = phase_anew (passes grain) new phase }) sent
+      (phase : Phase) (version : ℕ) (grain : Grain) (held : Held) (sent : List letters.Request)
+      → held_of host grain ≡ Some (record held { phase = phase }) → passes grain ≡ true
+      → IsSentBy (passes grain) new phase end version silo grain held sent
+      → IsSent (phase_anew (passes grain) new phase) version silo grain (record held { phase = phase_anew (passes grain) new phase }) sent
   sent_last (Asking k) version grain held sent found mine is =
       subst (λ n. Sent (request_by letters.Register version n silo grain held.count held.previous) sent) (number_last (passes grain) k mine)
       (is mine (renewal.below (new k) grain (record held { phase = Asking k }) found (got_last (passes grain) k mine)))
@@ -411,12 +458,17 @@ module _ (m : Setting) (host made : Host) (passes : Grain → Bool) (new : ℕ �
           next_number = is.next_number ∙ sym renewal.next_number;
           next_count = is.next_count ∙ shown.next_count ∙ sym renewal.next_count;
         };
-        sent = subst (All P) (sym renewal.held) (All-map P (λ e. (e.0, anew e.0 e.1)) host.held (all_found (λ e. P (e.0, anew e.0 e.1)) host.held once (λ grain held there mine.
-            sent_last held.phase (before.seen silo) grain held (run m takes.actions before).requests there mine (is.sent grain held there))));
+        sent =
+            subst (All P) (sym renewal.held) (All-map P (λ e. (e.0, anew e.0 e.1)) host.held
+            (all_found (λ e. P (e.0, anew e.0 e.1)) host.held once (λ grain held there mine.
+            sent_last held.phase (before.seen silo) grain held (run m takes.actions before).requests there mine
+            (is.sent grain held there))));
       }
 
 -- two ways to give new numbers that are alike
-pub alike : (one other : Grain → Phase → Phase) → ((grain : Grain) (phase : Phase) → one grain phase ≡ other grain phase) → (es : List (Grain × Held)) → map (made_by one) es ≡ map (made_by other) es
+pub alike : (one other : Grain → Phase → Phase) → ((grain : Grain) (phase : Phase) → one grain phase ≡ other grain phase)
+    → (es : List (Grain × Held)) → map (made_by one) es ≡ map (made_by other) es
 alike one other same [] = refl
 alike one other same (e ∷ es) =
-    ap (λ (p : Phase). let its : Grain × Held = (e.0, record e.1 { phase = p }) in its ∷ map (made_by one) es) (same e.0 e.1.phase) ∙ ap (λ xs. made_by other e ∷ xs) (alike one other same es)
+    ap (λ (p : Phase). let its : Grain × Held = (e.0, record e.1 { phase = p }) in its ∷ map (made_by one) es) (same e.0 e.1.phase)
+    ∙ ap (λ xs. made_by other e ∷ xs) (alike one other same es)

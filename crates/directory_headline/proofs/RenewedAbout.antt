@@ -21,16 +21,21 @@ use Rattle.directory_headline.proofs.Renewals.{gets, phase_anew, IsRenewal, alik
 use Rattle.directory_headline.proofs.Distinct.{once, many_more, many_found}
 
 -- what is found of a grain that passes a test is found among those that pass
-found_among : (passes : Grain → Bool) (grain : Grain) (es : List (Grain × Held)) → passes grain ≡ true → lookup (is_at (grain_cmp grain)) (filter (λ e. passes e.0) es) ≡ lookup (is_at (grain_cmp grain)) es
+found_among : (passes : Grain → Bool) (grain : Grain) (es : List (Grain × Held)) → passes grain ≡ true
+    → lookup (is_at (grain_cmp grain)) (filter (λ e. passes e.0) es) ≡ lookup (is_at (grain_cmp grain)) es
 found_among passes grain [] mine = refl
 found_among passes grain (e ∷ es) mine =
     let later = found_among passes grain es mine in
-    on_bool (λ b. passes e.0 ≡ b → lookup (is_at (grain_cmp grain)) (cond b (e ∷ filter (λ x. passes x.0) es) (filter (λ x. passes x.0) es)) ≡ cond (is_at (grain_cmp grain) e.0) (Some e.1) (lookup (is_at (grain_cmp grain)) es)) (passes e.0)
+    on_bool (λ b. passes e.0 ≡ b → lookup (is_at (grain_cmp grain)) (cond b (e ∷ filter (λ x. passes x.0) es) (filter (λ x. passes x.0) es))
+    ≡ cond (is_at (grain_cmp grain) e.0) (Some e.1) (lookup (is_at (grain_cmp grain)) es)) (passes e.0)
     (λ t is. ap (cond (is_at (grain_cmp grain) e.0) (Some e.1)) later)
-    (λ f is. later ∙ on_bool (λ b. is_at (grain_cmp grain) e.0 ≡ b → lookup (is_at (grain_cmp grain)) es ≡ cond b (Some e.1) (lookup (is_at (grain_cmp grain)) es)) (is_at (grain_cmp grain) e.0)
-    (λ u at. let same = sym mine ∙ ap passes (same_key grain_cmp grain_cmp_exact grain e.0 at) ∙ is in absurd (cc (same))) (λ u at. refl) refl) refl
+    (λ f is. later ∙ on_bool (λ b. is_at (grain_cmp grain) e.0 ≡ b
+    → lookup (is_at (grain_cmp grain)) es ≡ cond b (Some e.1) (lookup (is_at (grain_cmp grain)) es)) (is_at (grain_cmp grain) e.0)
+    (λ u at. let same = sym mine ∙ ap passes (same_key grain_cmp grain_cmp_exact grain e.0 at) ∙ is in absurd (cc (same))) (λ u at. refl)
+    refl) refl
 
-gets_both : (passes : Bool) (new : ℕ → ℕ) (n : ℕ) (phase : Phase) → gets passes new n phase ≡ true → (passes ≡ true) × (gets true new n phase ≡ true)
+gets_both : (passes : Bool) (new : ℕ → ℕ) (n : ℕ) (phase : Phase) → gets passes new n phase ≡ true
+    → (passes ≡ true) × (gets true new n phase ≡ true)
 gets_both true new n phase got = (refl, got)
 gets_both false new n (Asking k) got = absurd (cc (got))
 gets_both false new n Firm got = absurd (cc (got))
@@ -52,7 +57,8 @@ module _ (grain : Grain) (host : Host) where
   phase_about false (Closing k) = refl
 
   -- a number that its activation gets is below the new next one
-  below : AreNumbered host → (n : ℕ) (r : Grain) (held : Held) → lookup (is_at (grain_cmp r)) host.held ≡ Some held → gets (grain_eq r grain) new n held.phase ≡ true → n < end
+  below : AreNumbered host → (n : ℕ) (r : Grain) (held : Held) → lookup (is_at (grain_cmp r)) host.held ≡ Some held
+      → gets (grain_eq r grain) new n held.phase ≡ true → n < end
   below numbered n r held found got =
       let both = gets_both (grain_eq r grain) new n held.phase got in
       let about = filter (λ e. grain_eq e.0 grain) host.held in
@@ -62,14 +68,17 @@ module _ (grain : Grain) (host : Host) where
       (λ f is. let none = new_below grain host (λ k. let few = once host numbered k in let both_are = times_append k (numbers host.held) (keys_of host.finds) in omega (few, both_are, arith)) n (ltb-false n end is) in
       absurd (omega (none, some, more, arith))) refl
 
-  pub grain_renewed : AreNumbered host → IsRenewal host (λ r. grain_eq r grain) (new_number_about grain host) (length (requests_about grain host)) (renewed_about grain host)
+  pub grain_renewed : AreNumbered host → IsRenewal host (λ r. grain_eq r grain) (new_number_about grain host)
+      (length (requests_about grain host)) (renewed_about grain host)
   grain_renewed numbered = record {
     from = λ k. omega arith;
     below = below numbered;
     apart = λ n g r x y found there got too.
-        (Decides-grain r grain).0 (gets_both (grain_eq r grain) new n y.phase too).0 ∙ sym ((Decides-grain g grain).0 (gets_both (grain_eq g grain) new n x.phase got).0);
+        (Decides-grain r grain).0 (gets_both (grain_eq r grain) new n y.phase too).0
+        ∙ sym ((Decides-grain g grain).0 (gets_both (grain_eq g grain) new n x.phase got).0);
     next_number = refl;
     next_count = refl;
     held =
-        alike (λ r phase. if grain_eq r grain then phase_renewed_about grain host phase else phase) (λ r phase. phase_anew (grain_eq r grain) new phase) (λ r phase. phase_about (grain_eq r grain) phase) host.held;
+        alike (λ r phase. if grain_eq r grain then phase_renewed_about grain host phase else phase)
+        (λ r phase. phase_anew (grain_eq r grain) new phase) (λ r phase. phase_about (grain_eq r grain) phase) host.held;
   }

@@ -38,9 +38,12 @@ ways m f w silo node here = record {
   closes = λ grain held may brings. closes m f w silo node here grain held may;
   cancels = λ grain held may brings. cancels m f w silo node here grain held may;
   offers = λ grain held to may active other brings. offers m f w silo node here grain held may to;
-  uses_hint = λ grain activation hint brings. cache_changes m f w silo node here (in_front node.cache grain activation) (effect.Cached (record { grain = grain; activation = activation }));
+  uses_hint =
+      λ grain activation hint brings. cache_changes m f w silo node here (in_front node.cache grain activation)
+      (effect.Cached (record { grain = grain; activation = activation }));
   finds = λ grain room numbers brings. finds m f w silo node here grain;
-  forgets = λ grain activation hint brings. cache_changes m f w silo node here (without_pair node.cache grain activation) (effect.Forgot grain);
+  forgets =
+      λ grain activation hint brings. cache_changes m f w silo node here (without_pair node.cache grain activation) (effect.Forgot grain);
   nudges = λ numbers brings. nudges m f w silo node here;
   nudges_grain = λ grain numbers brings. nudges_grain m f w silo node here grain;
   nudges_ranges = λ brings. nudges_ranges m f w silo node here;

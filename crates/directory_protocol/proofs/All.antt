@@ -61,7 +61,8 @@ settled_is_right m w k g s i =
       held = λ a e l. k.backed.entries.held_there g a (sym right ∙ e);
       live = λ a e now.
           let member : m.member (w.level (m.hash g)) a.silo ≡ true = k.backed.entries.on_member g a (sym right ∙ e) in
-          m.member_is_alive w.now a.silo (subst (λ v. m.member v a.silo ≡ true) (k.placed.levels.at_level s (m.hash g) i.alive i.settled ∙ now) member);
+          m.member_is_alive w.now a.silo (subst (λ v. m.member v a.silo ≡ true)
+          (k.placed.levels.at_level s (m.hash g) i.alive i.settled ∙ now) member);
     }
   where
     right : w.table s g ≡ w.authority g

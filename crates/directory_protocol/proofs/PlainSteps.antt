@@ -41,25 +41,31 @@ renumbered_life n (Closing c i) = refl
 module _ (m : Setting) (w : World) (s : Silo) (g : Grain) (o : Option Held) (alive : m.alive w.now s ≡ true) where
   lives_changed :
       (t : Silo) (r : Grain)
-      → cond (m.alive w.now t) (option_map life_of (put_at s g o w.held t r)) None ≡ put_at s g (option_map life_of o) (λ t r. cond (m.alive w.now t) (option_map life_of (w.held t r)) None) t r
+      → cond (m.alive w.now t) (option_map life_of (put_at s g o w.held t r)) None ≡ put_at s g (option_map life_of o)
+      (λ t r. cond (m.alive w.now t) (option_map life_of (w.held t r)) None) t r
   lives_changed =
-      put_at_all (λ t r y. cond (m.alive w.now t) (option_map life_of (put_at s g o w.held t r)) None ≡ y) s g (option_map life_of o) (λ t r. cond (m.alive w.now t) (option_map life_of (w.held t r)) None)
+      put_at_all (λ t r y. cond (m.alive w.now t) (option_map life_of (put_at s g o w.held t r)) None ≡ y) s g (option_map life_of o)
+      (λ t r. cond (m.alive w.now t) (option_map life_of (w.held t r)) None)
       (seen_live (m.alive w.now s) (put_at s g o w.held s g) alive ∙ ap (option_map life_of) (put_at_same s g o w.held))
       (λ t r n. ap (λ o. cond (m.alive w.now t) (option_map life_of o) None) (put_at_other s g o w.held t r n))
 
   lives_same :
       (x : Held) → w.held s g ≡ Some x → option_map life_of o ≡ Some (life_of x) → (t : Silo) (r : Grain)
-      → cond (m.alive w.now t) (option_map life_of (put_at s g o w.held t r)) None ≡ cond (m.alive w.now t) (option_map life_of (w.held t r)) None
+      → cond (m.alive w.now t) (option_map life_of (put_at s g o w.held t r)) None ≡ cond (m.alive w.now t)
+      (option_map life_of (w.held t r)) None
   lives_same x there same =
-      put_at_all (λ t r o. cond (m.alive w.now t) (option_map life_of o) None ≡ cond (m.alive w.now t) (option_map life_of (w.held t r)) None) s g o w.held
+      put_at_all (λ t r o. cond (m.alive w.now t) (option_map life_of o) None ≡ cond (m.alive w.now t) (option_map life_of (w.held t r))
+      None) s g o w.held
       (ap (λ o. cond (m.alive w.now s) o None) (same ∙ sym (ap (option_map life_of) there)))
       (λ t r n. refl)
 
 lives_viewed :
     (m : Setting) (w : World) (t : Silo) (r : Grain)
-    → cond (m.alive (suc w.now) t) (option_map life_of (w.held t r)) None ≡ cond (m.alive (suc w.now) t) (cond (m.alive w.now t) (option_map life_of (w.held t r)) None) None
+    → cond (m.alive (suc w.now) t) (option_map life_of (w.held t r)) None ≡ cond (m.alive (suc w.now) t)
+    (cond (m.alive w.now t) (option_map life_of (w.held t r)) None) None
 lives_viewed m w t r =
-    on_bool (λ b. cond b (option_map life_of (w.held t r)) None ≡ cond b (cond (m.alive w.now t) (option_map life_of (w.held t r)) None) None) (m.alive (suc w.now) t)
+    on_bool (λ b. cond b (option_map life_of (w.held t r)) None ≡ cond b (cond (m.alive w.now t) (option_map life_of (w.held t r)) None)
+    None) (m.alive (suc w.now) t)
     (λ a. sym (seen_live (m.alive w.now t) (w.held t r) (m.dead_stays_dead w.now (suc w.now) t (omega arith) a)))
     (λ a. refl)
 
@@ -94,7 +100,8 @@ left_plainly m w y g (Closing c n) may = (
 -- the activation is seen in its phase, and then closing
 closing_plainly :
     (m : Setting) (w : World) (s : Silo) (g : Grain) (x : Held) → MayClose m w s g x
-    → ((plain_of m w).lives s g ≡ Some (life_of x)) × IsChanged (plain_of m w) s g (Some (Is_closing (count_of x))) (plain_of m (after m w (Close s g x)))
+    → ((plain_of m w).lives s g ≡ Some (life_of x)) × IsChanged (plain_of m w) s g (Some (Is_closing (count_of x)))
+    (plain_of m (after m w (Close s g x)))
 closing_plainly m w s g x may = (
   seen_live (m.alive w.now s) (w.held s g) may.alive ∙ ap (option_map life_of) may.held,
   record { version = refl; unused = λ t. refl; lives = lives_changed m w s g (Some (Closing (count_of x) (w.next_number s))) may.alive },
@@ -124,7 +131,8 @@ steps_plainly m w k (Renew s g x purpose) may =
     record {
       version = refl;
       unused = λ t. refl;
-      lives = lives_same m w s g (Some (renumbered (w.next_number s) x)) may.alive x may.held (ap Some (renumbered_life (w.next_number s) x));
+      lives =
+          lives_same m w s g (Some (renumbered (w.next_number s) x)) may.alive x may.held (ap Some (renumbered_life (w.next_number s) x));
     }
 steps_plainly m w k (Find s) may = record { version = refl; unused = λ t. refl; lives = λ t r. refl }
 steps_plainly m w k (Serve x) may = record { version = refl; unused = λ t. refl; lives = λ t r. refl }

@@ -107,7 +107,8 @@ members k s e = by_name (bool_cases (silo_eq s first)) (bool_cases (silo_eq s se
         absurd (omega (arith, joined, soon))
 
 pub only_first : (s : Silo) → cluster.member 1 s ≡ true → s ≡ first
-only_first s e = elim (members 1 s e) [ inl a ↦ a.0 | inr a ↦ elim a [ inl b ↦ absurd (omega (arith, b.1)) | inr b ↦ absurd (omega (arith, b.1)) ] ]
+only_first s e =
+    elim (members 1 s e) [ inl a ↦ a.0 | inr a ↦ elim a [ inl b ↦ absurd (omega (arith, b.1)) | inr b ↦ absurd (omega (arith, b.1)) ] ]
 
 abbrev pub all : ℕ → Bool
 all h = true

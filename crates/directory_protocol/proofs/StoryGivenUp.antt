@@ -19,7 +19,9 @@ asking = opening ++ (Start first ann None ∷ [])
 
 asking_allowed : AllAllowed cluster asking start
 unfolding put put_at put_grain
-asking_allowed = allowed_append cluster opening (Start first ann None ∷ []) start opening_allowed (record { alive = refl; member = refl; free = refl; offered = λ p e. absurd cc }, tt)
+asking_allowed =
+    allowed_append cluster opening (Start first ann None ∷ []) start opening_allowed
+    (record { alive = refl; member = refl; free = refl; offered = λ p e. absurd cc }, tt)
 
 -- its deregistration under that number is served, and it is gone
 abbrev leaving : ℕ → List Action
@@ -42,8 +44,25 @@ gives_up_in_time = (
       refl,
       refl,
       (
-        record { sent = inl refl; alive = refl; same_version = refl; settled = refl; new_number = omega arith; answered = (refl, inr ((λ e. cc), refl)) },
-        (record { accepted = record { alive = refl; sent = inl refl; counts = record { held_there = refl; same_number = refl; same_version = refl } }; answer = λ e. cc }, tt),
+        record {
+          sent = inl refl;
+          alive = refl;
+          same_version = refl;
+          settled = refl;
+          new_number = omega arith;
+          answered = (refl, inr ((λ e. cc), refl));
+        },
+        (
+          record {
+            accepted = record {
+              alive = refl;
+              sent = inl refl;
+              counts = record { held_there = refl; same_number = refl; same_version = refl };
+            };
+            answer = λ e. cc;
+          },
+          tt,
+        ),
       ),
       (refl, refl, refl, omega arith),
       refl,
@@ -66,7 +85,18 @@ cancel_forgets_the_activation = (
   entered 1 ∷ [],
   asking_allowed,
   (first, ann, 1, 1, None, record { alive = refl; held = refl; not_yet = refl }, refl),
-  (record { sent = inl refl; alive = refl; same_version = refl; settled = refl; new_number = omega arith; answered = inl (refl, refl, inl refl) }, tt),
+  (
+    record {
+      sent = inl refl;
+      alive = refl;
+      same_version = refl;
+      settled = refl;
+      new_number = omega arith;
+      answered = inl
+          (refl, refl, inl refl);
+    },
+    tt,
+  ),
   λ right.
       let none = (right ann first (record { alive = refl; settled = refl })).held one refl refl in
       let e : None ≡ Some none.0 = none.1 in
@@ -81,7 +111,9 @@ abbrev closing_first : World
 closing_first =
     record (run cluster asking_second start) {
       held = put_at first ann (Some (Closing 1 1)) (run cluster asking_second start).held;
-      requests = record (asked (run cluster asking_second start) Deregister first ann 1 None) { number = 1 } ∷ (run cluster asking_second start).requests;
+      requests =
+          record (asked (run cluster asking_second start) Deregister first ann 1 None) { number = 1 } ∷
+          (run cluster asking_second start).requests;
     }
 
 pub cancel_has_an_older_number : Breaks CancelHasAnOlderNumber SettledIsRight
@@ -91,13 +123,39 @@ cancel_has_an_older_number = (
   asking_second,
   closing_first,
   leaving 1 ++ (entered 2 ∷ []),
-  allowed_append cluster opening (Find first ∷ Start first ann None ∷ []) start opening_allowed (refl, (record { alive = refl; member = refl; free = refl; offered = λ p e. absurd cc }, tt)),
+  allowed_append cluster opening (Find first ∷ Start first ann None ∷ []) start opening_allowed
+      (refl, (record { alive = refl; member = refl; free = refl; offered = λ p e. absurd cc }, tt)),
   (first, ann, 1, 2, 1, None, record { alive = refl; held = refl; not_yet = refl }, omega arith, refl),
   (
-    record { sent = inl refl; alive = refl; same_version = refl; settled = refl; new_number = omega arith; answered = (refl, inr ((λ e. cc), refl)) },
+    record {
+      sent = inl refl;
+      alive = refl;
+      same_version = refl;
+      settled = refl;
+      new_number = omega arith;
+      answered = (refl, inr ((λ e. cc), refl));
+    },
     (
-      record { accepted = record { alive = refl; sent = inl refl; counts = record { held_there = refl; same_number = refl; same_version = refl } }; answer = λ e. cc },
-      (record { sent = inr (inl refl); alive = refl; same_version = refl; settled = refl; new_number = omega arith; answered = inl (refl, refl, inl refl) }, tt),
+      record {
+        accepted = record {
+          alive = refl;
+          sent = inl refl;
+          counts = record { held_there = refl; same_number = refl; same_version = refl };
+        };
+        answer = λ e. cc;
+      },
+      (
+        record {
+          sent = inr (inl refl);
+          alive = refl;
+          same_version = refl;
+          settled = refl;
+          new_number = omega arith;
+          answered = inl
+              (refl, refl, inl refl);
+        },
+        tt,
+      ),
     ),
   ),
   λ right.

@@ -19,7 +19,8 @@ one = activation_on first 1
 -- ann is registered and firm
 abbrev pub registering : List Action
 registering =
-    Start first ann None ∷ answers (registration 1 1 first 1 None) Registered (Some one) ∷ Confirm (reply Registered 1 1 first) ann (Asking 1 1 None) ∷ []
+    Start first ann None ∷ answers (registration 1 1 first 1 None) Registered (Some one) ∷ Confirm (reply Registered 1 1 first) ann
+    (Asking 1 1 None) ∷ []
 
 registering_allowed : AllAllowed cluster registering (run cluster opening start)
 unfolding put put_at put_grain
@@ -80,8 +81,12 @@ closed = allowed_append cluster (opening ++ registering) closing start registere
 
 pub refuses_old_number : CanBe RefusesOldNumber
 unfolding put put_at put_grain
-refuses_old_number =
-    (cluster, (opening ++ registering) ++ closing, closed, (first, registration 1 1 first 1 None, inr (inl refl), refl, λ x held. absurd cc, (refl, refl, refl, omega arith)))
+refuses_old_number = (
+  cluster,
+  (opening ++ registering) ++ closing,
+  closed,
+  (first, registration 1 1 first 1 None, inr (inl refl), refl, λ x held. absurd cc, (refl, refl, refl, omega arith)),
+)
 
 -- then another one starts
 starting_allowed : AllAllowed cluster (Start first ann None ∷ []) (run cluster ((opening ++ registering) ++ closing) start)
@@ -94,7 +99,8 @@ started = allowed_append cluster ((opening ++ registering) ++ closing) (Start fi
 -- the silo holds the new one alone, under another number
 not_under_one :
     (b : Bool) (x : Held)
-    → cond b (Some (Asking 2 3 None)) (cond b None (cond b (Some (Closing 1 2)) (cond b (Some (Firm 1)) (cond b (Some (Asking 1 1 None)) None)))) ≡ Some x
+    → cond b (Some (Asking 2 3 None)) (cond b None (cond b (Some (Closing 1 2))
+    (cond b (Some (Firm 1)) (cond b (Some (Asking 1 1 None)) None)))) ≡ Some x
     → outstanding Register x ≢ Some 1
 not_under_one true x held number =
     let same : Asking 2 3 None ≡ x = cc in
@@ -177,7 +183,8 @@ unfolding put put_at put_grain
 stale_reply_accepted = (
   cluster,
   ((opening ++ registering) ++ closing) ++ (Start first ann None ∷ []),
-  after cluster (run cluster (((opening ++ registering) ++ closing) ++ (Start first ann None ∷ [])) start) (Confirm (reply Registered 1 1 first) ann (Asking 2 3 None)),
+  after cluster (run cluster (((opening ++ registering) ++ closing) ++ (Start first ann None ∷ [])) start)
+      (Confirm (reply Registered 1 1 first) ann (Asking 2 3 None)),
   [],
   started,
   (

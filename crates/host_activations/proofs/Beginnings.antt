@@ -35,36 +35,44 @@ module _ (h : Inside) (is : IsWhole h) (host : Host) (means : host_of h ≡ host
   none_next = free h.next_number h.held.entries h.outstanding.entries is.are_held
 
   -- an activation comes under the next number, and the finds stay
-  finds_same : (now : List (ℕ × OutstandingRequest)) (grain : Grain) → now ≡ insert_entry nat_cmp h.outstanding.entries h.next_number (Activation grain) → finds_in now ≡ finds_in h.outstanding.entries
+  finds_same : (now : List (ℕ × OutstandingRequest)) (grain : Grain)
+      → now ≡ insert_entry nat_cmp h.outstanding.entries h.next_number (Activation grain) → finds_in now ≡ finds_in h.outstanding.entries
   finds_same now grain now_is = ap finds_in now_is ∙ finds_stay h.outstanding.entries is.are_held.in_order h.next_number grain none_next
 
   abbrev AreNow : List (Grain × Held) → List (ℕ × OutstandingRequest) → Type 0
   AreNow new now = AreHeld (h.next_number + 1) new now
 
   -- an activation begins
-  pub started_is : (new : List (Grain × Held)) (now : List (ℕ × OutstandingRequest)) (grain : Grain) (previous : Option ActivationId) → held_of host grain ≡ None → host.next_number ≤ 2 ^ 60
-      → new ≡ h.held.entries ++ (grain, next_held (host_of h) previous) ∷ [] → IsDistinct grain_eq (keys_of new) → now ≡ insert_entry nat_cmp h.outstanding.entries h.next_number (Activation grain)
+  pub started_is : (new : List (Grain × Held)) (now : List (ℕ × OutstandingRequest)) (grain : Grain) (previous : Option ActivationId)
+      → held_of host grain ≡ None → host.next_number ≤ 2 ^ 60
+      → new ≡ h.held.entries ++ (grain, next_held (host_of h) previous) ∷ [] → IsDistinct grain_eq (keys_of new)
+      → now ≡ insert_entry nat_cmp h.outstanding.entries h.next_number (Activation grain)
       → IsHost (h.next_number + 1) new now
   started_is new now grain previous none number_left held_is apart now_is = record {
     number = step_on h.next_number is.number (subst (λ (x : Host). x.next_number ≤ 2 ^ 60) (sym means) number_left);
     are_held = subst (AreNow new) (sym now_is)
-        (asking_more h.next_number h.held.entries new h.outstanding.entries is.are_held grain (ap (λ found. option_and_then (λ (x : Held). number_in x.phase) found) absent)
-        (λ q. ap (λ (l : List (Grain × Held)). number_of q l) held_is ∙ begun grain (next_held (host_of h) previous) h.held.entries absent q) apart);
+        (asking_more h.next_number h.held.entries new h.outstanding.entries is.are_held grain
+        (ap (λ found. option_and_then (λ (x : Held). number_in x.phase) found) absent)
+        (λ q. ap (λ (l : List (Grain × Held)). number_of q l) held_is
+        ∙ begun grain (next_held (host_of h) previous) h.held.entries absent q) apart);
   } where
     absent : held_of (host_of h) grain ≡ None
     absent = subst (λ (x : Host). held_of x grain ≡ None) (sym means) none
 
   pub started_means : (new : List (Grain × Held)) (now : List (ℕ × OutstandingRequest)) (grain : Grain) (previous : Option ActivationId)
-      → new ≡ h.held.entries ++ (grain, next_held (host_of h) previous) ∷ [] → now ≡ insert_entry nat_cmp h.outstanding.entries h.next_number (Activation grain)
+      → new ≡ h.held.entries ++ (grain, next_held (host_of h) previous) ∷ []
+      → now ≡ insert_entry nat_cmp h.outstanding.entries h.next_number (Activation grain)
       → meant h.silo (h.next_number + 1) (h.held.next_count + 1) new now ≡ with_started host grain previous
   started_means new now grain previous held_is now_is =
       (λ i. made h.silo (h.next_number + 1) (h.held.next_count + 1) (held_is i) (finds_same now grain now_is i))
       ∙ ap (λ (x : Host). with_started x grain previous) means
 
   -- an activation that is firm or asks begins to close: what it had outstanding is no more
-  module _ (new : List (Grain × Held)) (now : List (ℕ × OutstandingRequest)) (grain : Grain) (held : Held) (there : held_of (host_of h) grain ≡ Some held)
+  module _ (new : List (Grain × Held)) (now : List (ℕ × OutstandingRequest)) (grain : Grain) (held : Held)
+      (there : held_of (host_of h) grain ≡ Some held)
       (held_is : new ≡ set_value (is_at (grain_cmp grain)) h.held.entries (next_closing (host_of h) held))
-      (now_is : now ≡ without_number (number_in held.phase) (insert_entry nat_cmp h.outstanding.entries h.next_number (Activation grain))) where
+      (now_is : now ≡ without_number (number_in held.phase)
+      (insert_entry nat_cmp h.outstanding.entries h.next_number (Activation grain))) where
     -- what is left without it
     abbrev left : List (ℕ × OutstandingRequest)
     left = without_number (number_in held.phase) h.outstanding.entries
@@ -76,11 +84,14 @@ module _ (h : Inside) (is : IsWhole h) (host : Host) (means : host_of h ≡ host
     one_order : now ≡ insert_entry nat_cmp left h.next_number (Activation grain)
     one_order = now_is ∙ by (number_in held.phase) number_is
       where
-        by : (o : Option ℕ) → number_of grain h.held.entries ≡ o → without_number o (insert_entry nat_cmp h.outstanding.entries h.next_number (Activation grain)) ≡ insert_entry nat_cmp (without_number o h.outstanding.entries) h.next_number (Activation grain)
+        by : (o : Option ℕ) → number_of grain h.held.entries ≡ o
+            → without_number o (insert_entry nat_cmp h.outstanding.entries h.next_number (Activation grain)) ≡ insert_entry nat_cmp
+            (without_number o h.outstanding.entries) h.next_number (Activation grain)
         by None has = refl
         by (Some number) has =
             apart_order h.outstanding.entries is.are_held.in_order number h.next_number (Activation grain)
-            (λ same. is_below h.next_number number (is.are_held.below number (Activation grain) (is.are_held.asked.there grain number has)) same)
+            (λ same. is_below h.next_number number (is.are_held.below number (Activation grain) (is.are_held.asked.there grain number has))
+            same)
 
     -- the activation as it would be in between: it has nothing outstanding
     abbrev resting : List (Grain × Held)
@@ -93,7 +104,9 @@ module _ (h : Inside) (is : IsWhole h) (host : Host) (means : host_of h ≡ host
     closing_held apart =
         subst (AreNow new) (sym one_order)
         (asking_more h.next_number resting new left
-        (rested h is resting grain (number_in held.phase) number_is rests (subst (IsDistinct grain_eq) (sym (keys-set_value (is_at (grain_cmp grain)) h.held.entries (record held { phase = Firm }))) is.are_held.apart))
+        (rested h is resting grain (number_in held.phase) number_is rests
+        (subst (IsDistinct grain_eq) (sym (keys-set_value (is_at (grain_cmp grain)) h.held.entries (record held { phase = Firm })))
+        is.are_held.apart))
         grain (rests grain ∙ ap (λ b. cond b None (number_of grain h.held.entries)) (grain_at_itself grain))
         (λ q. ap (λ (l : List (Grain × Held)). number_of q l) held_is
         ∙ changed grain (next_closing (host_of h) held) h.held.entries (ap is_some there) q
@@ -119,7 +132,8 @@ module _ (h : Inside) (is : IsWhole h) (host : Host) (means : host_of h ≡ host
         left_order : IsStrictlySortedBy nat_cmp (keys_of left)
         left_order = without_sorted (number_in held.phase) h.outstanding.entries is.are_held.in_order
 
-        left_free : (o : Option ℕ) → number_of grain h.held.entries ≡ o → asked_under h.next_number (without_number o h.outstanding.entries) ≡ None
+        left_free : (o : Option ℕ) → number_of grain h.held.entries ≡ o
+            → asked_under h.next_number (without_number o h.outstanding.entries) ≡ None
         left_free None has = none_next
         left_free (Some number) has =
             asked_taken h.outstanding.entries number h.next_number is.are_held.in_order
@@ -131,17 +145,21 @@ module _ (h : Inside) (is : IsWhole h) (host : Host) (means : host_of h ≡ host
         ∙ ap (λ (x : Host). with_closing x grain held) means
 
   -- a find begins
-  pub finding_is : (now : List (ℕ × OutstandingRequest)) (grain : Grain) → host.next_number ≤ 2 ^ 60 → now ≡ insert_entry nat_cmp h.outstanding.entries h.next_number (Find grain)
+  pub finding_is : (now : List (ℕ × OutstandingRequest)) (grain : Grain) → host.next_number ≤ 2 ^ 60
+      → now ≡ insert_entry nat_cmp h.outstanding.entries h.next_number (Find grain)
       → IsHost (h.next_number + 1) h.held.entries now
   finding_is now grain number_left now_is = record {
     number = step_on h.next_number is.number (subst (λ (x : Host). x.next_number ≤ 2 ^ 60) (sym means) number_left);
-    are_held = subst (AreNow h.held.entries) (sym now_is) (finding_more h.next_number h.held.entries h.outstanding.entries is.are_held grain);
+    are_held =
+        subst (AreNow h.held.entries) (sym now_is) (finding_more h.next_number h.held.entries h.outstanding.entries is.are_held grain);
   }
 
-  pub finding_means : (now : List (ℕ × OutstandingRequest)) (grain : Grain) → now ≡ insert_entry nat_cmp h.outstanding.entries h.next_number (Find grain)
+  pub finding_means : (now : List (ℕ × OutstandingRequest)) (grain : Grain)
+      → now ≡ insert_entry nat_cmp h.outstanding.entries h.next_number (Find grain)
       → meant h.silo (h.next_number + 1) h.held.next_count h.held.entries now ≡ with_find host grain
   finding_means now grain now_is =
-      (λ i. made h.silo (h.next_number + 1) h.held.next_count h.held.entries ((ap finds_in now_is ∙ finds_put h.outstanding.entries is.are_held.in_order h.next_number grain) i))
+      (λ i. made h.silo (h.next_number + 1) h.held.next_count h.held.entries
+      ((ap finds_in now_is ∙ finds_put h.outstanding.entries is.are_held.in_order h.next_number grain) i))
       ∙ ap (λ (x : Host). with_find x grain) means
 
 -- ---- Nothing began.
@@ -149,7 +167,8 @@ distinct_none : IsDistinct grain_eq []
 unfolding IsDistinct
 distinct_none = tt
 
-pub nothing_is : (first : ℕ) → 1 ≤ first → first ≤ 2 ^ 60 + 1 → (held : ActivationsValue) (out : List (ℕ × OutstandingRequest)) → held.entries ≡ [] → out ≡ [] → IsHost first held.entries out
+pub nothing_is : (first : ℕ) → 1 ≤ first → first ≤ 2 ^ 60 + 1 → (held : ActivationsValue) (out : List (ℕ × OutstandingRequest))
+    → held.entries ≡ [] → out ≡ [] → IsHost first held.entries out
 nothing_is first above within held out none nothing =
     subst (λ l. IsHost first held.entries l) (sym nothing)
     (subst (λ l. IsHost first l []) (sym none)
@@ -170,9 +189,13 @@ nothing_is first above within held out none nothing =
     no_asked grain number is = cc
 
 module _ (h : Inside) (is : IsWhole h) where
-  pub not_started_is : (held : ActivationsValue) (now : List (ℕ × OutstandingRequest)) → held ≡ h.held → now ≡ h.outstanding.entries → IsHost h.next_number held.entries now
-  not_started_is held now same back = subst (λ l. IsHost h.next_number held.entries l) (sym back) (subst (λ (v : ActivationsValue). IsHost h.next_number v.entries h.outstanding.entries) (sym same) is)
+  pub not_started_is : (held : ActivationsValue) (now : List (ℕ × OutstandingRequest)) → held ≡ h.held → now ≡ h.outstanding.entries
+      → IsHost h.next_number held.entries now
+  not_started_is held now same back =
+      subst (λ l. IsHost h.next_number held.entries l) (sym back)
+      (subst (λ (v : ActivationsValue). IsHost h.next_number v.entries h.outstanding.entries) (sym same) is)
 
-  pub not_started_means : (host : Host) → host_of h ≡ host → (held : ActivationsValue) (now : List (ℕ × OutstandingRequest)) → held ≡ h.held → now ≡ h.outstanding.entries
+  pub not_started_means : (host : Host) → host_of h ≡ host → (held : ActivationsValue) (now : List (ℕ × OutstandingRequest)) → held ≡ h.held
+      → now ≡ h.outstanding.entries
       → meant h.silo h.next_number held.next_count held.entries now ≡ host
   not_started_means host means held now same back = (λ i. meant h.silo h.next_number (same i).next_count (same i).entries (back i)) ∙ means

@@ -26,7 +26,8 @@ pub all_passed : {A : Type 0} (p : A → Bool) (xs : List A) → AllByRecursion 
 all_passed p [] = tt
 all_passed p (x ∷ xs) = by (p x) refl (all_passed p xs)
   where
-    by : (b : Bool) → p x ≡ b → AllByRecursion (λ y. p y ≡ true) (filter p xs) → AllByRecursion (λ y. p y ≡ true) (cond b (x ∷ filter p xs) (filter p xs))
+    by : (b : Bool) → p x ≡ b → AllByRecursion (λ y. p y ≡ true) (filter p xs)
+        → AllByRecursion (λ y. p y ≡ true) (cond b (x ∷ filter p xs) (filter p xs))
     by true ever rest = (ever, rest)
     by false never rest = rest
 
@@ -42,11 +43,13 @@ filter-append : {A : Type 0} (p : A → Bool) (xs ys : List A) → filter p (xs 
 filter-append p [] ys = refl
 filter-append p (x ∷ xs) ys = by (p x) (filter-append p xs ys)
   where
-    by : (b : Bool) → filter p (xs ++ ys) ≡ filter p xs ++ filter p ys → cond b (x ∷ filter p (xs ++ ys)) (filter p (xs ++ ys)) ≡ cond b (x ∷ filter p xs) (filter p xs) ++ filter p ys
+    by : (b : Bool) → filter p (xs ++ ys) ≡ filter p xs ++ filter p ys
+        → cond b (x ∷ filter p (xs ++ ys)) (filter p (xs ++ ys)) ≡ cond b (x ∷ filter p xs) (filter p xs) ++ filter p ys
     by true later = ap (λ l. x ∷ l) later
     by false later = later
 
-all_values : {X : Type 0} (P : X → Type 0) (m : ℕ) (es : List (ℕ × X)) → AllByRecursion (λ e. P e.1) es → AllByRecursion (λ e. P e.1) (enumerate_from m (values_of es))
+all_values : {X : Type 0} (P : X → Type 0) (m : ℕ) (es : List (ℕ × X)) → AllByRecursion (λ e. P e.1) es
+    → AllByRecursion (λ e. P e.1) (enumerate_from m (values_of es))
 all_values P m [] all = tt
 all_values P m (e ∷ es) all = (all.0, all_values P (m + 1) es all.1)
 
@@ -58,23 +61,28 @@ all_keys : {X : Type 0} (P : ℕ → Type 0) (es : List (ℕ × X)) → AllByRec
 all_keys P [] all = tt
 all_keys P (e ∷ es) all = (all.0, all_keys P es all.1)
 
-both_keys : {X : Type 0} (P : ℕ → Type 0) (xs ys : List (ℕ × X)) → AllByRecursion P (keys_of xs) → AllByRecursion P (keys_of ys) → AllByRecursion P (keys_of (xs ++ ys))
+both_keys : {X : Type 0} (P : ℕ → Type 0) (xs ys : List (ℕ × X)) → AllByRecursion P (keys_of xs) → AllByRecursion P (keys_of ys)
+    → AllByRecursion P (keys_of (xs ++ ys))
 both_keys P [] ys all also = also
 both_keys P (x ∷ xs) ys all also = (all.0, both_keys P xs ys all.1 also)
 
 sorted_append : {X : Type 0} (xs ys : List (ℕ × X)) → IsStrictlySortedBy nat_cmp (keys_of xs) → IsStrictlySortedBy nat_cmp (keys_of ys)
-    → AllByRecursion (λ j. AllByRecursion (λ k. nat_cmp j k ≡ Less) (keys_of ys)) (keys_of xs) → IsStrictlySortedBy nat_cmp (keys_of (xs ++ ys))
+    → AllByRecursion (λ j. AllByRecursion (λ k. nat_cmp j k ≡ Less) (keys_of ys)) (keys_of xs)
+    → IsStrictlySortedBy nat_cmp (keys_of (xs ++ ys))
 unfolding IsStrictlySortedBy
 sorted_append [] ys s t all = t
 sorted_append (x ∷ xs) ys s t all = (both_keys (λ k. nat_cmp x.0 k ≡ Less) xs ys s.0 all.0, sorted_append xs ys s.1 t all.1)
 
 -- what stands under numbers from one on
-pub enumerated_between : (m : ℕ) (es : List (ℕ × OutstandingRequest)) (n : ℕ) (asked : OutstandingRequest) → asked_under n (enumerate_from m (values_of es)) ≡ Some asked → (m ≤ n) × (n < m + length es)
+pub enumerated_between : (m : ℕ) (es : List (ℕ × OutstandingRequest)) (n : ℕ) (asked : OutstandingRequest)
+    → asked_under n (enumerate_from m (values_of es)) ≡ Some asked → (m ≤ n) × (n < m + length es)
 enumerated_between m [] n asked found = cc
 enumerated_between m (e ∷ es) n asked found =
-    on_number (λ b. cond b (Some e.1) (asked_under n (enumerate_from (m + 1) (values_of es))) ≡ Some asked → (m ≤ n) × (n < m + length (e ∷ es))) n m
+    on_number (λ b. cond b (Some e.1) (asked_under n (enumerate_from (m + 1) (values_of es))) ≡ Some asked
+    → (m ≤ n) × (n < m + length (e ∷ es))) n m
     (λ same it. (omega (same, arith), omega (same, arith)))
-    (λ other it. let later = enumerated_between (m + 1) es n asked it in let low = later.0 in let high = later.1 in (omega (low, arith), omega (high, arith)))
+    (λ other it. let later = enumerated_between (m + 1) es n asked it in let low = later.0 in let high = later.1 in
+    (omega (low, arith), omega (high, arith)))
     found
 
 not_true : (b : Bool) → b ≡ false → not b ≡ true
@@ -84,7 +92,8 @@ from_not : (b : Bool) → not b ≡ true → b ≡ false
 from_not true is = cc
 from_not false is = refl
 
-module _ (out : List (ℕ × OutstandingRequest)) (sorted : IsStrictlySortedBy nat_cmp (keys_of out)) (g : Grain) (next : ℕ) (low : AreAllBelow next out) where
+module _ (out : List (ℕ × OutstandingRequest)) (sorted : IsStrictlySortedBy nat_cmp (keys_of out)) (g : Grain) (next : ℕ)
+    (low : AreAllBelow next out) where
   -- those about the grain, the others, and all under their numbers then
   abbrev mine : List (ℕ × OutstandingRequest)
   mine = about_grain g out
@@ -104,20 +113,25 @@ module _ (out : List (ℕ × OutstandingRequest)) (sorted : IsStrictlySortedBy n
   pub others_sorted : IsStrictlySortedBy nat_cmp (keys_of others)
   others_sorted = sorted_passed (λ a. not (is_about g a)) out sorted
 
-  pub of_mine : (n : ℕ) (asked : OutstandingRequest) → asked_under n mine ≡ Some asked → (asked_under n out ≡ Some asked) × (is_about g asked ≡ true)
+  pub of_mine : (n : ℕ) (asked : OutstandingRequest) → asked_under n mine ≡ Some asked
+      → (asked_under n out ≡ Some asked) × (is_about g asked ≡ true)
   of_mine n asked found = from_passed (is_about g) (asked_under n out) asked (sym (lookup_passed (is_about g) out sorted n) ∙ found)
 
-  pub of_others : (n : ℕ) (asked : OutstandingRequest) → asked_under n others ≡ Some asked → (asked_under n out ≡ Some asked) × (is_about g asked ≡ false)
+  pub of_others : (n : ℕ) (asked : OutstandingRequest) → asked_under n others ≡ Some asked
+      → (asked_under n out ≡ Some asked) × (is_about g asked ≡ false)
   of_others n asked found =
       let both = from_passed (λ a. not (is_about g a)) (asked_under n out) asked (sym (lookup_passed (λ a. not (is_about g a)) out sorted n) ∙ found) in
       (both.0, from_not (is_about g asked) both.1)
 
-  pub in_mine : (n : ℕ) (asked : OutstandingRequest) → asked_under n out ≡ Some asked → is_about g asked ≡ true → asked_under n mine ≡ Some asked
+  pub in_mine : (n : ℕ) (asked : OutstandingRequest) → asked_under n out ≡ Some asked → is_about g asked ≡ true
+      → asked_under n mine ≡ Some asked
   in_mine n asked found ever = lookup_passed (is_about g) out sorted n ∙ to_passed (is_about g) (asked_under n out) asked found ever
 
-  pub in_others : (n : ℕ) (asked : OutstandingRequest) → asked_under n out ≡ Some asked → is_about g asked ≡ false → asked_under n others ≡ Some asked
+  pub in_others : (n : ℕ) (asked : OutstandingRequest) → asked_under n out ≡ Some asked → is_about g asked ≡ false
+      → asked_under n others ≡ Some asked
   in_others n asked found never =
-      lookup_passed (λ a. not (is_about g a)) out sorted n ∙ to_passed (λ a. not (is_about g a)) (asked_under n out) asked found (not_true (is_about g asked) never)
+      lookup_passed (λ a. not (is_about g a)) out sorted n
+      ∙ to_passed (λ a. not (is_about g a)) (asked_under n out) asked found (not_true (is_about g asked) never)
 
   pub found_now : (n : ℕ) → asked_under n now ≡ either (asked_under n others) (asked_under n numbered)
   found_now n = lookup_append (is_at (nat_cmp n)) others numbered
@@ -138,7 +152,8 @@ module _ (out : List (ℕ × OutstandingRequest)) (sorted : IsStrictlySortedBy n
   pub below_now : (n : ℕ) (asked : OutstandingRequest) → asked_under n now ≡ Some asked → n < next + length mine
   below_now n asked found = by (asked_under n others) refl (sym (found_now n) ∙ found)
     where
-      by : (o : Option OutstandingRequest) → asked_under n others ≡ o → either o (asked_under n numbered) ≡ Some asked → n < next + length mine
+      by : (o : Option OutstandingRequest) → asked_under n others ≡ o → either o (asked_under n numbered) ≡ Some asked
+          → n < next + length mine
       by None none it = (numbered_high n asked it).1
       by (Some a) at it = let under = others_low n a at in omega (under, arith)
 
@@ -156,40 +171,56 @@ module _ (out : List (ℕ × OutstandingRequest)) (sorted : IsStrictlySortedBy n
       ∙ (λ i. filter_none (λ e. is_about g e.1) others none i ++ filter_all (λ e. is_about g e.1) numbered all i)
     where
       none : AllByRecursion (λ e. is_about g e.1 ≡ false) others
-      none = all_map (λ e. not (is_about g e.1) ≡ true) (λ e. is_about g e.1 ≡ false) others (λ e ever. from_not (is_about g e.1) ever) (all_passed (λ e. not (is_about g e.1)) out)
+      none =
+          all_map (λ e. not (is_about g e.1) ≡ true) (λ e. is_about g e.1 ≡ false) others (λ e ever. from_not (is_about g e.1) ever)
+          (all_passed (λ e. not (is_about g e.1)) out)
 
       all : AllByRecursion (λ e. is_about g e.1 ≡ true) numbered
       all = all_values (λ a. is_about g a ≡ true) next mine (all_passed (λ e. is_about g e.1) out)
 
   -- what stands under each number, once the new ones came and the old ones went
   pub now_is : (last : List (ℕ × OutstandingRequest)) → IsStrictlySortedBy nat_cmp (keys_of last)
-      → ((n : ℕ) → asked_under n last ≡ cond (is_some (asked_under n mine)) None (either (asked_under n numbered) (asked_under n out))) → last ≡ now
-  now_is last rising found = same_entries nat_cmp_total exact_unsigned last now rising now_sorted (λ n. found n ∙ by n (asked_under n out) refl ∙ sym (found_now n))
+      → ((n : ℕ) → asked_under n last ≡ cond (is_some (asked_under n mine)) None (either (asked_under n numbered) (asked_under n out)))
+      → last ≡ now
+  now_is last rising found =
+      same_entries nat_cmp_total exact_unsigned last now rising now_sorted
+      (λ n. found n ∙ by n (asked_under n out) refl ∙ sym (found_now n))
     where
-      none_mine : (n : ℕ) (asked : OutstandingRequest) → asked_under n out ≡ Some asked → is_about g asked ≡ false → asked_under n mine ≡ None
+      none_mine : (n : ℕ) (asked : OutstandingRequest) → asked_under n out ≡ Some asked → is_about g asked ≡ false
+          → asked_under n mine ≡ None
       none_mine n asked at never = lookup_passed (is_about g) out sorted n ∙ not_passed (is_about g) (asked_under n out) asked at never
 
-      none_other : (n : ℕ) (asked : OutstandingRequest) → asked_under n out ≡ Some asked → is_about g asked ≡ true → asked_under n others ≡ None
-      none_other n asked at ever = lookup_passed (λ a. not (is_about g a)) out sorted n ∙ not_passed (λ a. not (is_about g a)) (asked_under n out) asked at (ap not ever)
+      none_other : (n : ℕ) (asked : OutstandingRequest) → asked_under n out ≡ Some asked → is_about g asked ≡ true
+          → asked_under n others ≡ None
+      none_other n asked at ever =
+          lookup_passed (λ a. not (is_about g a)) out sorted n
+          ∙ not_passed (λ a. not (is_about g a)) (asked_under n out) asked at (ap not ever)
 
       none_numbered : (n : ℕ) (asked : OutstandingRequest) → asked_under n out ≡ Some asked → asked_under n numbered ≡ None
       none_numbered n asked at = by_number (asked_under n numbered) refl
         where
           by_number : (o : Option OutstandingRequest) → asked_under n numbered ≡ o → o ≡ None
           by_number None told = refl
-          by_number (Some a) told = let high = (numbered_high n a told).0 in let under = low n asked at in absurd (omega (high, under, arith))
+          by_number (Some a) told =
+              let high = (numbered_high n a told).0 in let under = low n asked at in absurd (omega (high, under, arith))
 
       either_none : (o : Option OutstandingRequest) → either o None ≡ o
       either_none None = refl
       either_none (Some a) = refl
 
-      by : (n : ℕ) (o : Option OutstandingRequest) → asked_under n out ≡ o → cond (is_some (asked_under n mine)) None (either (asked_under n numbered) (asked_under n out)) ≡ either (asked_under n others) (asked_under n numbered)
+      by : (n : ℕ) (o : Option OutstandingRequest) → asked_under n out ≡ o
+          → cond (is_some (asked_under n mine)) None (either (asked_under n numbered) (asked_under n out)) ≡ either (asked_under n others)
+          (asked_under n numbered)
       by n None at =
-          (λ i. cond (is_some ((lookup_passed (is_about g) out sorted n ∙ ap (option_and_then (only (is_about g))) at) i)) None (either (asked_under n numbered) (at i)))
+          (λ i. cond (is_some ((lookup_passed (is_about g) out sorted n ∙ ap (option_and_then (only (is_about g))) at) i)) None
+          (either (asked_under n numbered) (at i)))
           ∙ either_none (asked_under n numbered)
-          ∙ ap (λ o. either o (asked_under n numbered)) (sym (lookup_passed (λ a. not (is_about g a)) out sorted n ∙ ap (option_and_then (only (λ a. not (is_about g a)))) at))
+          ∙ ap (λ o. either o (asked_under n numbered)) (sym
+          (lookup_passed (λ a. not (is_about g a)) out sorted n ∙ ap (option_and_then (only (λ a. not (is_about g a)))) at))
       by n (Some asked) at =
-          on_test (λ b. is_about g asked ≡ b → cond (is_some (asked_under n mine)) None (either (asked_under n numbered) (asked_under n out)) ≡ either (asked_under n others) (asked_under n numbered)) (is_about g asked)
+          on_test (λ b. is_about g asked ≡ b → cond (is_some (asked_under n mine)) None
+          (either (asked_under n numbered) (asked_under n out)) ≡ either (asked_under n others) (asked_under n numbered))
+          (is_about g asked)
           (λ _ ever. ap (λ o. cond (is_some o) None (either (asked_under n numbered) (asked_under n out))) (in_mine n asked at ever)
           ∙ (λ i. either (sym (none_other n asked at ever) i) (sym (none_numbered n asked at) i)))
           (λ _ never. (λ i. cond (is_some (none_mine n asked at never i)) None (either (none_numbered n asked at i) (at i)))
@@ -200,10 +231,12 @@ module _ (out : List (ℕ × OutstandingRequest)) (sorted : IsStrictlySortedBy n
   pub free_below : (n : ℕ) → is_some (asked_under n numbered) ≡ true → asked_under n out ≡ None
   free_below n some = by (asked_under n numbered) refl (asked_under n out) refl some
     where
-      by : (o : Option OutstandingRequest) → asked_under n numbered ≡ o → (p : Option OutstandingRequest) → asked_under n out ≡ p → is_some o ≡ true → p ≡ None
+      by : (o : Option OutstandingRequest) → asked_under n numbered ≡ o → (p : Option OutstandingRequest) → asked_under n out ≡ p
+          → is_some o ≡ true → p ≡ None
       by None told p at some = cc
       by (Some a) told None at some = refl
-      by (Some a) told (Some b) at some = let high = (numbered_high n a told).0 in let under = low n b at in absurd (omega (high, under, arith))
+      by (Some a) told (Some b) at some =
+          let high = (numbered_high n a told).0 in let under = low n b at in absurd (omega (high, under, arith))
 
 -- what is there after some came
 pub put_either : (o p q : Option OutstandingRequest) → MatchOption o (q ≡ p) (λ asked. q ≡ Some asked) → q ≡ either o p

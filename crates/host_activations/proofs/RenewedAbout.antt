@@ -54,7 +54,8 @@ use Rattle.host_activations.proofs.Renewals.{all_high, below_keys, map_same, of_
 tells_grain : (act : Act) (g : Grain) (made : Act) → Some made ≡ Some act → grain_of made ≡ g → grain_of act ≡ g
 tells_grain act g made is its = ap grain_of (sym (same_Some made act is)) ∙ its
 
-act_about : (silo : Silo) (held : List (Grain × Held)) (asked : OutstandingRequest) (a : Act) → act_for silo held asked ≡ Some a → grain_of a ≡ grain_asked asked
+act_about : (silo : Silo) (held : List (Grain × Held)) (asked : OutstandingRequest) (a : Act) → act_for silo held asked ≡ Some a
+    → grain_of a ≡ grain_asked asked
 act_about silo held (Find q) a is = tells_grain a q (act.Find q) is refl
 act_about silo held (Activation q) a is = by (lookup (is_at (grain_cmp q)) held) is
   where
@@ -71,22 +72,28 @@ module _ (g : Grain) (silo : Silo) (held : List (Grain × Held)) where
   abbrev passed : List (ℕ × Act) → List (ℕ × Act)
   passed acts = filter (λ e. grain_eq (grain_of e.1) g) acts
 
-  pub acts_passed : (es : List (ℕ × OutstandingRequest)) → filter (λ e. grain_eq (grain_of e.1) g) (acts_in silo held es) ≡ acts_in silo held (about_grain g es)
+  pub acts_passed : (es : List (ℕ × OutstandingRequest))
+      → filter (λ e. grain_eq (grain_of e.1) g) (acts_in silo held es) ≡ acts_in silo held (about_grain g es)
   acts_passed [] = refl
   acts_passed (e ∷ es) = by (act_for silo held e.1) refl (acts_passed es)
     where
       by : (o : Option Act) → act_for silo held e.1 ≡ o → passed (acts_in silo held es) ≡ acts_in silo held (about_grain g es)
-          → passed (cons_option (option_map (λ a. (e.0, a)) o) (acts_in silo held es)) ≡ acts_in silo held (cond (is_about g e.1) (e ∷ about_grain g es) (about_grain g es))
+          → passed (cons_option (option_map (λ a. (e.0, a)) o) (acts_in silo held es)) ≡ acts_in silo held
+          (cond (is_about g e.1) (e ∷ about_grain g es) (about_grain g es))
       by None is later = kept (is_about g e.1)
         where
           kept : (b : Bool) → passed (acts_in silo held es) ≡ acts_in silo held (cond b (e ∷ about_grain g es) (about_grain g es))
           kept true = later ∙ sym (ap (λ o. cons_option (option_map (λ a. (e.0, a)) o) (acts_in silo held (about_grain g es))) is)
           kept false = later
       by (Some a) is later =
-          ap (λ q. cond (grain_eq q g) ((e.0, a) ∷ passed (acts_in silo held es)) (passed (acts_in silo held es))) (act_about silo held e.1 a is) ∙ kept (is_about g e.1)
+          ap (λ q. cond (grain_eq q g) ((e.0, a) ∷ passed (acts_in silo held es)) (passed (acts_in silo held es)))
+          (act_about silo held e.1 a is) ∙ kept (is_about g e.1)
         where
-          kept : (b : Bool) → cond b ((e.0, a) ∷ passed (acts_in silo held es)) (passed (acts_in silo held es)) ≡ acts_in silo held (cond b (e ∷ about_grain g es) (about_grain g es))
-          kept true = ap (λ l. (e.0, a) ∷ l) later ∙ sym (ap (λ o. cons_option (option_map (λ x. (e.0, x)) o) (acts_in silo held (about_grain g es))) is)
+          kept : (b : Bool) → cond b ((e.0, a) ∷ passed (acts_in silo held es)) (passed (acts_in silo held es)) ≡ acts_in silo held
+              (cond b (e ∷ about_grain g es) (about_grain g es))
+          kept true =
+              ap (λ l. (e.0, a) ∷ l) later ∙ sym (ap (λ o. cons_option (option_map (λ x. (e.0, x)) o)
+              (acts_in silo held (about_grain g es))) is)
           kept false = later
 
 -- the activations, each changed by its grain
@@ -94,10 +101,12 @@ module _ (f : Grain → Held → Held) where
   abbrev by_grain : List (Grain × Held) → List (Grain × Held)
   by_grain es = map (λ e. (e.0, f e.0 e.1)) es
 
-  lookup_by_grain : (q : Grain) (es : List (Grain × Held)) → lookup (is_at (grain_cmp q)) (by_grain es) ≡ option_map (f q) (lookup (is_at (grain_cmp q)) es)
+  lookup_by_grain : (q : Grain) (es : List (Grain × Held))
+      → lookup (is_at (grain_cmp q)) (by_grain es) ≡ option_map (f q) (lookup (is_at (grain_cmp q)) es)
   lookup_by_grain q [] = refl
   lookup_by_grain q (e ∷ es) =
-      on_grain (λ b. cond b (Some (f e.0 e.1)) (lookup (is_at (grain_cmp q)) (by_grain es)) ≡ option_map (f q) (cond b (Some e.1) (lookup (is_at (grain_cmp q)) es))) q e.0
+      on_grain (λ b. cond b (Some (f e.0 e.1)) (lookup (is_at (grain_cmp q)) (by_grain es)) ≡ option_map (f q)
+      (cond b (Some e.1) (lookup (is_at (grain_cmp q)) es))) q e.0
       (λ same. ap (λ (x : Grain). Some (f x e.1)) (sym same)) (λ other. lookup_by_grain q es)
 
   keys_by_grain : (es : List (Grain × Held)) → keys_of (by_grain es) ≡ keys_of es
@@ -105,7 +114,8 @@ module _ (f : Grain → Held → Held) where
   keys_by_grain (e ∷ es) = ap (λ l. e.0 ∷ l) (keys_by_grain es)
 
 -- ---- Phases.
-number_about : (g : Grain) (host : Host) (phase : Phase) → number_in (phase_renewed_about g host phase) ≡ option_map (new_number_about g host) (number_in phase)
+number_about : (g : Grain) (host : Host) (phase : Phase)
+    → number_in (phase_renewed_about g host phase) ≡ option_map (new_number_about g host) (number_in phase)
 number_about g host (Asking k) = refl
 number_about g host Firm = refl
 number_about g host (Closing k) = refl
@@ -115,7 +125,8 @@ rests_about g host (Asking k) none = cc
 rests_about g host Firm none = refl
 rests_about g host (Closing k) none = cc
 
-asks_about : (g : Grain) (host : Host) (phase : Phase) (k : ℕ) → number_in phase ≡ Some k → phase_under (new_number_about g host k) phase ≡ phase_renewed_about g host phase
+asks_about : (g : Grain) (host : Host) (phase : Phase) (k : ℕ) → number_in phase ≡ Some k
+    → phase_under (new_number_about g host k) phase ≡ phase_renewed_about g host phase
 asks_about g host (Asking j) k is = ap (λ (n : ℕ). Asking (new_number_about g host n)) (sym (same_Some j k is))
 asks_about g host Firm k is = cc
 asks_about g host (Closing j) k is = ap (λ (n : ℕ). Closing (new_number_about g host n)) (sym (same_Some j k is))
@@ -129,10 +140,12 @@ same_in g host silo q (Asking k) h = refl
 same_in g host silo q Firm h = refl
 same_in g host silo q (Closing k) h = refl
 
-same_held : (g : Grain) (host : Host) (silo : Silo) (q : Grain) (h : Held) → asks_in (held_renewed_about g host q h).phase silo q (held_renewed_about g host q h) ≡ asks_in h.phase silo q h
+same_held : (g : Grain) (host : Host) (silo : Silo) (q : Grain) (h : Held)
+    → asks_in (held_renewed_about g host q h).phase silo q (held_renewed_about g host q h) ≡ asks_in h.phase silo q h
 same_held g host silo q h = by (grain_eq q g)
   where
-    by : (b : Bool) → asks_in (cond b (phase_renewed_about g host h.phase) h.phase) silo q (record h { phase = cond b (phase_renewed_about g host h.phase) h.phase }) ≡ asks_in h.phase silo q h
+    by : (b : Bool) → asks_in (cond b (phase_renewed_about g host h.phase) h.phase) silo q
+        (record h { phase = cond b (phase_renewed_about g host h.phase) h.phase }) ≡ asks_in h.phase silo q h
     by true = same_in g host silo q h.phase h
     by false = refl
 
@@ -143,12 +156,14 @@ same_act g host silo held (Activation q) =
     ap (λ o. option_and_then (λ (h : Held). asks_in h.phase silo q h) o) (lookup_by_grain (held_renewed_about g host) q held)
     ∙ by (lookup (is_at (grain_cmp q)) held)
   where
-    by : (o : Option Held) → option_and_then (λ h. asks_in h.phase silo q h) (option_map (held_renewed_about g host q) o) ≡ option_and_then (λ h. asks_in h.phase silo q h) o
+    by : (o : Option Held) → option_and_then (λ h. asks_in h.phase silo q h) (option_map (held_renewed_about g host q) o) ≡ option_and_then
+        (λ h. asks_in h.phase silo q h) o
     by None = refl
     by (Some h) = same_held g host silo q h
 
 -- ---- Finds.
-finds_passed : (p : Grain → Bool) (es : List (ℕ × OutstandingRequest)) → finds_in (filter (λ e. p (grain_asked e.1)) es) ≡ filter (λ e. p e.1) (finds_in es)
+finds_passed : (p : Grain → Bool) (es : List (ℕ × OutstandingRequest))
+    → finds_in (filter (λ e. p (grain_asked e.1)) es) ≡ filter (λ e. p e.1) (finds_in es)
 finds_passed p [] = refl
 finds_passed p (e ∷ es) = by e.1 refl (finds_passed p es)
   where
@@ -156,17 +171,22 @@ finds_passed p (e ∷ es) = by e.1 refl (finds_passed p es)
         → finds_in (cond (p (grain_asked e.1)) (e ∷ filter (λ x. p (grain_asked x.1)) es) (filter (λ x. p (grain_asked x.1)) es))
         ≡ filter (λ x. p x.1) (cons_option (option_map (λ q. (e.0, q)) (find_in e.1)) (finds_in es))
     by (Activation q) is later =
-        none (p (grain_asked e.1)) ∙ sym (ap (λ a. filter (λ x. p x.1) (cons_option (option_map (λ q. (e.0, q)) (find_in a)) (finds_in es))) is)
+        none (p (grain_asked e.1)) ∙ sym (ap (λ a. filter (λ x. p x.1) (cons_option (option_map (λ q. (e.0, q)) (find_in a)) (finds_in es)))
+        is)
       where
-        none : (b : Bool) → finds_in (cond b (e ∷ filter (λ x. p (grain_asked x.1)) es) (filter (λ x. p (grain_asked x.1)) es)) ≡ filter (λ x. p x.1) (finds_in es)
-        none true = ap (λ a. cons_option (option_map (λ q. (e.0, q)) (find_in a)) (finds_in (filter (λ x. p (grain_asked x.1)) es))) is ∙ later
+        none : (b : Bool) → finds_in (cond b (e ∷ filter (λ x. p (grain_asked x.1)) es) (filter (λ x. p (grain_asked x.1)) es)) ≡ filter
+            (λ x. p x.1) (finds_in es)
+        none true =
+            ap (λ a. cons_option (option_map (λ q. (e.0, q)) (find_in a)) (finds_in (filter (λ x. p (grain_asked x.1)) es))) is ∙ later
         none false = later
     by (Find q) is later =
-        ap (λ a. finds_in (cond (p (grain_asked a)) ((e.0, a) ∷ filter (λ x. p (grain_asked x.1)) es) (filter (λ x. p (grain_asked x.1)) es))) is
+        ap (λ a. finds_in (cond (p (grain_asked a)) ((e.0, a) ∷ filter (λ x. p (grain_asked x.1)) es)
+        (filter (λ x. p (grain_asked x.1)) es))) is
         ∙ one (p q)
         ∙ sym (ap (λ a. filter (λ x. p x.1) (cons_option (option_map (λ y. (e.0, y)) (find_in a)) (finds_in es))) is)
       where
-        one : (b : Bool) → finds_in (cond b ((e.0, Find q) ∷ filter (λ x. p (grain_asked x.1)) es) (filter (λ x. p (grain_asked x.1)) es)) ≡ cond b ((e.0, q) ∷ filter (λ x. p x.1) (finds_in es)) (filter (λ x. p x.1) (finds_in es))
+        one : (b : Bool) → finds_in (cond b ((e.0, Find q) ∷ filter (λ x. p (grain_asked x.1)) es) (filter (λ x. p (grain_asked x.1)) es))
+            ≡ cond b ((e.0, q) ∷ filter (λ x. p x.1) (finds_in es)) (filter (λ x. p x.1) (finds_in es))
         one true = ap (λ l. (e.0, q) ∷ l) later
         one false = later
 
@@ -197,16 +217,20 @@ module _ (h : Inside) (is : IsWhole h) (g : Grain) where
   mine_sorted : IsStrictlySortedBy nat_cmp (keys_of mine)
   mine_sorted = moved.mine_sorted out is.are_held.in_order g h.next_number is.are_held.below
 
-  of_mine : (n : ℕ) (asked : OutstandingRequest) → asked_under n mine ≡ Some asked → (asked_under n out ≡ Some asked) × (is_about g asked ≡ true)
+  of_mine : (n : ℕ) (asked : OutstandingRequest) → asked_under n mine ≡ Some asked
+      → (asked_under n out ≡ Some asked) × (is_about g asked ≡ true)
   of_mine = moved.of_mine out is.are_held.in_order g h.next_number is.are_held.below
 
-  of_others : (n : ℕ) (asked : OutstandingRequest) → asked_under n others ≡ Some asked → (asked_under n out ≡ Some asked) × (is_about g asked ≡ false)
+  of_others : (n : ℕ) (asked : OutstandingRequest) → asked_under n others ≡ Some asked
+      → (asked_under n out ≡ Some asked) × (is_about g asked ≡ false)
   of_others = moved.of_others out is.are_held.in_order g h.next_number is.are_held.below
 
-  in_mine : (n : ℕ) (asked : OutstandingRequest) → asked_under n out ≡ Some asked → is_about g asked ≡ true → asked_under n mine ≡ Some asked
+  in_mine : (n : ℕ) (asked : OutstandingRequest) → asked_under n out ≡ Some asked → is_about g asked ≡ true
+      → asked_under n mine ≡ Some asked
   in_mine = moved.in_mine out is.are_held.in_order g h.next_number is.are_held.below
 
-  in_others : (n : ℕ) (asked : OutstandingRequest) → asked_under n out ≡ Some asked → is_about g asked ≡ false → asked_under n others ≡ Some asked
+  in_others : (n : ℕ) (asked : OutstandingRequest) → asked_under n out ≡ Some asked → is_about g asked ≡ false
+      → asked_under n others ≡ Some asked
   in_others = moved.in_others out is.are_held.in_order g h.next_number is.are_held.below
 
   found_now : (n : ℕ) → asked_under n now ≡ either (asked_under n others) (asked_under n numbered)
@@ -218,7 +242,8 @@ module _ (h : Inside) (is : IsWhole h) (g : Grain) where
   -- ---- Their acts.
   acts_about : requests_about g (host_of h) ≡ acts_in h.silo h.held.entries mine
   acts_about =
-      ap (λ l. filter (λ e. grain_eq (grain_of e.1) g) l) (sym (acts_are h.silo h.next_number h.held.next_count h.held.entries out is.are_held))
+      ap (λ l. filter (λ e. grain_eq (grain_of e.1) g) l)
+      (sym (acts_are h.silo h.next_number h.held.next_count h.held.entries out is.are_held))
       ∙ acts_passed g h.silo h.held.entries out
 
   keys_about : keys_of (requests_about g (host_of h)) ≡ keys_of mine
@@ -243,40 +268,49 @@ module _ (h : Inside) (is : IsWhole h) (g : Grain) where
   only_under : (q : Grain) (k : ℕ) → number_of q h.held.entries ≡ Some k → AllByRecursion (λ e. is_request_of q e.1 ≡ true → e.0 ≡ k) mine
   only_under q k has =
       all_map (λ e. asked_under e.0 mine ≡ Some e.1) (λ e. is_request_of q e.1 ≡ true → e.0 ≡ k) mine
-      (λ e found request. same_Some e.0 k (sym (is.are_held.asked.only q e.0 ((of_mine e.0 e.1 found).0 ∙ ap (λ (a : OutstandingRequest). Some a) (of_grain q e.1 request))) ∙ has))
+      (λ e found request. same_Some e.0 k (sym (is.are_held.asked.only q e.0
+      ((of_mine e.0 e.1 found).0 ∙ ap (λ (a : OutstandingRequest). Some a) (of_grain q e.1 request))) ∙ has))
       (each_asked mine mine_sorted)
 
   no_request : (q : Grain) → grain_eq q g ≡ false → AllByRecursion (λ e. is_request_of q e.1 ≡ false) mine
   no_request q never =
-      all_map (λ e. is_about g e.1 ≡ true) (λ e. is_request_of q e.1 ≡ false) mine (λ e about. by e.1 about) (all_passed (λ e. is_about g e.1) out)
+      all_map (λ e. is_about g e.1 ≡ true) (λ e. is_request_of q e.1 ≡ false) mine (λ e about. by e.1 about)
+      (all_passed (λ e. is_about g e.1) out)
     where
       by : (asked : OutstandingRequest) → is_about g asked ≡ true → is_request_of q asked ≡ false
       by (Activation its) about =
           on_grain (λ b. b ≡ false) its q
-          (λ same. let ever : true ≡ false = sym ((Decides-grain q g).1 (sym same ∙ (Decides-grain its g).0 about)) ∙ never in cc) (λ other. refl)
+          (λ same. let ever : true ≡ false = sym ((Decides-grain q g).1 (sym same ∙ (Decides-grain its g).0 about)) ∙ never in cc)
+          (λ other. refl)
       by (Find its) about = refl
 
   one_after : (e : Grain × Held) → IsFoundIn h.held.entries e → after numbered e.0 e.1 ≡ held_renewed_about g (host_of h) e.0 e.1
   one_after e found =
-      on_test (λ b. after numbered e.0 e.1 ≡ record e.1 { phase = cond b (phase_renewed_about g (host_of h) e.1.phase) e.1.phase }) (grain_eq e.0 g)
+      on_test (λ b. after numbered e.0 e.1 ≡ record e.1 { phase = cond b (phase_renewed_about g (host_of h) e.1.phase) e.1.phase })
+      (grain_eq e.0 g)
       (λ ever. of_its ever (number_in e.1.phase) refl)
       (λ never. untouched e.0 e.1 h.next_number mine (no_request e.0 never))
     where
-      of_its : grain_eq e.0 g ≡ true → (o : Option ℕ) → number_in e.1.phase ≡ o → after numbered e.0 e.1 ≡ record e.1 { phase = phase_renewed_about g (host_of h) e.1.phase }
-      of_its ever None none = after_resting numbered e.0 e.1 none ∙ ap (λ (p : Phase). record e.1 { phase = p }) (rests_about g (host_of h) e.1.phase none)
+      of_its : grain_eq e.0 g ≡ true → (o : Option ℕ) → number_in e.1.phase ≡ o
+          → after numbered e.0 e.1 ≡ record e.1 { phase = phase_renewed_about g (host_of h) e.1.phase }
+      of_its ever None none =
+          after_resting numbered e.0 e.1 none ∙ ap (λ (p : Phase). record e.1 { phase = p }) (rests_about g (host_of h) e.1.phase none)
       of_its ever (Some k) has =
           let number : number_of e.0 h.held.entries ≡ Some k = ap (λ o. option_and_then (λ (x : Held). number_in x.phase) o) found ∙ has in
-          after_asking new e.0 e.1 k h.next_number mine mine_sorted ranks (only_under e.0 k number) (in_mine k (Activation e.0) (is.are_held.asked.there e.0 k number) ever)
+          after_asking new e.0 e.1 k h.next_number mine mine_sorted ranks (only_under e.0 k number)
+          (in_mine k (Activation e.0) (is.are_held.asked.there e.0 k number) ever)
           ∙ ap (λ (p : Phase). record e.1 { phase = p }) (asks_about g (host_of h) e.1.phase k has)
 
   pub held_is : with_numbers numbered h.held.entries ≡ held_now
   held_is =
       each_after numbered h.held.entries
       ∙ map_same (λ e. (e.0, after numbered e.0 e.1)) (λ e. (e.0, held_renewed_about g (host_of h) e.0 e.1)) h.held.entries
-      (all_map (IsFoundIn h.held.entries) (λ e. (e.0, after numbered e.0 e.1) ≡ (e.0, held_renewed_about g (host_of h) e.0 e.1)) h.held.entries (λ e found. ap (λ (x : Held). (e.0, x)) (one_after e found))
+      (all_map (IsFoundIn h.held.entries) (λ e. (e.0, after numbered e.0 e.1) ≡ (e.0, held_renewed_about g (host_of h) e.0 e.1))
+      h.held.entries (λ e found. ap (λ (x : Held). (e.0, x)) (one_after e found))
       (each_found h.held.entries is.are_held.apart))
 
-  number_now : (q : Grain) → number_of q held_now ≡ cond (grain_eq q g) (option_map new (number_of q h.held.entries)) (number_of q h.held.entries)
+  number_now : (q : Grain) → number_of q held_now ≡ cond (grain_eq q g) (option_map new (number_of q h.held.entries))
+      (number_of q h.held.entries)
   number_now q =
       ap (λ o. option_and_then (λ (x : Held). number_in x.phase) o) (lookup_by_grain (held_renewed_about g (host_of h)) q h.held.entries)
       ∙ by (lookup (is_at (grain_cmp q)) h.held.entries)
@@ -285,7 +319,8 @@ module _ (h : Inside) (is : IsWhole h) (g : Grain) where
       none true = refl
       none false = refl
 
-      some : (b : Bool) (x : Held) → number_in (cond b (phase_renewed_about g (host_of h) x.phase) x.phase) ≡ cond b (option_map new (number_in x.phase)) (number_in x.phase)
+      some : (b : Bool) (x : Held) → number_in (cond b (phase_renewed_about g (host_of h) x.phase) x.phase) ≡ cond b
+          (option_map new (number_in x.phase)) (number_in x.phase)
       some true x = number_about g (host_of h) x.phase
       some false x = refl
 
@@ -298,13 +333,16 @@ module _ (h : Inside) (is : IsWhole h) (g : Grain) where
   asked_now : AreAsked held_now now
   asked_now = record {
     there = λ q n is_n.
-        on_test (λ b. cond b (option_map new (number_of q h.held.entries)) (number_of q h.held.entries) ≡ Some n → asked_under n now ≡ Some (Activation q)) (grain_eq q g)
+        on_test (λ b. cond b (option_map new (number_of q h.held.entries)) (number_of q h.held.entries) ≡ Some n
+        → asked_under n now ≡ Some (Activation q)) (grain_eq q g)
         (λ ever e. of_its q n ever (number_of q h.held.entries) refl e)
-        (λ never e. found_now n ∙ ap (λ o. either o (asked_under n numbered)) (in_others n (Activation q) (is.are_held.asked.there q n e) never))
+        (λ never e. found_now n ∙ ap (λ o. either o (asked_under n numbered))
+        (in_others n (Activation q) (is.are_held.asked.there q n e) never))
         (sym (number_now q) ∙ is_n);
     only = λ q n found. only_by q n (asked_under n others) refl (sym (found_now n) ∙ found);
   } where
-    of_its : (q : Grain) (n : ℕ) → grain_eq q g ≡ true → (o : Option ℕ) → number_of q h.held.entries ≡ o → option_map new o ≡ Some n → asked_under n now ≡ Some (Activation q)
+    of_its : (q : Grain) (n : ℕ) → grain_eq q g ≡ true → (o : Option ℕ) → number_of q h.held.entries ≡ o → option_map new o ≡ Some n
+        → asked_under n now ≡ Some (Activation q)
     of_its q n ever None none e = nothing n e
     of_its q n ever (Some k) has e =
         let ranked = rank_found new h.next_number mine k (Activation q) ranks (in_mine k (Activation q) (is.are_held.asked.there q k has) ever) in
@@ -313,7 +351,8 @@ module _ (h : Inside) (is : IsWhole h) (g : Grain) where
         ∙ ap (λ o. either o (asked_under n numbered)) (no_other n (let low = ranked.low in omega (low, same, arith)))
         ∙ ap (λ (m : ℕ). asked_under m numbered) (sym same) ∙ ranked.found
 
-    only_by : (q : Grain) (n : ℕ) (o : Option OutstandingRequest) → asked_under n others ≡ o → either o (asked_under n numbered) ≡ Some (Activation q) → number_of q held_now ≡ Some n
+    only_by : (q : Grain) (n : ℕ) (o : Option OutstandingRequest) → asked_under n others ≡ o
+        → either o (asked_under n numbered) ≡ Some (Activation q) → number_of q held_now ≡ Some n
     only_by q n None none found =
         let back = rank_back new h.next_number mine n (Activation q) mine_sorted ranks found in
         let there = of_mine back.0 (Activation q) back.1 in
@@ -334,7 +373,8 @@ module _ (h : Inside) (is : IsWhole h) (g : Grain) where
     below = moved.below_now out is.are_held.in_order g h.next_number is.are_held.below;
   }
 
-  finds_now : finds_in now ≡ filter (λ e. not (grain_eq e.1 g)) (finds_in out) ++ map (λ e. (new e.0, e.1)) (filter (λ e. grain_eq e.1 g) (finds_in out))
+  finds_now : finds_in now ≡ filter (λ e. not (grain_eq e.1 g)) (finds_in out) ++ map (λ e. (new e.0, e.1))
+      (filter (λ e. grain_eq e.1 g) (finds_in out))
   finds_now =
       filter_map-append (λ e. option_map (λ q. (e.0, q)) (find_in e.1)) others numbered
       ∙ (λ i. finds_passed (λ q. not (grain_eq q g)) out i ++ finds-enumerate_from new h.next_number mine ranks i)
@@ -349,7 +389,8 @@ module _ (h : Inside) (is : IsWhole h) (g : Grain) where
         let here : h.next_number + length (requests_about g (host_of h)) ≤ 2 ^ 60 + 1 = subst (λ (x : Host). x.next_number + length (requests_about g x) ≤ 2 ^ 60 + 1) (sym means) left in
         let all = many in omega (here, all, arith)
 
-    module _ (held_new : List (Grain × Held)) (out_new : List (ℕ × OutstandingRequest)) (count : ℕ) (held_made : held_new ≡ held_now) (out_made : out_new ≡ now) (counted : count ≡ length mine) where
+    module _ (held_new : List (Grain × Held)) (out_new : List (ℕ × OutstandingRequest)) (count : ℕ) (held_made : held_new ≡ held_now)
+        (out_made : out_new ≡ now) (counted : count ≡ length mine) where
       pub renewed_means : meant h.silo (h.next_number + count) h.held.next_count held_new out_new ≡ renewed_about g host
       renewed_means =
           (λ i. made h.silo (h.next_number + (counted ∙ sym many) i) h.held.next_count (held_made i) ((ap finds_in out_made ∙ finds_now) i))
@@ -357,9 +398,12 @@ module _ (h : Inside) (is : IsWhole h) (g : Grain) where
 
       pub renewed_is : host.next_number + length (requests_about g host) ≤ 2 ^ 60 + 1 → IsHost (h.next_number + count) held_new out_new
       renewed_is left = record {
-        number = let above = is.number.above in let within = enough left in record { above = omega (above, arith); within = omega (within, counted, arith) };
+        number =
+            let above = is.number.above in let within = enough left in
+            record { above = omega (above, arith); within = omega (within, counted, arith) };
         are_held = subst (λ (n : ℕ). AreHeld (h.next_number + n) held_new out_new) (sym counted)
-            (subst (λ l. AreHeld (h.next_number + length mine) l out_new) (sym held_made) (subst (λ l. AreHeld (h.next_number + length mine) held_now l) (sym out_made) are_now));
+            (subst (λ l. AreHeld (h.next_number + length mine) l out_new) (sym held_made)
+            (subst (λ l. AreHeld (h.next_number + length mine) held_now l) (sym out_made) are_now));
       }
 
     -- the requests under the new numbers are those of the renewed host about the grain
@@ -368,5 +412,6 @@ module _ (h : Inside) (is : IsWhole h) (g : Grain) where
         (λ i. filter_map (λ e. option_map (λ a. (e.0, a)) (sym (same_act g (host_of h) h.silo h.held.entries e.1) i)) numbered)
         ∙ ap (λ l. acts_in h.silo held_now l) (sym (moved.mine_now out is.are_held.in_order g h.next_number is.are_held.below))
         ∙ sym (acts_passed g h.silo held_now now)
-        ∙ ap (λ l. filter (λ e. grain_eq (grain_of e.1) g) l) (acts_are h.silo (h.next_number + length mine) h.held.next_count held_now now are_now)
+        ∙ ap (λ l. filter (λ e. grain_eq (grain_of e.1) g) l)
+        (acts_are h.silo (h.next_number + length mine) h.held.next_count held_now now are_now)
         ∙ ap (requests_about g) (renewed_means held_now now (length mine) refl refl refl)

@@ -22,17 +22,23 @@ use Rattle.host_activations.proofs.Numbers.{on_number}
 use Rattle.host_activations.proofs.Endings.{without_number}
 
 abbrev pub set_to : Grain → ActivationsValue → Held → Phase → Option ActivationId → ActivationsValue
-set_to g old held phase previous = record old { entries = set_value (is_at (grain_cmp g)) old.entries (record held { phase = phase; previous = previous }) }
+set_to g old held phase previous =
+    record old { entries = set_value (is_at (grain_cmp g)) old.entries (record held { phase = phase; previous = previous }) }
 
-pub set_there : (g : Grain) (old new : ActivationsValue) (phase : Phase) (previous : Option ActivationId) (held : Held) → lookup (is_at (grain_cmp g)) old.entries ≡ Some held
-    → MatchOption (lookup (is_at (grain_cmp g)) old.entries) (new ≡ old) (λ h. new ≡ set_to g old h phase previous) → new ≡ set_to g old held phase previous
-set_there g old new phase previous held there set = subst (λ o. MatchOption o (new ≡ old) (λ h. new ≡ set_to g old h phase previous)) there set
+pub set_there : (g : Grain) (old new : ActivationsValue) (phase : Phase) (previous : Option ActivationId) (held : Held)
+    → lookup (is_at (grain_cmp g)) old.entries ≡ Some held
+    → MatchOption (lookup (is_at (grain_cmp g)) old.entries) (new ≡ old) (λ h. new ≡ set_to g old h phase previous)
+    → new ≡ set_to g old held phase previous
+set_there g old new phase previous held there set =
+    subst (λ o. MatchOption o (new ≡ old) (λ h. new ≡ set_to g old h phase previous)) there set
 
 -- what is put in under a new number and taken out again leaves what was there
-pub put_back : (n : ℕ) (asked : OutstandingRequest) (out : List (ℕ × OutstandingRequest)) → IsStrictlySortedBy nat_cmp (keys_of out) → asked_under n out ≡ None
+pub put_back : (n : ℕ) (asked : OutstandingRequest) (out : List (ℕ × OutstandingRequest)) → IsStrictlySortedBy nat_cmp (keys_of out)
+    → asked_under n out ≡ None
     → remove_entry (is_at (nat_cmp n)) (insert_entry nat_cmp out n asked) ≡ out
 put_back n asked out sorted none =
-    same_entries nat_cmp_total exact_unsigned (remove_entry (is_at (nat_cmp n)) more) out (sorted-remove_entry (is_at (nat_cmp n)) nat_cmp more sorted_more) sorted
+    same_entries nat_cmp_total exact_unsigned (remove_entry (is_at (nat_cmp n)) more) out
+    (sorted-remove_entry (is_at (nat_cmp n)) nat_cmp more sorted_more) sorted
     (λ q. asked_taken more n q sorted_more
     ∙ on_number (λ b. cond b None (asked_under q more) ≡ asked_under q out) n q
     (λ same. sym (ap (λ (k : ℕ). asked_under k out) (sym same) ∙ none))
@@ -47,14 +53,17 @@ put_back n asked out sorted none =
     sorted_more = sorted-insert_entry nat_cmp_total n asked out sorted
 
 -- what is put in and what is taken out under different numbers may come in either order
-pub apart_order : (out : List (ℕ × OutstandingRequest)) → IsStrictlySortedBy nat_cmp (keys_of out) → (gone came : ℕ) (asked : OutstandingRequest) → (came ≡ gone → ⊥)
-    → remove_entry (is_at (nat_cmp gone)) (insert_entry nat_cmp out came asked) ≡ insert_entry nat_cmp (remove_entry (is_at (nat_cmp gone)) out) came asked
+pub apart_order : (out : List (ℕ × OutstandingRequest)) → IsStrictlySortedBy nat_cmp (keys_of out)
+    → (gone came : ℕ) (asked : OutstandingRequest) → (came ≡ gone → ⊥)
+    → remove_entry (is_at (nat_cmp gone)) (insert_entry nat_cmp out came asked) ≡ insert_entry nat_cmp
+    (remove_entry (is_at (nat_cmp gone)) out) came asked
 apart_order out sorted gone came asked apart =
     same_entries nat_cmp_total exact_unsigned (remove_entry (is_at (nat_cmp gone)) more) (insert_entry nat_cmp less came asked)
     (sorted-remove_entry (is_at (nat_cmp gone)) nat_cmp more sorted_more) (sorted-insert_entry nat_cmp_total came asked less sorted_less)
     (λ q. asked_taken more gone q sorted_more
     ∙ ap (λ o. cond (is_at (nat_cmp gone) q) None o) (asked_put out came asked q)
-    ∙ on_number (λ b. cond b None (cond (is_at (nat_cmp q) came) (Some asked) (asked_under q out)) ≡ cond (is_at (nat_cmp q) came) (Some asked) (cond b None (asked_under q out))) gone q
+    ∙ on_number (λ b. cond b None (cond (is_at (nat_cmp q) came) (Some asked) (asked_under q out)) ≡ cond (is_at (nat_cmp q) came)
+    (Some asked) (cond b None (asked_under q out))) gone q
     (λ same. on_number (λ b. None ≡ cond b (Some asked) None) q came (λ also. absurd (apart (sym (same ∙ also)))) (λ other. refl))
     (λ other. refl)
     ∙ ap (λ o. cond (is_at (nat_cmp q) came) (Some asked) o) (sym (asked_taken out gone q sorted))
@@ -80,6 +89,7 @@ both_none true o none = refl
 both_none false o none = none
 
 -- without a number, if there is one, they stand in order
-pub without_sorted : (number : Option ℕ) (out : List (ℕ × OutstandingRequest)) → IsStrictlySortedBy nat_cmp (keys_of out) → IsStrictlySortedBy nat_cmp (keys_of (without_number number out))
+pub without_sorted : (number : Option ℕ) (out : List (ℕ × OutstandingRequest)) → IsStrictlySortedBy nat_cmp (keys_of out)
+    → IsStrictlySortedBy nat_cmp (keys_of (without_number number out))
 without_sorted None out sorted = sorted
 without_sorted (Some number) out sorted = sorted-remove_entry (is_at (nat_cmp number)) nat_cmp out sorted

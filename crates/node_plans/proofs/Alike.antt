@@ -19,7 +19,8 @@ module _ (node : Node) (holding : Holding) (shelf : List Snapshot) (cache : Cach
   other = record node { holding = holding; shelf = shelf; host = renewed node.host; cache = cache }
 
   owned : (owner : Option Silo) (number : ℕ) (act : Act)
-      → letter_if_owned owner node (Request_letter (request_of node number act)) ≡ letter_if_owned owner other (Request_letter (request_of other number act))
+      → letter_if_owned owner node (Request_letter (request_of node number act)) ≡ letter_if_owned owner other
+      (Request_letter (request_of other number act))
   owned None number act = refl
   owned (Some owner) number act = refl
 
@@ -45,11 +46,13 @@ module _ (node : Node) (grain : Grain) where
   renewed_node = record node { host = renewed_about grain node.host }
 
   owned_about : (owner : Option Silo) (number : ℕ) (act : Act)
-      → letter_if_owned owner node (Request_letter (request_of node number act)) ≡ letter_if_owned owner renewed_node (Request_letter (request_of renewed_node number act))
+      → letter_if_owned owner node (Request_letter (request_of node number act)) ≡ letter_if_owned owner renewed_node
+      (Request_letter (request_of renewed_node number act))
   owned_about None number act = refl
   owned_about (Some owner) number act = refl
 
-  pub same_about : (requests : List (ℕ × Act)) → flat_map (λ e. request_letters node e.0 e.1) requests ≡ flat_map (λ e. request_letters renewed_node e.0 e.1) requests
+  pub same_about : (requests : List (ℕ × Act)) → flat_map (λ e. request_letters node e.0 e.1) requests ≡ flat_map
+      (λ e. request_letters renewed_node e.0 e.1) requests
   same_about requests = λ i. flat_map (λ e. owned_about (owner_by node (hash_of node e.1)) e.0 e.1 i) requests
 
 -- entries are nothing to it
@@ -59,10 +62,14 @@ emptied_want node (e ∷ es) = ap (λ l. wants_by e.1.state node e.1.range ++ l)
 
 -- a node sends what it sends without its pieces, snapshots and hints
 pub bare_request : (node : Node) (number : ℕ) (act : Act) → request_letters (bare node) number act ≡ request_letters node number act
-bare_request node number act = same_request (bare node) node.holding node.shelf node.cache number act ∙ sym (same_request node node.holding node.shelf node.cache number act)
+bare_request node number act =
+    same_request (bare node) node.holding node.shelf node.cache number act
+    ∙ sym (same_request node node.holding node.shelf node.cache number act)
 
-pub bare_requests : (node : Node) (requests : List (ℕ × Act)) → flat_map (λ e. request_letters (bare node) e.0 e.1) requests ≡ flat_map (λ e. request_letters node e.0 e.1) requests
+pub bare_requests : (node : Node) (requests : List (ℕ × Act))
+    → flat_map (λ e. request_letters (bare node) e.0 e.1) requests ≡ flat_map (λ e. request_letters node e.0 e.1) requests
 bare_requests node requests = λ i. flat_map (λ e. bare_request node e.0 e.1 i) requests
 
 pub bare_wants : (node : Node) (pieces : List (ℕ × Piece)) → wants_of (bare node) pieces ≡ wants_of node pieces
-bare_wants node pieces = same_wanted (bare node) node.holding node.shelf node.cache pieces ∙ sym (same_wanted node node.holding node.shelf node.cache pieces)
+bare_wants node pieces =
+    same_wanted (bare node) node.holding node.shelf node.cache pieces ∙ sym (same_wanted node node.holding node.shelf node.cache pieces)

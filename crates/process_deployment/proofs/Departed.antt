@@ -29,12 +29,15 @@ module _ (hashing : Hashing) where
       by (Err number) = silent_alone hashing (refusal_line number) (refusal_silent hashing number)
       by (Ok its) =
           let next = record s { membership = its.membership } in
-          told_silent hashing (own_status next) (sentence (news_words version change its.news)) next (news_silent hashing version change its.news)
+          told_silent hashing (own_status next) (sentence (news_words version change its.news)) next
+          (news_silent hashing version change its.news)
 
   dead_received : (letter : Letter) (s : SiloValue) → (letter.to ≡ s.node.host.silo → ⊥) → AreSilent hashing (received_so letter s).lines
   dead_received letter s other = by (silo_eq letter.to s.node.host.silo) refl
     where
-      by : (own : Bool) → silo_eq letter.to s.node.host.silo ≡ own → AreSilent hashing (cond own (stepped (received_words s.node.host s.node.view.version letter) (receives s letter) s) (printing [] s)).lines
+      by : (own : Bool) → silo_eq letter.to s.node.host.silo ≡ own
+          → AreSilent hashing (cond own (stepped (received_words s.node.host s.node.view.version letter) (receives s letter) s)
+          (printing [] s)).lines
       by false is = All-nil (IsSilent hashing)
       by true is = absurd (other ((Decides-silo letter.to s.node.host.silo).0 is))
 
@@ -53,11 +56,13 @@ module _ (hashing : Hashing) where
   dead_answers Show s may = show_silent hashing s
   dead_answers Dump s may = silent_alone hashing (dump_line s) (dump_silent hashing s)
 
-  unless_anothers : (anothers : Bool) (asked : Asked) (s : SiloValue) → MayAskDead s asked → AreSilent hashing (cond anothers (printing (refusal_line 208 ∷ []) s) (answered asked s)).lines
+  unless_anothers : (anothers : Bool) (asked : Asked) (s : SiloValue) → MayAskDead s asked
+      → AreSilent hashing (cond anothers (printing (refusal_line 208 ∷ []) s) (answered asked s)).lines
   unless_anothers true asked s may = silent_alone hashing (refusal_line 208) (refusal_silent hashing 208)
   unless_anothers false asked s may = dead_answers asked s may
 
-  pub dead_lines : (token : Option (List ℕ)) (read : Result (Option Asked) ℕ) (s : SiloValue) → IfAsks read (MayAskDead s) → AreSilent hashing (answered_to token read s).lines
+  pub dead_lines : (token : Option (List ℕ)) (read : Result (Option Asked) ℕ) (s : SiloValue) → IfAsks read (MayAskDead s)
+      → AreSilent hashing (answered_to token read s).lines
   unfolding answered_as
   dead_lines token (Ok None) s may = All-nil (IsSilent hashing)
   dead_lines token (Ok (Some asked)) s may = unless_anothers (is_anothers_join token asked s.node.host.silo) asked s may

@@ -111,14 +111,19 @@ news_is_other version (Join silo places) (Replaced old) = refl
 news_is_other version (Leave silo) (Replaced old) = refl
 news_is_other version (Die silo) (Replaced old) = refl
 
-told_other : (own : Option Status) (line : List ℕ) (s : SiloValue) → IsOther line → AreOther (unless_dead own (printing (line ∷ []) s)).lines
+told_other : (own : Option Status) (line : List ℕ) (s : SiloValue) → IsOther line
+    → AreOther (unless_dead own (printing (line ∷ []) s)).lines
 told_other None line s is = alone line is
 told_other (Some status.Active) line s is = alone line is
 told_other (Some status.Leaving) line s is = alone line is
-told_other (Some status.Dead) line s is = All-cons IsOther line (codes "dead" ∷ []) is (alone (codes "dead") (by_words (codes "dead" ∷ []) refl))
+told_other (Some status.Dead) line s is =
+    All-cons IsOther line (codes "dead" ∷ []) is (alone (codes "dead") (by_words (codes "dead" ∷ []) refl))
 
-pub news_other : (version : ℕ) (change : Change) (news : News) (own : Option Status) (s : SiloValue) → AreOther (unless_dead own (printing (sentence (news_words version change news) ∷ []) s)).lines
-news_other version change news own s = told_other own (sentence (news_words version change news)) s (by_words (news_words version change news) (news_is_other version change news))
+pub news_other : (version : ℕ) (change : Change) (news : News) (own : Option Status) (s : SiloValue)
+    → AreOther (unless_dead own (printing (sentence (news_words version change news) ∷ []) s)).lines
+news_other version change news own s =
+    told_other own (sentence (news_words version change news)) s
+    (by_words (news_words version change news) (news_is_other version change news))
 
 pub saw_other : (silo : Silo) (version : ℕ) (made : Effect) → IsSilo silo → IsOther (sentence (happening_words (Saw silo version made)))
 saw_other silo version made is = silo_other silo (codes "sees" ∷ decimal version ∷ effect_words made) is
@@ -185,12 +190,14 @@ held_other : (silo : Silo) (held : List (Grain × Held)) → AreOther (map (λ e
 held_other silo [] = All-nil IsOther
 held_other silo (e ∷ held) =
     All-cons IsOther (held_line silo e.0 e.1) (map (λ e. held_line silo e.0 e.1) held)
-    (by_words (codes "held" ∷ activation_text (record { silo = silo; count = e.1.count }) ∷ grain_text e.0 ∷ phase_word e.1.phase ∷ []) refl) (held_other silo held)
+    (by_words (codes "held" ∷ activation_text (record { silo = silo; count = e.1.count }) ∷ grain_text e.0 ∷ phase_word e.1.phase ∷ [])
+    refl) (held_other silo held)
 
 pieces_other : (pieces : List (ℕ × Piece)) → AreOther (map (λ e. piece_line e.1) pieces)
 pieces_other [] = All-nil IsOther
 pieces_other (e ∷ pieces) =
-    All-cons IsOther (piece_line e.1) (map (λ e. piece_line e.1) pieces) (by_words (codes "range" ∷ range_text e.1.range ∷ state_words e.1.state e.1.entries) refl) (pieces_other pieces)
+    All-cons IsOther (piece_line e.1) (map (λ e. piece_line e.1) pieces)
+    (by_words (codes "range" ∷ range_text e.1.range ∷ state_words e.1.state e.1.entries) refl) (pieces_other pieces)
 
 pub show_other : (s : SiloValue) → AreOther (show_lines s)
 unfolding show_lines

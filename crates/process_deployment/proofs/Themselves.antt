@@ -17,8 +17,10 @@ letter_is same = cc same
 
 read_so : (hashing : Hashing) (letter : Letter) → IsSayable hashing letter → ReadsAsItself hashing letter
 read_so hashing letter is other given =
-    sym (letter_is (subst (λ (read : Result (Option Asked) ℕ). IfOk read (λ asked. asked ≡ Some (Receive letter))) given (line_said (λ number. ⊤) (λ range. ⊤) hashing letter is)))
+    sym (letter_is (subst (λ (read : Result (Option Asked) ℕ). IfOk read (λ asked. asked ≡ Some (Receive letter))) given
+    (line_said (λ number. ⊤) (λ range. ⊤) hashing letter is)))
 
 pub written_read_as_themselves : WrittenReadAsThemselves
 written_read_as_themselves settings steps are named =
-    All-weaker (IsSayable settings.hashing) (ReadsAsItself settings.hashing) (read_so settings.hashing) (deployed settings steps).written (written_is_sayable settings steps are named)
+    All-weaker (IsSayable settings.hashing) (ReadsAsItself settings.hashing) (read_so settings.hashing) (deployed settings steps).written
+    (written_is_sayable settings steps are named)

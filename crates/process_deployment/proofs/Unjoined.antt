@@ -47,8 +47,10 @@ module _ (hashing : Hashing) (s : SiloValue) (untold : own_status s ≡ None) wh
   refused number = one_line (refusal_line number) (refusal_silent hashing number)
 
   -- a step, which is refused
-  step_idle : (happened : Effect → List (List ℕ)) (outcome : Result Stepped ℕ) → IsIdle (stepped happened (unless_barred (barred s) outcome) s)
-  step_idle happened outcome = subst (λ (own : Option Status). IsIdle (stepped happened (unless_barred (barred_by own) outcome) s)) (sym untold) (refused 901)
+  step_idle : (happened : Effect → List (List ℕ)) (outcome : Result Stepped ℕ)
+      → IsIdle (stepped happened (unless_barred (barred s) outcome) s)
+  step_idle happened outcome =
+      subst (λ (own : Option Status). IsIdle (stepped happened (unless_barred (barred_by own) outcome) s)) (sym untold) (refused 901)
 
   done_idle : (input : Input) → IsIdle (stepped (λ made. happening_words (Did s.node.host.silo made)) (does s input) s)
   done_idle input = step_idle (λ made. happening_words (Did s.node.host.silo made)) (step s.node input)
@@ -59,7 +61,8 @@ module _ (hashing : Hashing) (s : SiloValue) (untold : own_status s ≡ None) wh
       words : Effect → List (List ℕ)
       words = received_words s.node.host s.node.view.version letter
 
-      by : (ours : Bool) → IsIdle (cond ours (stepped words (cond ours (does s (Receives letter)) (Ok (silently s.node Ignored))) s) (printing [] s))
+      by : (ours : Bool) → IsIdle (cond ours (stepped words (cond ours (does s (Receives letter)) (Ok (silently s.node Ignored))) s)
+          (printing [] s))
       by true = step_idle words (step s.node (Receives letter))
       by false = (refl, All-nil (IsSilent hashing))
 
@@ -70,8 +73,11 @@ module _ (hashing : Hashing) (s : SiloValue) (untold : own_status s ≡ None) wh
       by (Err number) = refused number
       by (Ok its) =
           let next : SiloValue = record s { membership = its.membership } in
-          let line = sentence (news_words version change its.news) in
-          (sym (ap (λ (t : SiloValue). t.node) (silo_kept (own_status next) (printing (line ∷ []) next))), told_silent hashing (own_status next) line next (news_silent hashing version change its.news))
+          let line = sentence (news_words version change its.news) in (
+            sym (ap (λ (t : SiloValue). t.node) (silo_kept (own_status next) (printing (line ∷ []) next))),
+            told_silent hashing
+                (own_status next) line next (news_silent hashing version change its.news),
+          )
 
   asked_idle : (asked : Asked) → IsIdle (answered asked s)
   unfolding answered
@@ -110,7 +116,8 @@ none_by : (own : Option Status) → is_some own ≡ false → own ≡ None
 none_by None is = refl
 none_by (Some status) is = absurd (cc is)
 
-module _ (settings : Settings) (silo : Silo) (mine line : List ℕ) (no_join : TellsNoJoin settings silo mine line) (p : Process) (is : IsUnjoined settings silo mine p) where
+module _ (settings : Settings) (silo : Silo) (mine line : List ℕ) (no_join : TellsNoJoin settings silo mine line) (p : Process)
+    (is : IsUnjoined settings silo mine p) where
   abbrev it : Answered
   it = answer_to line p
 
@@ -142,7 +149,8 @@ module _ (settings : Settings) (silo : Silo) (mine line : List ℕ) (no_join : T
       by true = is
       by false = goes_on
 
-all_on : (settings : Settings) (silo : Silo) (mine : List ℕ) (lines : List (List ℕ)) → All (TellsNoJoin settings silo mine) lines → (p : Process) → IsUnjoined settings silo mine p
+all_on : (settings : Settings) (silo : Silo) (mine : List ℕ) (lines : List (List ℕ)) → All (TellsNoJoin settings silo mine) lines
+    → (p : Process) → IsUnjoined settings silo mine p
     → IsUnjoined settings silo mine (reads_all lines p)
 all_on settings silo mine [] none p is = is
 all_on settings silo mine (line ∷ lines) none p is =

@@ -34,7 +34,8 @@ pub record IsNextLetter (world : World) (e : ℕ × Posted) : Type 0 where
   pub node : Node
   pub its : node_of world e.1.letter.to ≡ Some node
 
-pub next_letter : (world : World) (e : ℕ × Posted) → IsMail world.settings world.mail world.sent → find_in world world.mail ≡ Some e → IsNextLetter world e
+pub next_letter : (world : World) (e : ℕ × Posted) → IsMail world.settings world.mail world.sent → find_in world world.mail ≡ Some e
+    → IsNextLetter world e
 next_letter world e is found =
     let next = found_next world 0 world.sent world.mail e is.rising found in
     let deliverable : is_deliverable world e.1 ≡ true = found_test (λ (x : ℕ × Posted). is_deliverable world x.1) world.mail e found in

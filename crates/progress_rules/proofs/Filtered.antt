@@ -73,9 +73,11 @@ module _ {X : Type 0} where
   above_filtered : (test : ℕ × X → Bool) (a : ℕ) (es : List (ℕ × X)) → Above a es → Above a (filter test es)
   above_filtered test a [] above = tt
   above_filtered test a (e ∷ es) above =
-      on_bool (λ b. Above a (cond b (e ∷ filter test es) (filter test es))) (test e) (λ t. (above.0, above_filtered test a es above.1)) (λ f. above_filtered test a es above.1)
+      on_bool (λ b. Above a (cond b (e ∷ filter test es) (filter test es))) (test e) (λ t. (above.0, above_filtered test a es above.1))
+      (λ f. above_filtered test a es above.1)
 
-  pub sorted_filtered : (test : ℕ × X → Bool) (es : List (ℕ × X)) → IsStrictlySortedBy nat_cmp (keys_of es) → IsStrictlySortedBy nat_cmp (keys_of (filter test es))
+  pub sorted_filtered : (test : ℕ × X → Bool) (es : List (ℕ × X)) → IsStrictlySortedBy nat_cmp (keys_of es)
+      → IsStrictlySortedBy nat_cmp (keys_of (filter test es))
   unfolding IsStrictlySortedBy
   sorted_filtered test [] sorted = sorted
   sorted_filtered test (e ∷ es) sorted =
@@ -84,14 +86,17 @@ module _ {X : Type 0} where
 
   above_both : (a : ℕ) (xs ys : List (ℕ × X)) → Above a xs → All (λ e. a < e.0) ys → Above a (xs ++ ys)
   above_both a [] [] above all = tt
-  above_both a [] (y ∷ ys) above all = (less_to a y.0 (All-head (λ (e : ℕ × X). a < e.0) y ys all), above_both a [] ys tt (All-tail (λ (e : ℕ × X). a < e.0) y ys all))
+  above_both a [] (y ∷ ys) above all =
+      (less_to a y.0 (All-head (λ (e : ℕ × X). a < e.0) y ys all), above_both a [] ys tt (All-tail (λ (e : ℕ × X). a < e.0) y ys all))
   above_both a (x ∷ xs) ys above all = (above.0, above_both a xs ys above.1 all)
 
   -- the second list's keys lie above those of the first
-  pub sorted_both : (n : ℕ) (xs ys : List (ℕ × X)) → All (λ e. e.0 < n) xs → All (λ e. n ≤ e.0) ys → IsStrictlySortedBy nat_cmp (keys_of xs) → IsStrictlySortedBy nat_cmp (keys_of ys) → IsStrictlySortedBy nat_cmp (keys_of (xs ++ ys))
+  pub sorted_both : (n : ℕ) (xs ys : List (ℕ × X)) → All (λ e. e.0 < n) xs → All (λ e. n ≤ e.0) ys → IsStrictlySortedBy nat_cmp (keys_of xs)
+      → IsStrictlySortedBy nat_cmp (keys_of ys) → IsStrictlySortedBy nat_cmp (keys_of (xs ++ ys))
   unfolding IsStrictlySortedBy
   sorted_both n [] ys below above low high = high
   sorted_both n (x ∷ xs) ys below above low high = (
-    above_both x.0 xs ys low.0 (λ k d short. let first = All-head (λ (e : ℕ × X). e.0 < n) x xs below in let later = above k d short in omega (arith, first, later)),
+    above_both x.0 xs ys low.0 (λ k d short. let first = All-head (λ (e : ℕ × X). e.0 < n) x xs below in let later = above k d short in
+        omega (arith, first, later)),
     sorted_both n xs ys (All-tail (λ (e : ℕ × X). e.0 < n) x xs below) above low.1 high,
   )

@@ -32,7 +32,8 @@ removed_few test (e ∷ es) =
     let rest = removed_few test es in
     on_bool (λ b. length (cond b es (e ∷ remove_entry test es)) ≤ length (e ∷ es)) (test e.0) (λ t. omega arith) (λ f. omega (arith, rest))
 
-pub put_few : {K X : Type 0} (R : K → K → Ordering) (es : List (K × X)) (key : K) (value : X) → length (insert_entry R es key value) ≤ length es + 1
+pub put_few : {K X : Type 0} (R : K → K → Ordering) (es : List (K × X)) (key : K) (value : X)
+    → length (insert_entry R es key value) ≤ length es + 1
 put_few R [] key value = omega arith
 put_few R (e ∷ es) key value = by (R key e.0) (put_few R es key value)
   where
@@ -61,7 +62,8 @@ pub filtered_few : {X : Type 0} (test : X → Bool) (xs : List X) → length (fi
 filtered_few test [] = omega arith
 filtered_few test (x ∷ xs) =
     let rest = filtered_few test xs in
-    on_bool (λ b. length (cond b (x ∷ filter test xs) (filter test xs)) ≤ length (x ∷ xs)) (test x) (λ t. omega (arith, rest)) (λ f. omega (arith, rest))
+    on_bool (λ b. length (cond b (x ∷ filter test xs) (filter test xs)) ≤ length (x ∷ xs)) (test x) (λ t. omega (arith, rest))
+    (λ f. omega (arith, rest))
 
 -- some stay in front, and the others follow, changed
 module _ {X : Type 0} (test : X → Bool) (f : X → X) where
@@ -69,7 +71,8 @@ module _ {X : Type 0} (test : X → Bool) (f : X → X) where
   both_parts [] = refl
   both_parts (x ∷ xs) =
       let rest = both_parts xs in
-      on_bool (λ b. length (cond (not b) (x ∷ filter (λ y. not (test y)) xs) (filter (λ y. not (test y)) xs)) + length (map f (cond b (x ∷ filter test xs) (filter test xs))) ≡ length (x ∷ xs)) (test x)
+      on_bool (λ b. length (cond (not b) (x ∷ filter (λ y. not (test y)) xs) (filter (λ y. not (test y)) xs)) + length
+      (map f (cond b (x ∷ filter test xs) (filter test xs))) ≡ length (x ∷ xs)) (test x)
       (λ t. omega (arith, rest)) (λ g. omega (arith, rest))
 
   pub parted_as_many : (xs : List X) → length (filter (λ x. not (test x)) xs ++ map f (filter test xs)) ≡ length xs
@@ -101,7 +104,8 @@ module _ (settings : Settings) (host : Host) (is : IsWithin settings host) where
   still : GoesOn settings host host
   still = record { within = is; used = omega arith }
 
-  begun : (grain : Grain) (previous : Option ActivationId) → is_full_of_activations settings host ≡ false → GoesOn settings host (with_started host grain previous)
+  begun : (grain : Grain) (previous : Option ActivationId) → is_full_of_activations settings host ≡ false
+      → GoesOn settings host (with_started host grain previous)
   begun grain previous room =
       let free = leb-false settings.activations (length host.held) room in
       let more = length-append host.held ((grain, next_held host previous) ∷ []) in
@@ -144,7 +148,11 @@ module _ (settings : Settings) (host : Host) (is : IsWithin settings host) where
       let all = outstanding_few host in
       let few = is.held in
       let few_finds = is.finds in
-      record { within = record { held = omega (arith, held, few); finds = omega (arith, finds, few_finds) }; used = omega (arith, all, few, few_finds) }
+      record {
+        within = record { held = omega (arith, held, few); finds = omega (arith, finds, few_finds) };
+        used = omega
+            (arith, all, few, few_finds);
+      }
 
   renews_about : (grain : Grain) → GoesOn settings host (renewed_about grain host)
   renews_about grain =
@@ -154,7 +162,11 @@ module _ (settings : Settings) (host : Host) (is : IsWithin settings host) where
       let all = outstanding_few host in
       let few = is.held in
       let few_finds = is.finds in
-      record { within = record { held = omega (arith, held, few); finds = omega (arith, finds, few_finds) }; used = omega (arith, about, all, few, few_finds) }
+      record {
+        within = record { held = omega (arith, held, few); finds = omega (arith, finds, few_finds) };
+        used = omega
+            (arith, about, all, few, few_finds);
+      }
 
 -- ---- so it is after each step
 abbrev pub StepGoesOn : Node → Node → Type 0
@@ -200,5 +212,6 @@ module _ (node : Node) (is : IsWithin node.settings node.host) where
     takes_over = λ letter entry body seen may. (refl, begun node.settings node.host is entry.grain (Some entry.activation) may.room);
   }
 
-pub step_goes_on : (node : Node) (input : Input) (stepped : Stepped) → IsWithin node.settings node.host → step node input ≡ Ok stepped → StepGoesOn node stepped.node
+pub step_goes_on : (node : Node) (input : Input) (stepped : Stepped) → IsWithin node.settings node.host → step node input ≡ Ok stepped
+    → StepGoesOn node stepped.node
 step_goes_on node input stepped within is = by_way node (λ its result. StepGoesOn node result.node) (ways node within) input stepped is

@@ -40,7 +40,8 @@ module _ (settings : Settings) (are : AreSettings settings) (world : World) (r :
   reached_silos = subst (λ (w : World). All (λ e. IsSilo e.0) w.nodes) (sym r.is) (silos settings r.events are r.named)
 
   -- one event more
-  pub reached_on : (event : Event) (accepted : Accepted) → IsEvent event → happens world event ≡ Ok accepted → IsReachedBy settings accepted.world
+  pub reached_on : (event : Event) (accepted : Accepted) → IsEvent event → happens world event ≡ Ok accepted
+      → IsReachedBy settings accepted.world
   reached_on event accepted named ok =
       let here : happens (world_by settings r.events) event ≡ Ok accepted = subst (λ w. happens w event ≡ Ok accepted) r.is ok in
       record {
@@ -61,4 +62,5 @@ pub seeable_now : (world : World) (silo : Silo) → IsViews world.views → is_s
 seeable_now world silo whole =
     let made = le-leb world.views.version world.views.version (omega arith) in
     let joined = le-leb (joined_in (membership_of world) silo) world.views.version (joined_by world silo whole) in
-    both_true (nat_le world.views.version world.views.version) (nat_le (joined_in (membership_of world) silo) world.views.version) made joined
+    both_true (nat_le world.views.version world.views.version) (nat_le (joined_in (membership_of world) silo) world.views.version) made
+    joined

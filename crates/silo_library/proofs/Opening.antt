@@ -18,7 +18,8 @@ abbrev pub heap_val : Val
 heap_val = vstruct (vcons (vstruct (vcons vunit vnil)) vnil)
 
 -- what is owned of a result, by its case
-pub by_case : {M : Type 1} {𝓤 : Ura M} {𝓛 : Logic 𝓤} {K : Type 0} {Γ : List (Item 𝓤)} {G : Goal 𝓤 𝓛.H} → K → (X : RattleType) (r : Result X.Denot ℕ) (u : Val)
+pub by_case : {M : Type 1} {𝓤 : Ura M} {𝓛 : Logic 𝓤} {K : Type 0} {Γ : List (Item 𝓤)} {G : Goal 𝓤 𝓛.H} → K
+    → (X : RattleType) (r : Result X.Denot ℕ) (u : Val)
     → ((x : X.Denot) (vs : List Val) → r ≡ Ok x → u ≡ live 0 (of_list (vs ++ [])) → Seq K 𝓛 (‵ (X.own_val x vs) ∷ Γ) G)
     → ((n : ℕ) → n < 2 ^ 32 → r ≡ Err n → u ≡ live 1 (vcons (vint w32 n) vnil) → Seq K 𝓛 Γ G)
     → Seq K 𝓛 (‵ ((result.the_row X u32).own_val r (u ∷ [])) ∷ Γ) G
@@ -28,4 +29,5 @@ by_case t X (Ok x) u ok err =
 by_case {𝓛 = 𝓛} t X (Err n) u ok err =
     fpick t (λ us. fsplit t $ feq_l t (λ eu. fpick t (λ vss. fsplit t $ feq_l t (λ ev. fsplit t $ move t (1 ∷ []) $ drop t $
     peeks t u32 (Is u32) (shows 𝓛 u32) n vss.0 (λ is. drop t $
-    err n is.1 refl (ap only eu ∙ (ap (λ (zs : List Val). live 1 (of_list zs)) ev ∙ ap (λ (zs : List Val). live 1 (of_list (zs ++ []))) is.0)))))))
+    err n is.1 refl (ap only eu ∙ (ap (λ (zs : List Val). live 1 (of_list zs)) ev
+    ∙ ap (λ (zs : List Val). live 1 (of_list (zs ++ []))) is.0)))))))

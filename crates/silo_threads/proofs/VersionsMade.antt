@@ -27,9 +27,12 @@ tells_version world event = by_event world TellsVersion
     })
     event
 
-pub version_left : (world : World) (event : Event) (after : World) (outcome : Outcome) → happens world event ≡ Ok (accepted_as after outcome) → IsVersionOf after (version_made outcome.happening)
-version_left world event after outcome told = subst (λ (happened : Result Accepted ℕ). IfOk happened TellsVersion) told (tells_version world event)
+pub version_left : (world : World) (event : Event) (after : World) (outcome : Outcome)
+    → happens world event ≡ Ok (accepted_as after outcome) → IsVersionOf after (version_made outcome.happening)
+version_left world event after outcome told =
+    subst (λ (happened : Result Accepted ℕ). IfOk happened TellsVersion) told (tells_version world event)
 
-pub up_to : (told : Option ℕ) (version bound : ℕ) → IfSome told (λ made. made ≡ version) → version ≤ bound → IfSome told (λ made. made ≤ bound)
+pub up_to : (told : Option ℕ) (version bound : ℕ) → IfSome told (λ made. made ≡ version) → version ≤ bound
+    → IfSome told (λ made. made ≤ bound)
 up_to None version bound is within = tt
 up_to (Some made) version bound is within = subst (λ (n : ℕ). n ≤ bound) (sym is) within

@@ -15,7 +15,8 @@ returns-in-Some c =
     let shown = c.range.ensures.in_range tt in
     let entry = shown.3 (start, piece) c.next_back.new.self c.in-Some.ensures.steps in
     nearest_before c.args.pieces.now.entries c.requires c.args.hash start piece entry.1 (le_from_not_gt start c.args.hash entry.0.1)
-    (λ other le there. ge_from_not_lt start other (shown.4 (start, piece) c.next_back.new.self c.in-Some.ensures.steps other (tt, upto_nat other c.args.hash le) there))
+    (λ other le there. ge_from_not_lt start other (shown.4 (start, piece) c.next_back.new.self c.in-Some.ensures.steps other
+    (tt, upto_nat other c.args.hash le) there))
 
 pub returns : goal.returns
 returns c =

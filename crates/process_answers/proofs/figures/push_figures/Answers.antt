@@ -6,7 +6,9 @@ pub returns-in_err-push_activations-clause-kept : goal.returns-in_err-push_activ
 returns-in_err-push_activations-clause-kept c = begins_with_the_first _ _ _ c.push_versions.ensures.kept c.push_activations.ensures.kept
 
 pub returns-in_err-push_waiting-clause-kept : goal.returns-in_err-push_waiting-clause-kept
-returns-in_err-push_waiting-clause-kept c = begins_with_the_first _ _ _ (begins_with_the_first _ _ _ c.push_versions.ensures.kept c.push_activations.ensures.kept) c.push_waiting.ensures.kept
+returns-in_err-push_waiting-clause-kept c =
+    begins_with_the_first _ _ _ (begins_with_the_first _ _ _ c.push_versions.ensures.kept c.push_activations.ensures.kept)
+    c.push_waiting.ensures.kept
 
 pub returns-clause-written : goal.returns-clause-written
 returns-clause-written c =
@@ -15,4 +17,6 @@ returns-clause-written c =
     c.in_ok-push_waiting.ensures.written)
 
 pub returns-clause-kept : goal.returns-clause-kept
-returns-clause-kept c = begins_with_the_first _ _ _ (begins_with_the_first _ _ _ c.push_versions.ensures.kept c.push_activations.ensures.kept) c.push_waiting.ensures.kept
+returns-clause-kept c =
+    begins_with_the_first _ _ _ (begins_with_the_first _ _ _ c.push_versions.ensures.kept c.push_activations.ensures.kept)
+    c.push_waiting.ensures.kept

@@ -6,7 +6,9 @@ pub returns-in_err-push_named-2-clause-kept : goal.returns-in_err-push_named-2-c
 returns-in_err-push_named-2-clause-kept c = begins_with_the_first _ _ _ c.push_named.ensures.kept c.push_named-2.ensures.kept
 
 pub returns-in_err-push_named-3-clause-kept : goal.returns-in_err-push_named-3-clause-kept
-returns-in_err-push_named-3-clause-kept c = begins_with_the_first _ _ _ (begins_with_the_first _ _ _ c.push_named.ensures.kept c.push_named-2.ensures.kept) c.push_named-3.ensures.kept
+returns-in_err-push_named-3-clause-kept c =
+    begins_with_the_first _ _ _ (begins_with_the_first _ _ _ c.push_named.ensures.kept c.push_named-2.ensures.kept)
+    c.push_named-3.ensures.kept
 
 pub returns-clause-written : goal.returns-clause-written
 returns-clause-written c =
@@ -15,4 +17,6 @@ returns-clause-written c =
     c.in_ok-push_named-3.ensures.written)
 
 pub returns-clause-kept : goal.returns-clause-kept
-returns-clause-kept c = begins_with_the_first _ _ _ (begins_with_the_first _ _ _ c.push_named.ensures.kept c.push_named-2.ensures.kept) c.push_named-3.ensures.kept
+returns-clause-kept c =
+    begins_with_the_first _ _ _ (begins_with_the_first _ _ _ c.push_named.ensures.kept c.push_named-2.ensures.kept)
+    c.push_named-3.ensures.kept

@@ -32,4 +32,8 @@ returns-in-dump c = row_read other_commands c.args.name.now (codes "dump") _ _ _
 
 -- a `grind arith` for each row of `other_commands`: the name differs from it
 pub returns-in_default : goal.returns-in_default
-returns-in_default c = no_row other_commands c.args.name.now _ (grind arith, (grind arith, (grind arith, (grind arith, (grind arith, (grind arith, (grind arith, (grind arith, (grind arith, tt)))))))))
+returns-in_default c =
+    no_row other_commands c.args.name.now _ (
+      grind arith,
+      (grind arith, (grind arith, (grind arith, (grind arith, (grind arith, (grind arith, (grind arith, (grind arith, tt)))))))),
+    )

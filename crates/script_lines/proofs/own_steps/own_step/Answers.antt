@@ -26,4 +26,8 @@ returns-in-offer c = row_read own_steps c.args.name.now (codes "offer") _ _ _ (o
 
 -- a `grind arith` for each row of `own_steps`: the name differs from it
 pub returns-in_default : goal.returns-in_default
-returns-in_default c = no_row own_steps c.args.name.now _ (grind arith, (grind arith, (grind arith, (grind arith, (grind arith, (grind arith, (grind arith, tt)))))))
+returns-in_default c =
+    no_row own_steps c.args.name.now _ (
+      grind arith,
+      (grind arith, (grind arith, (grind arith, (grind arith, (grind arith, (grind arith, tt)))))),
+    )

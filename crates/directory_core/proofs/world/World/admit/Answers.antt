@@ -16,12 +16,14 @@ put_in-requires c = record {
 pub invariant_of-self-2 : goal.invariant_of-self-2
 invariant_of-self-2 c = record {
   world = kept_made c.args.self.now _ (Join c.args.silo c.args.given.now) c.requires.leaves
-      (joined_so (world_of c.self.inside) c.args.self.now c.self.view_is c.args.silo c.args.given.now c.put_in.new.membership c.put_in.new.nodes.entries
+      (joined_so (world_of c.self.inside) c.args.self.now c.self.view_is c.args.silo c.args.given.now c.put_in.new.membership
+      c.put_in.new.nodes.entries
       c.in_ok-replaced.ensures.made c.in_ok-replaced.ensures.nodes);
   shared = tt;
 }
 
 pub returns-clause-made : goal.returns-clause-made
 returns-clause-made c =
-    joined_so (world_of c.self.inside) c.args.self.now c.self.view_is c.args.silo c.args.given.now c.put_in.new.membership c.put_in.new.nodes.entries
+    joined_so (world_of c.self.inside) c.args.self.now c.self.view_is c.args.silo c.args.given.now c.put_in.new.membership
+    c.put_in.new.nodes.entries
     c.in_ok-replaced.ensures.made c.in_ok-replaced.ensures.nodes

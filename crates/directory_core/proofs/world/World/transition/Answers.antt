@@ -7,5 +7,7 @@ use Rattle.directory_core.proofs.world.World.transition.Goals as goal
 
 pub transition-requires-clause-placed : goal.transition-requires-clause-placed
 transition-requires-clause-placed c =
-    subst (λ (p : PlacesValue). ArePlaced c.args.node.now c.args.before.now c.args.view.now p) (sym (c.places.ensures ∙ ap (λ (w : World). w.places) c.self.view_is))
-    (placed_sight c.args.self.now c.args.view.now.version c.args.node.now c.args.before.now c.args.view.now c.whole.ensures c.requires.sees.ring_is c.requires.before c.requires.view)
+    subst (λ (p : PlacesValue). ArePlaced c.args.node.now c.args.before.now c.args.view.now p)
+    (sym (c.places.ensures ∙ ap (λ (w : World). w.places) c.self.view_is))
+    (placed_sight c.args.self.now c.args.view.now.version c.args.node.now c.args.before.now c.args.view.now c.whole.ensures
+    c.requires.sees.ring_is c.requires.before c.requires.view)

@@ -11,5 +11,6 @@ invariant_of-self c = record {
   recovers = c.self.invariant.recovers;
   rising = c.self.invariant.rising;
   shelved = subst (λ (l : List Snapshot). All (λ s. s.version ≤ c.self.inside.view.version) l) (sym c.done.ensures.deleted)
-      (all_kept (λ (s : Snapshot). s.version ≤ c.self.inside.view.version) (λ s. not (is_snapshot c.args.version c.args.range c.args.to.now s)) c.self.inside.shelf c.self.invariant.shelved);
+      (all_kept (λ (s : Snapshot). s.version ≤ c.self.inside.view.version)
+      (λ s. not (is_snapshot c.args.version c.args.range c.args.to.now s)) c.self.inside.shelf c.self.invariant.shelved);
 }

@@ -18,7 +18,8 @@ gather_among-requires c =
     let goes = subst (λ (n : Node). GoesOn n page) (sym c.self.view_is) c.requires.goes_on in
     record {
       more =
-          ap (λ (v : ℕ). progress_of (gathered (unwrap_or (lookup (is_at (nat_cmp page.range.start)) c.self.inside.gatherings.entries) (new_gathering v page.range)) page)) c.version-version.ensures
+          ap (λ (v : ℕ). progress_of (gathered (unwrap_or (lookup (is_at (nat_cmp page.range.start)) c.self.inside.gatherings.entries)
+          (new_gathering v page.range)) page)) c.version-version.ensures
           ∙ goes.more;
     }
 
@@ -29,7 +30,8 @@ invariant_of-self-2 c =
     let old = c.self.inside.gatherings.entries in
     let goes = subst (λ (n : Node). GoesOn n page) (sym c.self.view_is) c.requires.goes_on in
     let put = c.in_ok-gather_among.ensures.made
-    ∙ ap (λ (v : ℕ). insert_entry nat_cmp old page.range.start (with_page (unwrap_or (lookup (is_at (nat_cmp page.range.start)) old) (new_gathering v page.range)) page)) c.version-version.ensures in
+    ∙ ap (λ (v : ℕ). insert_entry nat_cmp old page.range.start
+    (with_page (unwrap_or (lookup (is_at (nat_cmp page.range.start)) old) (new_gathering v page.range)) page)) c.version-version.ensures in
     record {
       cached = c.self.invariant.cached;
       recovers = c.self.invariant.recovers;

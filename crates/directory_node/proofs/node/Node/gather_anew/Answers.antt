@@ -11,6 +11,7 @@ invariant_of-self-2 c = record {
   cached = c.self.invariant.cached;
   recovers = c.self.invariant.recovers;
   rising = subst (λ l. All (λ e. rise_by_grain e.1.entries ≡ true) l) (sym c.in_ok-gather_anew_among.ensures.made)
-      (all_put (λ (g : Gathering). rise_by_grain g.entries ≡ true) c.args.range.start _ c.self.inside.gatherings.entries refl c.self.invariant.rising);
+      (all_put (λ (g : Gathering). rise_by_grain g.entries ≡ true) c.args.range.start _ c.self.inside.gatherings.entries refl
+      c.self.invariant.rising);
   shelved = c.self.invariant.shelved;
 }

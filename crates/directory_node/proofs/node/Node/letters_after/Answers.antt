@@ -19,6 +19,7 @@ returns c =
     let its = ap seeing c.ring.ensures ∙ ap (λ (n : Node). bare (ahead sight n)) c.self.view_is in
     IfOk-weaker c.sight_letters.result _ _
     (λ letters sent. sent
-    ∙ (λ i. wants_of (its i) pieces ++ flat_map (λ e. request_letters (its i) e.0 e.1) ((c.deref.ensures.value ∙ c.in_ok-requests.ensures) i))
+    ∙ (λ i. wants_of (its i) pieces ++ flat_map (λ e. request_letters (its i) e.0 e.1)
+    ((c.deref.ensures.value ∙ c.in_ok-requests.ensures) i))
     ∙ (λ i. bare_wants (ahead sight node) pieces i ++ bare_requests (ahead sight node) (outstanding (renewed node.host)) i))
     c.sight_letters.ensures

@@ -36,8 +36,10 @@ returns-clause-fits c =
 
 pub returns-clause-one : goal.returns-clause-one
 returns-clause-one c =
-    ap (λ o. length (gathered_by o c.args.letter.now c.args.page.now.range c.args.self.now).letters) (has_all c.args.gathering.now c.args.page.now c.requires.complete)
+    ap (λ o. length (gathered_by o c.args.letter.now c.args.page.now.range c.args.self.now).letters)
+    (has_all c.args.gathering.now c.args.page.now c.requires.complete)
 
 pub returns-in_err-entries-clause-one : goal.returns-in_err-entries-clause-one
 returns-in_err-entries-clause-one c =
-    ap (λ o. length (gathered_by o c.args.letter.now c.args.page.now.range c.args.self.now).letters) (has_all c.args.gathering.now c.args.page.now c.requires.complete)
+    ap (λ o. length (gathered_by o c.args.letter.now c.args.page.now.range c.args.self.now).letters)
+    (has_all c.args.gathering.now c.args.page.now c.requires.complete)

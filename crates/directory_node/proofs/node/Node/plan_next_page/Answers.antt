@@ -88,8 +88,14 @@ returns-in-Err-WrongDigest-clause-planned c =
     let page = c.args.page.now in
     let letter = c.args.letter.now in
     let wrong : progress_of (gathered c.args.gathering.now page) ≡ Err 701 =
-    subst (λ (fault : GatheringError). IsRefused (progress_of (gathered c.args.gathering.now page)) fault) c.in-Err-WrongDigest.field-0-is c.in-Err-WrongDigest.ensures.refused in
+    subst (λ (fault : GatheringError). IsRefused (progress_of (gathered c.args.gathering.now page)) fault) c.in-Err-WrongDigest.field-0-is
+    c.in-Err-WrongDigest.ensures.refused in
     c.silent.ensures.planned node
-    ∙ ap (λ (r : Range). record { node = with_gathering node (new_gathering (gathering_of node r).version r); letters = []; effect = Refused 701 }) c.range.ensures
+    ∙ ap (λ (r : Range). record {
+      node = with_gathering node (new_gathering (gathering_of node r).version r);
+      letters = [];
+      effect = Refused
+          701;
+    }) c.range.ensures
     ∙ anew_planned node page letter (ap (λ (g : Gathering). progress_of (gathered g page)) (sym c.requires.its) ∙ wrong)
     ∙ sym (paged_is node letter page (sym c.is_page_awaited.ensures ∙ c.if-not-is_page_awaited.false))

@@ -9,5 +9,6 @@ renew_about-requires c =
     let inside = c.self.inside in
     record {
       numbers = numbers_fit inside.settings inside.host (length (requests_about c.args.grain.now inside.host)) c.in_range.ensures
-          (ap (λ (n : Node). has_numbers n.settings n.host (length (requests_about c.args.grain.now n.host))) c.self.view_is ∙ c.requires.numbers);
+          (ap (λ (n : Node). has_numbers n.settings n.host (length (requests_about c.args.grain.now n.host))) c.self.view_is
+          ∙ c.requires.numbers);
     }

@@ -9,4 +9,6 @@ pub renewed_requests-requires : goal.renewed_requests-requires
 renewed_requests-requires c = c.requires ∙ ap (λ (n : Node). renewal_of n.host) (sym c.self.view_is)
 
 pub returns : goal.returns
-returns c = subst (λ (h : Host). IfOk c.renewed_requests.result (λ requests. requests.items ≡ outstanding (renewed h))) (ap (λ (n : Node). n.host) c.self.view_is) c.renewed_requests.ensures
+returns c =
+    subst (λ (h : Host). IfOk c.renewed_requests.result (λ requests. requests.items ≡ outstanding (renewed h)))
+    (ap (λ (n : Node). n.host) c.self.view_is) c.renewed_requests.ensures

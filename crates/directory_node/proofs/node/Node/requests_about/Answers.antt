@@ -13,4 +13,6 @@ renewed_requests_about-requires c =
 
 pub returns : goal.returns
 returns c =
-    subst (λ (h : Host). IfOk c.renewed_requests_about.result (λ requests. requests.items ≡ requests_about c.args.grain.now (renewed_about c.args.grain.now h))) (ap (λ (n : Node). n.host) c.self.view_is) c.renewed_requests_about.ensures
+    subst (λ (h : Host). IfOk c.renewed_requests_about.result
+    (λ requests. requests.items ≡ requests_about c.args.grain.now (renewed_about c.args.grain.now h)))
+    (ap (λ (n : Node). n.host) c.self.view_is) c.renewed_requests_about.ensures

@@ -23,7 +23,11 @@ invariant_of-self c =
     record {
       cached = c.self.invariant.cached;
       recovers = subst (λ l. HaveRecoveries l c.remove-2.new.self.entries) (sym is)
-          (subst (λ l. HaveRecoveries pieces l) (ap (λ (s : ℕ). remove_entry (is_at (nat_cmp s)) inside.recoveries.entries) (sym c.start-2.ensures) ∙ sym c.remove-2.ensures.entries) kept);
-      rising = subst (λ l. All (λ e. rise_by_grain e.1.entries ≡ true) l) (sym c.remove.ensures.entries) (all_but_one (λ (e : ℕ × Gathering). rise_by_grain e.1.entries ≡ true) (is_at (nat_cmp c.start.result)) inside.gatherings.entries c.self.invariant.rising);
+          (subst (λ l. HaveRecoveries pieces l) (ap (λ (s : ℕ). remove_entry (is_at (nat_cmp s)) inside.recoveries.entries)
+          (sym c.start-2.ensures) ∙ sym c.remove-2.ensures.entries) kept);
+      rising =
+          subst (λ l. All (λ e. rise_by_grain e.1.entries ≡ true) l) (sym c.remove.ensures.entries)
+          (all_but_one (λ (e : ℕ × Gathering). rise_by_grain e.1.entries ≡ true) (is_at (nat_cmp c.start.result))
+          inside.gatherings.entries c.self.invariant.rising);
       shelved = c.self.invariant.shelved;
     }

@@ -23,7 +23,11 @@ invariant_of-self c =
     record {
       cached = c.self.invariant.cached;
       shelved = c.self.invariant.shelved;
-      rising = subst (λ l. All (λ e. rise_by_grain e.1.entries ≡ true) l) (sym c.remove-in-Some.ensures.entries) (all_but_one (λ (e : ℕ × Gathering). rise_by_grain e.1.entries ≡ true) (is_at (nat_cmp c.start-in-Some.result)) inside.gatherings.entries c.self.invariant.rising);
+      rising =
+          subst (λ l. All (λ e. rise_by_grain e.1.entries ≡ true) l) (sym c.remove-in-Some.ensures.entries)
+          (all_but_one (λ (e : ℕ × Gathering). rise_by_grain e.1.entries ≡ true) (is_at (nat_cmp c.start-in-Some.result))
+          inside.gatherings.entries c.self.invariant.rising);
       recovers = subst (λ l. HaveRecoveries l c.remove.new.self.entries) (sym is)
-          (subst (λ l. HaveRecoveries pieces l) (ap (λ (s : ℕ). remove_entry (is_at (nat_cmp s)) inside.recoveries.entries) (sym c.start.ensures) ∙ sym c.remove.ensures.entries) kept);
+          (subst (λ l. HaveRecoveries pieces l) (ap (λ (s : ℕ). remove_entry (is_at (nat_cmp s)) inside.recoveries.entries)
+          (sym c.start.ensures) ∙ sym c.remove.ensures.entries) kept);
     }

@@ -9,7 +9,8 @@ use Rattle.grain_partition.proofs.holdings.Holding.unsettled_count.Goals as goal
 by_values : (test : Piece → Bool) (es : List (ℕ × Piece)) → count_by test (values_of es) ≡ count_by (λ e. test e.1) es
 by_values test [] = refl
 by_values test (e ∷ es) =
-    let here = sum_by-cons (λ x. cond (test x) 1 0) e.1 (values_of es) in let there = sum_by-cons (λ (x : ℕ × Piece). cond (test x.1) 1 0) e es in
+    let here = sum_by-cons (λ x. cond (test x) 1 0) e.1 (values_of es) in
+    let there = sum_by-cons (λ (x : ℕ × Piece). cond (test x.1) 1 0) e es in
     let later = by_values test es in omega (here, there, later, arith)
 
 pub returns : goal.returns

@@ -14,5 +14,6 @@ returns c =
     ∙ ap (λ (entries : Table). record { range = c.args.range; state = Settled; entries = entries })
     (ap (λ (v : TableValue). v.entries) c.remove_dead.ensures
     ∙ ap (λ (v : TableValue). filter (λ e. not (is_dead_in c.args.view.now e.1.activation.silo)) v.entries) c.keep_within.ensures
-    ∙ kept_in_steps c.args.hashing c.args.view.now c.args.range (record { range = c.self.inside.range; state = c.self.inside.state; entries = c.self.inside.entries.entries }) c.made_again.ensures
+    ∙ kept_in_steps c.args.hashing c.args.view.now c.args.range
+    (record { range = c.self.inside.range; state = c.self.inside.state; entries = c.self.inside.entries.entries }) c.made_again.ensures
     ∙ ap (λ (piece : Piece). kept_entries c.args.hashing c.args.view.now ((0, piece) ∷ []) c.args.range) c.self.view_is)

@@ -6,4 +6,6 @@ use Rattle.host_activations.proofs.PhaseCounts.{asking_is}
 use Rattle.host_activations.proofs.activations.Activations.asking_count.Goals as goal
 
 pub returns : goal.returns
-returns c = asking_is c.self.inside.under_way c.self.inside.map c.self.invariant.under_way ∙ ap (λ (v : ActivationsValue). in_phase is_asking v.entries) c.self.view_is
+returns c =
+    asking_is c.self.inside.under_way c.self.inside.map c.self.invariant.under_way
+    ∙ ap (λ (v : ActivationsValue). in_phase is_asking v.entries) c.self.view_is

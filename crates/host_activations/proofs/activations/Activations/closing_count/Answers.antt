@@ -6,4 +6,6 @@ use Rattle.host_activations.proofs.PhaseCounts.{closing_is}
 use Rattle.host_activations.proofs.activations.Activations.closing_count.Goals as goal
 
 pub returns : goal.returns
-returns c = closing_is c.self.inside.under_way c.self.inside.map c.self.invariant.under_way ∙ ap (λ (v : ActivationsValue). in_phase is_closing v.entries) c.self.view_is
+returns c =
+    closing_is c.self.inside.under_way c.self.inside.map c.self.invariant.under_way
+    ∙ ap (λ (v : ActivationsValue). in_phase is_closing v.entries) c.self.view_is

@@ -6,4 +6,5 @@ use Rattle.host_activations.proofs.host.Host.firm_entries.Goals as goal
 
 pub returns : goal.returns
 returns c =
-    subst (λ l. IfOk c.firm_entries.result (λ entries. entries.items ≡ l)) (ap (λ (h : Host). firm_entries c.args.hashing h c.args.range.now) c.self.view_is) c.firm_entries.ensures
+    subst (λ l. IfOk c.firm_entries.result (λ entries. entries.items ≡ l))
+    (ap (λ (h : Host). firm_entries c.args.hashing h c.args.range.now) c.self.view_is) c.firm_entries.ensures

@@ -7,5 +7,6 @@ use Rattle.host_activations.proofs.host.Host.is_finding.Goals as goal
 pub returns : goal.returns
 returns c =
     c.is_some.ensures
-    ∙ ap is_some (c.find_under.ensures ∙ sym (find_under c.self.inside.outstanding.entries c.self.invariant.are_held.in_order c.args.number))
+    ∙ ap is_some (c.find_under.ensures ∙ sym (find_under c.self.inside.outstanding.entries c.self.invariant.are_held.in_order
+    c.args.number))
     ∙ ap (λ (h : Host). is_finding h c.args.number) c.self.view_is

@@ -6,8 +6,10 @@ use Rattle.host_activations.proofs.host.Host.renewal.Goals as goal
 
 pub renumbered-requires : goal.renumbered-requires
 renumbered-requires c =
-    subst (λ l. c.self.inside.next_number + length l ≤ 2 ^ 60 + 1) (sym c.by_number.ensures) (enough c.self.inside c.self.invariant c.args.self.now c.self.view_is c.requires)
+    subst (λ l. c.self.inside.next_number + length l ≤ 2 ^ 60 + 1) (sym c.by_number.ensures)
+    (enough c.self.inside c.self.invariant c.args.self.now c.self.view_is c.requires)
 
 pub returns : goal.returns
 returns c =
-    c.in_ok-numbered.ensures ∙ ap (λ l. enumerate_from c.self.inside.next_number (values_of l)) c.by_number.ensures ∙ sym (renewal_is c.self.inside c.self.invariant c.args.self.now c.self.view_is)
+    c.in_ok-numbered.ensures ∙ ap (λ l. enumerate_from c.self.inside.next_number (values_of l)) c.by_number.ensures
+    ∙ sym (renewal_is c.self.inside c.self.invariant c.args.self.now c.self.view_is)

@@ -16,7 +16,8 @@ finds_under-requires c =
     c.range.ensures.between tt
     ∙ (λ i. entries_between find_key_cmp (Included (c.first_of.ensures i)) (Included (c.last_of.ensures i)) c.self.inside.finds.entries)
     ∙ between_are c.self.inside.by_number.entries c.self.inside.finds.entries c.self.invariant c.args.grain.now in
-    subst (λ l. IsStrictlySortedBy nat_cmp (map (λ x. x.0.number) l)) (sym is) (finds_rise c.self.inside.by_number.entries c.self.inside.finds.entries c.self.invariant c.args.grain.now)
+    subst (λ l. IsStrictlySortedBy nat_cmp (map (λ x. x.0.number) l)) (sym is)
+    (finds_rise c.self.inside.by_number.entries c.self.inside.finds.entries c.self.invariant c.args.grain.now)
 
 pub returns-in-Some : goal.returns-in-Some
 returns-in-Some c =
@@ -26,9 +27,11 @@ returns-in-Some c =
     ∙ between_are c.self.inside.by_number.entries c.self.inside.finds.entries c.self.invariant c.args.grain.now in
     IfOk-weaker c.with_activation.result _ _
     (λ about told. told
-    ∙ ap (λ l. insert_entry nat_cmp l c.in-Some.number (Activation c.args.grain.now)) (c.in_ok-finds.ensures ∙ ap (λ l. map (λ x. (x.0.number, Find c.args.grain.now)) l) is)
+    ∙ ap (λ l. insert_entry nat_cmp l c.in-Some.number (Activation c.args.grain.now))
+    (c.in_ok-finds.ensures ∙ ap (λ l. map (λ x. (x.0.number, Find c.args.grain.now)) l) is)
     ∙ ap (λ o. with_own o c.args.grain.now (told_finds c.args.grain.now c.self.inside.finds.entries)) (sym c.in-Some.is)
-    ∙ about_are c.self.inside.by_number.entries c.self.inside.finds.entries c.self.invariant c.args.grain.now c.args.own (subst (λ (v : OutstandingValue). IsOwn c.args.own c.args.grain.now v.entries) (sym c.self.view_is) c.requires)
+    ∙ about_are c.self.inside.by_number.entries c.self.inside.finds.entries c.self.invariant c.args.grain.now c.args.own
+    (subst (λ (v : OutstandingValue). IsOwn c.args.own c.args.grain.now v.entries) (sym c.self.view_is) c.requires)
     ∙ ap (λ (v : OutstandingValue). about_grain c.args.grain.now v.entries) c.self.view_is)
     c.with_activation.ensures
 
@@ -41,5 +44,6 @@ returns-in-None c =
     c.in_ok-finds.ensures
     ∙ ap (λ l. map (λ x. (x.0.number, Find c.args.grain.now)) l) is
     ∙ ap (λ o. with_own o c.args.grain.now (told_finds c.args.grain.now c.self.inside.finds.entries)) (sym c.in-None.is)
-    ∙ about_are c.self.inside.by_number.entries c.self.inside.finds.entries c.self.invariant c.args.grain.now c.args.own (subst (λ (v : OutstandingValue). IsOwn c.args.own c.args.grain.now v.entries) (sym c.self.view_is) c.requires)
+    ∙ about_are c.self.inside.by_number.entries c.self.inside.finds.entries c.self.invariant c.args.grain.now c.args.own
+    (subst (λ (v : OutstandingValue). IsOwn c.args.own c.args.grain.now v.entries) (sym c.self.view_is) c.requires)
     ∙ ap (λ (v : OutstandingValue). about_grain c.args.grain.now v.entries) c.self.view_is

@@ -14,7 +14,8 @@ returns-in-Some c =
     ∙ between_are c.self.inside.by_number.entries c.self.inside.finds.entries c.self.invariant c.args.grain.now in
     ap (λ n. n + 1) (c.count_of-finds.ensures ∙ ap (λ (l : Keys). length l) is)
     ∙ ap (λ o. length (finds_of c.args.grain.now c.self.inside.finds.entries) + count_own o) (sym c.in-Some.is)
-    ∙ about_count c.self.inside.by_number.entries c.self.inside.finds.entries c.self.invariant c.args.grain.now c.args.own (subst (λ (v : OutstandingValue). IsOwn c.args.own c.args.grain.now v.entries) (sym c.self.view_is) c.requires)
+    ∙ about_count c.self.inside.by_number.entries c.self.inside.finds.entries c.self.invariant c.args.grain.now c.args.own
+    (subst (λ (v : OutstandingValue). IsOwn c.args.own c.args.grain.now v.entries) (sym c.self.view_is) c.requires)
     ∙ ap (λ (v : OutstandingValue). length (about_grain c.args.grain.now v.entries)) c.self.view_is
 
 pub returns-in-None : goal.returns-in-None
@@ -27,5 +28,6 @@ returns-in-None c =
     ∙ ap (λ (l : Keys). length l) is
     ∙ sym (add-zero (length (finds_of c.args.grain.now c.self.inside.finds.entries)))
     ∙ ap (λ o. length (finds_of c.args.grain.now c.self.inside.finds.entries) + count_own o) (sym c.in-None.is)
-    ∙ about_count c.self.inside.by_number.entries c.self.inside.finds.entries c.self.invariant c.args.grain.now c.args.own (subst (λ (v : OutstandingValue). IsOwn c.args.own c.args.grain.now v.entries) (sym c.self.view_is) c.requires)
+    ∙ about_count c.self.inside.by_number.entries c.self.inside.finds.entries c.self.invariant c.args.grain.now c.args.own
+    (subst (λ (v : OutstandingValue). IsOwn c.args.own c.args.grain.now v.entries) (sym c.self.view_is) c.requires)
     ∙ ap (λ (v : OutstandingValue). length (about_grain c.args.grain.now v.entries)) c.self.view_is

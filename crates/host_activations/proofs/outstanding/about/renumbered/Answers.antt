@@ -12,10 +12,12 @@ pub loop-asked-preserved : goal.loop-asked-preserved
 loop-asked-preserved c =
     let taken : c.loop-asked.asked-iterator ≡ c.in-Some.asked.now ∷ c.next.new.self = c.in-Some.ensures.steps in
     let last : c.insert.new.self.entries ≡ c.loop-asked.renewed.entries ++ (c.loop-asked.number, c.in-Some.asked.now) ∷ [] =
-    c.in_ok-insert.ensures.entries ∙ put_last c.loop-asked.renewed.entries c.loop-asked.number c.in-Some.asked.now c.loop-asked.invariant.below in
+    c.in_ok-insert.ensures.entries ∙ put_last c.loop-asked.renewed.entries c.loop-asked.number c.in-Some.asked.now
+    c.loop-asked.invariant.below in
     record {
       so_far = ap (λ l. l ++ enumerate_from (c.loop-asked.number + 1) c.next.new.self) last
-          ∙ append_assoc c.loop-asked.renewed.entries ((c.loop-asked.number, c.in-Some.asked.now) ∷ []) (enumerate_from (c.loop-asked.number + 1) c.next.new.self)
+          ∙ append_assoc c.loop-asked.renewed.entries ((c.loop-asked.number, c.in-Some.asked.now) ∷ [])
+          (enumerate_from (c.loop-asked.number + 1) c.next.new.self)
           ∙ ap (λ l. c.loop-asked.renewed.entries ++ enumerate_from c.loop-asked.number l) (sym taken) ∙ c.loop-asked.invariant.so_far;
       below = subst (λ l. AllByRecursion (λ k. k < c.loop-asked.number + 1) (keys_of l)) (sym last)
           (below_last c.loop-asked.renewed.entries c.loop-asked.number c.in-Some.asked.now c.loop-asked.invariant.below);

@@ -6,4 +6,5 @@ use Rattle.node_plans.proofs.senders.Sender.letters_of.Goals as goal
 
 pub returns : goal.returns
 returns c =
-    c.in_ok-send_requests.ensures ∙ ap (λ l. l ++ flat_map (λ e. request_letters (sending c.args.self.now) e.0 e.1) c.args.requests.now) c.new-letters.ensures.items
+    c.in_ok-send_requests.ensures ∙ ap (λ l. l ++ flat_map (λ e. request_letters (sending c.args.self.now) e.0 e.1) c.args.requests.now)
+    c.new-letters.ensures.items

@@ -7,4 +7,6 @@ use Rattle.node_plans.proofs.senders.Sender.send_queries.Given as goal
 
 -- so many queries were sent
 abbrev pub invariant-loop-silo : goal.invariant-loop-silo
-invariant-loop-silo l = l.letters.items ≡ l.fn.letters.items ++ map (λ silo. letter_to silo (sending l.self) (Query_letter l.range)) (take l.silo-index l.silo-items)
+invariant-loop-silo l =
+    l.letters.items ≡ l.fn.letters.items ++ map (λ silo. letter_to silo (sending l.self) (Query_letter l.range))
+    (take l.silo-index l.silo-items)

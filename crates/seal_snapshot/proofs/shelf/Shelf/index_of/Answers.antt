@@ -15,5 +15,7 @@ returns-then-not-is_for-clause-absent c =
     let here : c.index.result.now ≡ get_or c.args.self.now c.first_from-index.result c.index.result.now =
     c.index.ensures ∙ ap (λ (l : List Snapshot). get_or l c.first_from-index.result c.index.result.now) c.self.view_is in
     let fails : is_snapshot c.args.version c.args.range.now c.args.asker.now c.index.result.now ≡ false = sym c.is_for.ensures ∙ c.if-not-is_for.true in
-    nobody_there c.args.version c.args.range.now c.args.asker.now c.args.self.now c.first_from-index.result (subst AreInOrder c.self.view_is c.self.invariant) at
-    (λ d within. ap (is_snapshot c.args.version c.args.range.now c.args.asker.now) (get_or_default c.args.self.now c.first_from-index.result d c.index.result.now within ∙ sym here) ∙ fails)
+    nobody_there c.args.version c.args.range.now c.args.asker.now c.args.self.now c.first_from-index.result
+    (subst AreInOrder c.self.view_is c.self.invariant) at
+    (λ d within. ap (is_snapshot c.args.version c.args.range.now c.args.asker.now)
+    (get_or_default c.args.self.now c.first_from-index.result d c.index.result.now within ∙ sym here) ∙ fails)
