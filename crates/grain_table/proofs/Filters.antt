@@ -45,7 +45,7 @@ module _ {K X : Type 0} (p : K × X → Bool) where
       by true rest = (all.0, rest)
       by false rest = rest
 
-  sorted_passed : (R : K → K → Ordering) (es : List (K × X)) → IsStrictlySortedBy R (keys_of es) → IsStrictlySortedBy R (keys_of (filter p es))
+  pub sorted_passed : (R : K → K → Ordering) (es : List (K × X)) → IsStrictlySortedBy R (keys_of es) → IsStrictlySortedBy R (keys_of (filter p es))
   unfolding IsStrictlySortedBy
   sorted_passed R [] s = tt
   sorted_passed R (e ∷ es) s = by (p e) (sorted_passed R es s.1)
