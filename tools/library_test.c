@@ -49,6 +49,11 @@ static uint32_t open_silo(const char *address, uint32_t hashing, size_t points, 
     return grain_directory_open((const unsigned char *)address, strlen(address), hashing, points, cache, silo);
 }
 
+static uint32_t open_with(const char *token, const char *address, uint32_t hashing, grain_directory **silo) {
+    return grain_directory_open_with_token((const unsigned char *)address, strlen(address), (const unsigned char *)token, strlen(token),
+                                           hashing, 1, 16, silo);
+}
+
 /* A line and its answer: whether both are as they should be. */
 static int answers(grain_directory *silo, const char *line, size_t length, uint32_t status, const char *lines) {
     grain_directory_text answer = {NULL, 0};
@@ -78,6 +83,34 @@ static void opening(void) {
     is(open_silo(first, 0, 1, 0, &silo) == GRAIN_DIRECTORY_OK, "the least settings");
     grain_directory_close(silo);
     is(blocks == 0, "all is freed after opening");
+}
+
+/* ---- A silo whose process was started with a token: what opens it, and by which line it joins. */
+static void with_a_token(void) {
+    static const char longest[] = "0123456789abcdef0123456789abcdef0123456789abcdef0123456789abcde~";
+    grain_directory *none = NULL, *silo = NULL;
+    is(open_with("", "10.0.0.1", 7, &none) == GRAIN_DIRECTORY_NOT_A_TOKEN, "a token without a byte");
+    is(open_with("a b", first, 0, &none) == GRAIN_DIRECTORY_NOT_A_TOKEN, "a token with a space");
+    is(open_with("a\177", first, 0, &none) == GRAIN_DIRECTORY_NOT_A_TOKEN, "a token with a control");
+    is(grain_directory_open_with_token((const unsigned char *)first, strlen(first), (const unsigned char *)longest, sizeof longest,
+                                       0, 1, 16, &none) == GRAIN_DIRECTORY_NOT_A_TOKEN, "a token with a zero, and too long");
+    is(open_with(longest, "10.0.0.1", 7, &none) == GRAIN_DIRECTORY_NOT_A_SILO, "a token, and no silo");
+    is(open_with(longest, first, 2, &none) == GRAIN_DIRECTORY_NO_SUCH_HASHING, "a token, and a third way of hashing");
+    is(none == NULL, "a refusal with a token leaves the handle");
+    is(open_with(longest, first, 0, &silo) == GRAIN_DIRECTORY_OK, "the longest token");
+    grain_directory_close(silo);
+    is(open_with("a=b", first, 0, &silo) == GRAIN_DIRECTORY_OK, "a token");
+    is(says(silo, "joined 1 10.0.0.1:1000@1", "refused 208\n"), "a join without the token");
+    is(says(silo, "joined 1 10.0.0.1:1000@1 token=a", "refused 208\n"), "a join with another one");
+    is(says(silo, "joined 1 10.0.0.1:1000@1 token=a=b=", "refused 208\n"), "a join with more");
+    is(says(silo, "joined 1 10.0.0.2:1000@1 token=c", "view 1 joined 10.0.0.2:1000@1\n"), "another silo's join");
+    is(says(silo, "joined 2 10.0.0.1:1000@1 token=a=b", "view 2 joined 10.0.0.1:1000@1\n"), "the join with the token");
+    is(says(silo, "joined 2 10.0.0.1:1000@1", "refused 208\n"), "and told again without it");
+    grain_directory_close(silo);
+    is(open_silo(first, 0, 1, 16, &silo) == GRAIN_DIRECTORY_OK, "a silo without a token");
+    is(says(silo, "joined 1 10.0.0.1:1000@1 token=c", "view 1 joined 10.0.0.1:1000@1\n"), "takes any join");
+    grain_directory_close(silo);
+    is(blocks == 0, "all is freed after tokens");
 }
 
 /* ---- Lines of every length, and bytes that none has. */
@@ -199,6 +232,7 @@ static void threads(size_t stack) {
 
 int main(int count, char **words) {
     opening();
+    with_a_token();
     lines();
     without_memory();
     threads(count > 1 ? strtoul(words[1], NULL, 10) : 262144);

@@ -15,7 +15,7 @@
 extern "C" {
 #endif
 
-/* A silo that is open. Its memory is the library's, from grain_directory_open to grain_directory_close. */
+/* A silo that is open. Its memory is the library's, from its opening to grain_directory_close. */
 typedef struct grain_directory grain_directory;
 
 /* Bytes that somebody else owns. No zero ends them. */
@@ -32,7 +32,8 @@ enum {
     GRAIN_DIRECTORY_OUT_OF_MEMORY = 3,   /* no silo is open; or the line isn't answered, nor is any other: close it */
     GRAIN_DIRECTORY_NOT_A_SILO = 4,      /* the address isn't that of a silo */
     GRAIN_DIRECTORY_NO_SUCH_HASHING = 5, /* there is no such way of hashing */
-    GRAIN_DIRECTORY_OUT_OF_RANGE = 6     /* too few points, too many, or too many hints */
+    GRAIN_DIRECTORY_OUT_OF_RANGE = 6,    /* too few points, too many, or too many hints */
+    GRAIN_DIRECTORY_NOT_A_TOKEN = 7      /* the token has no byte, more than 64, or one outside 33 to 126 */
 };
 
 /* The ways of hashing: docs/RULES.md, "Hashes". All silos of a directory have one, and as many points and hints. */
@@ -55,6 +56,14 @@ enum {
 uint32_t grain_directory_open(const unsigned char *address, size_t address_length, uint32_t hashing, size_t points, size_t cache,
                               grain_directory **silo);
 
+/* The same, of a process that is started with a token, 1 to 64 visible ASCII bytes, as with `grain-directory silo ADDR --join TOKEN`:
+ * a join of its own silo that doesn't carry just this token is another process's, and is refused by 208. The first that applies of 7, 4,
+ * 5, 6 and 3 is returned.
+ *
+ * `token` isn't NULL, even where `token_length` is 0. */
+uint32_t grain_directory_open_with_token(const unsigned char *address, size_t address_length, const unsigned char *token, size_t token_length,
+                                         uint32_t hashing, size_t points, size_t cache, grain_directory **silo);
+
 /* Answers a line, given without its line feed; one carriage return at its end is dropped. *answer tells the lines that are answered:
  * each ends with a line feed, and there may be none. The bytes are the silo's: they may be read, and stay as they are, until the
  * next call with this handle. Any bytes are a line: one that has a byte outside 32 to 126, as a line feed, is answered by
@@ -71,7 +80,7 @@ void grain_directory_close(grain_directory *silo);
 
 /* What the caller owes besides:
  *
- * - A handle is one that grain_directory_open gave, and that isn't closed. One call at a time has it. It may go from thread to
+ * - A handle is one that grain_directory_open or grain_directory_open_with_token gave, and that isn't closed. One call at a time has it. It may go from thread to
  *   thread, if a lock, a thread's start or end, or a sequentially consistent atomic orders their calls; handles have nothing in
  *   common, so two threads may call with two handles at once. What is behind a handle is neither read nor written.
  * - Lengths are those of the bytes, and nobody writes these meanwhile. No two pointers of one call lead to the same memory.

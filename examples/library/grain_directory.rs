@@ -21,6 +21,16 @@ unsafe extern "C" {
         cache: usize,
         silo: *mut *mut c_void,
     ) -> u32;
+    fn grain_directory_open_with_token(
+        address: *const u8,
+        address_length: usize,
+        token: *const u8,
+        token_length: usize,
+        hashing: u32,
+        points: usize,
+        cache: usize,
+        silo: *mut *mut c_void,
+    ) -> u32;
     fn grain_directory_line(silo: *mut c_void, line: *const u8, length: usize, answer: *mut Text) -> u32;
     fn grain_directory_close(silo: *mut c_void);
 }
@@ -37,6 +47,7 @@ pub enum Hashing {
 pub enum OpenError {
     OutOfMemory,
     NotASilo,
+    NotAToken,
     OutOfRange,
 }
 
@@ -64,17 +75,30 @@ pub struct Silo {
 unsafe impl Send for Silo {}
 
 impl Silo {
-    /// Opens the silo of an address, with so many points, 1 to 128, and a cache of so many hints, 0 to 65536.
-    pub fn open(address: &str, hashing: Hashing, points: usize, cache: usize) -> Result<Silo, OpenError> {
-        let mut silo = null_mut();
+    /// Opens the silo of an address, with so many points, 1 to 128, and a cache of so many hints, 0 to 65536. With a token, 1 to 64 visible
+    /// ASCII bytes, it joins by the line that carries this token, and by no other.
+    pub fn open(
+        address: &str,
+        token: Option<&str>,
+        hashing: Hashing,
+        points: usize,
+        cache: usize,
+    ) -> Result<Silo, OpenError> {
+        let (name, length) = (address.as_ptr(), address.len());
+        let (hashing, mut silo) = (hashing as u32, null_mut());
         // SAFETY: a slice's pointer isn't null, and `silo` is a place that has a value.
-        let status = unsafe {
-            grain_directory_open(address.as_ptr(), address.len(), hashing as u32, points, cache, &raw mut silo)
+        let status = match token {
+            None => unsafe { grain_directory_open(name, length, hashing, points, cache, &raw mut silo) },
+            Some(token) => unsafe {
+                let (bytes, count) = (token.as_ptr(), token.len());
+                grain_directory_open_with_token(name, length, bytes, count, hashing, points, cache, &raw mut silo)
+            },
         };
         match (status, NonNull::new(silo)) {
             (0, Some(handle)) => Ok(Silo { handle, owns: PhantomData }),
             (3, _) => Err(OpenError::OutOfMemory),
             (4, _) => Err(OpenError::NotASilo),
+            (7, _) => Err(OpenError::NotAToken),
             _ => Err(OpenError::OutOfRange),
         }
     }

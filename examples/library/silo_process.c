@@ -1,6 +1,6 @@
 /* A silo's process, as `grain-directory silo`, over the library:
  *
- *   silo_process silo ADDRESS [--hashing sha256|stated] [--points N] [--cache N]
+ *   silo_process silo ADDRESS [--join TOKEN] [--hashing sha256|stated] [--points N] [--cache N]
  *
  * reads lines from standard input and writes what is answered, line by line. It ends at the end of its input with status 0, and where
  * the silo is dead; with 3 if memory runs out, with 5 if reading or writing fails, and with 2 at a mistake in its words. */
@@ -89,23 +89,34 @@ static int read_number(const char *word, size_t *number) {
     return *word >= '0' && *word <= '9' && *end == '\0';
 }
 
+/* Opens the silo of an address, with a token where there is one. */
+static uint32_t open_silo(const char *address, const char *token, uint32_t hashing, size_t points, size_t cache, grain_directory **silo) {
+    const unsigned char *bytes = (const unsigned char *)address;
+    if (token == NULL) return grain_directory_open(bytes, strlen(address), hashing, points, cache, silo);
+    return grain_directory_open_with_token(bytes, strlen(address), (const unsigned char *)token, strlen(token), hashing, points, cache, silo);
+}
+
 int main(int count, char **words) {
-    if (count < 3 || strcmp(words[1], "silo") != 0) return mistake("silo ADDRESS [--hashing sha256|stated] [--points N] [--cache N]");
+    if (count < 3 || strcmp(words[1], "silo") != 0) {
+        return mistake("silo ADDRESS [--join TOKEN] [--hashing sha256|stated] [--points N] [--cache N]");
+    }
     uint32_t hashing = GRAIN_DIRECTORY_SHA256;
     size_t points = GRAIN_DIRECTORY_POINTS, cache = GRAIN_DIRECTORY_CACHE;
+    const char *token = NULL;
     for (int word = 3; word < count; word += 2) {
         const char *option = words[word], *value = word + 1 < count ? words[word + 1] : "";
-        int is_read;
-        if (strcmp(option, "--hashing") == 0) is_read = read_hashing(value, &hashing);
+        int is_read = 1;
+        if (strcmp(option, "--join") == 0) token = value;
+        else if (strcmp(option, "--hashing") == 0) is_read = read_hashing(value, &hashing);
         else if (strcmp(option, "--points") == 0) is_read = read_number(value, &points);
         else if (strcmp(option, "--cache") == 0) is_read = read_number(value, &cache);
         else return mistake("no such option");
         if (!is_read) return mistake("an option with no such value");
     }
     grain_directory *silo = NULL;
-    uint32_t status = grain_directory_open((const unsigned char *)words[2], strlen(words[2]), hashing, points, cache, &silo);
+    uint32_t status = open_silo(words[2], token, hashing, points, cache, &silo);
     if (status == GRAIN_DIRECTORY_OUT_OF_MEMORY) return 3;
-    if (status != GRAIN_DIRECTORY_OK) return mistake("no silo, or a number out of its range");
+    if (status != GRAIN_DIRECTORY_OK) return mistake("no silo, no token, or a number out of its range");
     int ended = play(silo);
     grain_directory_close(silo);
     return ended;

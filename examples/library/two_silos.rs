@@ -15,7 +15,7 @@ struct Pair {
 
 impl Pair {
     fn open() -> Result<Pair, OpenError> {
-        let open = |address| Silo::open(address, Hashing::Stated, 30, 1024);
+        let open = |address| Silo::open(address, None, Hashing::Stated, 30, 1024);
         Ok(Pair {
             silos: [open(ADDRESSES[0])?, open(ADDRESSES[1])?],
             letters: VecDeque::new(),
@@ -55,8 +55,9 @@ fn receiver(line: &str) -> Option<usize> {
 
 fn main() -> Result<(), OpenError> {
     // What else opens no silo.
-    assert_eq!(Silo::open("10.0.0.1:1000", Hashing::Sha256, 30, 1024).err(), Some(OpenError::NotASilo));
-    assert_eq!(Silo::open(ADDRESSES[0], Hashing::Sha256, 0, 1024).err(), Some(OpenError::OutOfRange));
+    assert_eq!(Silo::open("10.0.0.1:1000", None, Hashing::Sha256, 30, 1024).err(), Some(OpenError::NotASilo));
+    assert_eq!(Silo::open(ADDRESSES[0], None, Hashing::Sha256, 0, 1024).err(), Some(OpenError::OutOfRange));
+    assert_eq!(Silo::open(ADDRESSES[0], Some("a b"), Hashing::Sha256, 30, 1024).err(), Some(OpenError::NotAToken));
 
     let mut pair = Pair::open()?;
 

@@ -1,6 +1,8 @@
 """The application at each silo: random commands, and what it makes of the answers."""
 
-COMMANDS = (("wake", 50), ("find", 12), ("close", 9), ("offer", 9), ("forget", 6))
+from collections import defaultdict
+
+COMMANDS = (("wake", 50), ("find", 12), ("close", 9), ("offer", 9), ("cancel", 4), ("forget", 6))
 CROWDED = 260
 WANTED = 12
 HOME = 2**32 // 64 * 21
@@ -17,6 +19,7 @@ class Application:
         self.wanted = [f"user/w{number}#{random.randrange(2**32)}" for number in range(WANTED)]
         self.crowd = [f"user/c{number}#{self.place_of(number)}" for number in range(CROWDED)]
         self.found = {}
+        self.asking = defaultdict(list)
         self.works_on_closing = False
 
     def place_of(self, number):
@@ -46,6 +49,9 @@ class Application:
             worked = self.works.of(silo.name)
             if worked:
                 self.give_up(silo, kind, self.random.choice(worked))
+        elif kind == "cancel":
+            if self.asking[silo.name]:
+                silo.write(f"cancel {self.random.choice(self.asking[silo.name])}")
         else:
             silo.write(f"{kind} {self.random.choice(self.wanted if self.random.random() < 0.4 else self.crowd)}")
 
@@ -60,6 +66,7 @@ class Application:
         """Takes an answer; of a refused close or offer the work goes on."""
         words = asked.split()
         said = line.split()
+        self.follow(silo.name, said)
         if said[0] == "firm":
             if not silo.ended:
                 self.works.begin(silo.name, said[2], said[1], int(said[4]))
@@ -71,6 +78,15 @@ class Application:
             self.found[silo.name, said[1], said[0]] = said[2:]
         elif words[0] in ("close", "offer") and said[0] == "refused" and not self.works_on_closing:
             self.go_on(silo, words[1])
+
+    def follow(self, name, said):
+        """Keeps which activations of a silo ask, and may be given up."""
+        if said[0] == "started":
+            self.asking[name].append(said[2])
+        elif said[0] in ("firm", "taken", "cancelled"):
+            grain = said[1] if said[0] == "taken" else said[2]
+            if grain in self.asking[name]:
+                self.asking[name].remove(grain)
 
     def go_on(self, silo, grain):
         """What was refused leaves all as it was."""

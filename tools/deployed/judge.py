@@ -36,6 +36,7 @@ class Judge:
         if await self.come_back():
             nodes = [json.loads(line) for line in (await self.ask_all("dump")).values()]
             self.compare(nodes)
+            await self.compare_figures(nodes)
             if self.can_check:
                 dump = json.dumps(whole_dump(self.team.changes, nodes, "stated", 4), separators=(",", ":"))
                 self.expect(await self.check(dump), "check ok", "what `check` says of the dump")
@@ -151,6 +152,13 @@ class Judge:
         entered = [(node["silo"], grain) for node in nodes for piece in node["pieces"] for grain, _ in piece["entries"]]
         self.expect([one for one in entered if one[0] != changes.owner(hash_of(one[1]))[0]], [], "entries that aren't at their owner")
         self.team.counts["quiet ends", "firm activations, in all"] += len(firm)
+
+    async def compare_figures(self, nodes):
+        """Compares each silo's figures with what it has: nothing waits any more. How many snapshots it keeps is left out."""
+        version, told = self.team.changes.version(), await self.ask_all("status")
+        for node in nodes:
+            wanted = f"status {version} known {version} held {len(node['held'])} asking 0 closing 0 finding 0 unsettled 0 kept"
+            self.expect(told.get(node["silo"], "no answer").rpartition(" ")[0], wanted, "a silo's figures", f"{node['silo']}, ")
 
     async def look_up(self):
         """Look-ups find what works, and nothing else."""

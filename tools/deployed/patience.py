@@ -1,69 +1,87 @@
-"""When a silo is nudged. A nudge gives each request that is outstanding a new number, and an answer under an old one counts no more: a
-silo that is nudged faster than its letters go round is never done. So it is nudged when what it has waited for longest hasn't come after a
-pause, and each pause is twice as long as the one before, until that has come."""
+"""When a silo is nudged, and of what. A nudge of a grain gives each request about it a new number, and an answer under an old one counts
+no more: a grain that is nudged faster than its letters go round is never done. So it is nudged when what the silo has waited for, of that
+grain, hasn't come after a pause, and each pause is twice as long as the one before. The ranges are nudged so, too."""
 
 from time import monotonic
 
 SHORTEST = 1
 LONGEST = 16
+RANGES = "ranges"
 BEGINS = {"started": "activation", "closing": "activation", "offered": "activation", "finding": "find"}
 ENDS = {"firm": "activation", "taken": "activation", "ended": "activation", "found": "find", "nothing": "find"}
 SETTLES = {"page": "installed", "report": "complete"}
 
 
-class Patience:
-    """What a silo waits for, in the order in which that began, and the pause after which it is nudged."""
+class Wait:
+    """What a silo waits for of a grain, or of its ranges, and the pause after which that is nudged."""
 
     def __init__(self):
-        self.waits = []
+        self.things = []
+        self.has_come()
+
+    def has_come(self):
+        """Something of it has come."""
         self.pause = SHORTEST
         self.since = monotonic()
+
+    def is_over(self):
+        """Whether it is to be nudged now."""
+        return monotonic() - self.since >= self.pause
+
+    def nudged(self):
+        """It was nudged."""
+        self.pause = min(2 * self.pause, LONGEST)
+        self.since = monotonic()
+
+
+class Patience:
+    """What a silo waits for, under the word by which that is nudged: a grain, or `ranges`."""
+
+    def __init__(self):
+        self.waits = {}
 
     def wrote(self, letter):
         """The silo wrote a letter: by an ask or a query it waits for a range."""
         _, _, _, _, kind, *said = letter.split()
-        if kind in ("ask", "query") and ("range", said[0]) not in self.waits:
-            self.begin("range", said[0])
+        if kind in ("ask", "query") and said[0] not in self.things_of(RANGES):
+            self.begin(RANGES, said[0])
 
     def answered(self, asked, said):
         """The silo answered a line."""
         words, what = asked.split(), said[0]
         if what in BEGINS:
-            self.begin(BEGINS[what], grain_of(said))
+            self.begin(grain_of(said), BEGINS[what])
         elif what in ENDS:
-            self.end(ENDS[what], grain_of(said))
+            self.end(grain_of(said), ENDS[what])
         elif said[1:2] == ["sees"]:
-            for wait in [wait for wait in self.waits if wait[0] == "range"]:
-                self.end(*wait)
+            self.waits.pop(RANGES, None)
         elif what == "delivered" and SETTLES.get(said[1]) == said[2]:
-            self.end("range", words[5])
+            self.end(RANGES, words[5])
 
-    def begin(self, *wait):
+    def things_of(self, word):
+        """What is waited for under the word."""
+        return self.waits[word].things if word in self.waits else []
+
+    def begin(self, word, thing):
         """The silo waits for something more."""
-        if not self.waits:
-            self.has_come()
-        self.waits.append(wait)
+        self.waits.setdefault(word, Wait()).things.append(thing)
 
-    def end(self, *wait):
+    def end(self, word, thing):
         """The silo doesn't wait for that any more."""
-        if wait in self.waits:
-            if wait == self.waits[0]:
-                self.has_come()
-            self.waits.remove(wait)
+        if thing in self.things_of(word):
+            self.waits[word].things.remove(thing)
+            self.waits[word].has_come()
+            if not self.waits[word].things:
+                del self.waits[word]
 
-    def has_come(self):
-        """What was waited for longest has come."""
-        self.pause = SHORTEST
-        self.since = monotonic()
+    def over(self):
+        """The words of what is to be nudged now."""
+        return [word for word, wait in self.waits.items() if wait.is_over()]
 
-    def is_over(self):
-        """Whether the silo is to be nudged now."""
-        return bool(self.waits) and monotonic() - self.since >= self.pause
-
-    def nudged(self):
-        """The silo was nudged."""
-        self.pause = min(2 * self.pause, LONGEST)
-        self.since = monotonic()
+    def nudged(self, words):
+        """The silo was nudged of these."""
+        for word in words:
+            self.waits[word].nudged()
 
 
 def grain_of(said):

@@ -98,9 +98,15 @@ class Silo:
         return False
 
     def nudge(self):
-        """Has the process send again what is outstanding."""
+        """Has the process send again all that it waits for."""
         self.write("nudge")
-        self.patience.nudged()
+        self.patience.nudged(list(self.patience.waits))
+
+    def nudge_slow(self):
+        """Has the process send again what it has waited for long enough: of these grains, or of its ranges, and nothing else."""
+        for word in self.patience.over():
+            self.write(f"nudge {word}")
+            self.patience.nudged([word])
 
     def tell_next(self):
         """Tells the process the next change, if there is one that it wasn't told; so they are told in order."""

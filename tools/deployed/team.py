@@ -17,6 +17,7 @@ ENDPOINTS = 5
 AT_ONCE = 2
 OPTIONS = ("--hashing", "stated", "--points", "4", "--cache", "16")
 COMMANDS_A_SECOND = 40
+QUESTIONS = ("dump", "status")
 REASONS = {"601": "another view", "602": "not settled", "603": "an old number", "604": "no such range"}
 
 
@@ -74,12 +75,12 @@ class Team:
                 self.plant.invent()
 
     async def nudge(self):
-        """Silos are nudged when it is time."""
+        """Silos are nudged when it is time, of what it is time for."""
         while True:
             await asyncio.sleep(0.1)
             for silo in self.relay.silos.values():
-                if not self.is_calm and not silo.frozen and silo.patience.is_over():
-                    silo.nudge()
+                if not self.is_calm and not silo.frozen:
+                    silo.nudge_slow()
 
     async def change_weather(self):
         """The weather changes every few seconds."""
@@ -128,9 +129,9 @@ class Team:
 
     def answered(self, silo, asked, line):
         """A process answered a line."""
-        if asked == "dump":
+        if asked in QUESTIONS:
             self.answers[silo.name] = line
-        if asked in ("dump", PING):
+        if asked in (*QUESTIONS, PING):
             return
         self.count_answer(asked.split(), line.split())
         self.application.answered(silo, asked, line)

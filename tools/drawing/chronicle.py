@@ -182,7 +182,8 @@ class Teller:
             self.seen[words[0]] = int(words[2])
             return Step(words[0], [" ".join(words[1:])])
         tellers = {"view": self.change, "delivered": self.delivery, "lost": self.loss, "range": self.state, "started": self.own_step,
-                   "closing": self.own_step, "offered": self.own_step, "nudged": lambda *_: Step(words[1], ["nudged"]),
+                   "closing": self.own_step, "cancelled": self.own_step, "offered": self.own_step,
+                   "nudged": lambda *_: Step(words[1], ["nudged"]),
                    "finding": self.asked_step, "cached": self.asked_step, "forgot": self.asked_step, "nothing": self.asked_step,
                    "refused": lambda *_: Answer(f"{said}: {' '.join(line.words)}"), "version": nothing, "silo": nothing,
                    "held": nothing}

@@ -4,8 +4,9 @@ from dataclasses import dataclass
 
 from drawing.page import Unreadable
 
-FIRST_WORDS = {"join": "view", "leave": "view", "kill": "view", "wake": "started", "close": "closing", "offer": "offered",
-               "nudge": "nudged", "deliver": "delivered", "lose": "lost", "owner": "owner", "place": "place", "check": "check"}
+FIRST_WORDS = {"join": "view", "leave": "view", "kill": "view", "wake": "started", "close": "closing", "cancel": "cancelled",
+               "offer": "offered", "nudge": "nudged", "deliver": "delivered", "lose": "lost", "owner": "owner", "place": "place",
+               "check": "check"}
 FIND_WORDS = {"find": ("cached", "finding"), "forget": ("forgot", "nothing")}
 SHOW_WORDS = ("silo", "held", "range", "no")
 SYNC_ENDS = ("refused 805", "refused 908", "refused 909")

@@ -11,10 +11,13 @@ pub enum Kind {
     SeeAny,
     Wake,
     Close,
+    Cancel,
     Offer,
     Find,
     Forget,
     Nudge,
+    NudgeGrain,
+    NudgeRanges,
     DeliverRecent,
     DeliverOldest,
     DeliverAny,
@@ -35,7 +38,7 @@ pub enum Weather {
 }
 
 /// How often each kind comes, beside the others, in each weather: calm, rush, gale, fog.
-const SHARES: [(Kind, [u64; 4]); 15] = [
+const SHARES: [(Kind, [u64; 4]); 18] = [
     (Kind::Join, [9, 24, 100, 8]),
     (Kind::Leave, [6, 24, 50, 4]),
     (Kind::Kill, [6, 3, 50, 6]),
@@ -43,10 +46,13 @@ const SHARES: [(Kind, [u64; 4]); 15] = [
     (Kind::SeeAny, [600, 550, 60, 100]),
     (Kind::Wake, [160, 300, 60, 50]),
     (Kind::Close, [20, 4, 15, 15]),
+    (Kind::Cancel, [4, 6, 12, 12]),
     (Kind::Offer, [70, 35, 40, 40]),
     (Kind::Find, [30, 10, 10, 20]),
     (Kind::Forget, [10, 5, 5, 5]),
     (Kind::Nudge, [30, 20, 10, 25]),
+    (Kind::NudgeGrain, [20, 20, 15, 25]),
+    (Kind::NudgeRanges, [6, 6, 8, 10]),
     (Kind::DeliverRecent, [700, 900, 330, 120]),
     (Kind::DeliverOldest, [80, 150, 80, 250]),
     (Kind::DeliverAny, [20, 10, 120, 250]),

@@ -8,7 +8,7 @@ use crate::random::Random;
 use crate::ring::{RingPoint, nearest, owner};
 use crate::stage::Stage;
 use crate::turn::Turn;
-use crate::world::Silo;
+use crate::world::{Held, Phase, Silo};
 
 /// How many endpoints there are, and so the most silos at a time.
 const ENDPOINTS: u64 = 6;
@@ -46,10 +46,13 @@ impl Scene<'_> {
             Kind::SeeAny => self.see_any(random),
             Kind::Wake => self.wake(random),
             Kind::Close => self.some_firm(random).map(|(silo, grain)| Turn::Close { silo, grain }),
+            Kind::Cancel => self.some_waiting(random, true).map(|(silo, grain)| Turn::Cancel { silo, grain }),
             Kind::Offer => self.offer(random),
             Kind::Find => Some(Turn::Find { silo: self.someone(random)?.silo, grain: self.some_grain(random) }),
             Kind::Forget => Some(Turn::Forget { silo: self.someone(random)?.silo, grain: self.some_grain(random) }),
-            Kind::Nudge => self.nudge(random),
+            Kind::Nudge => self.nudge(random).map(|silo| Turn::Nudge { silo }),
+            Kind::NudgeGrain => self.some_waiting(random, false).map(|(silo, grain)| Turn::NudgeGrain { silo, grain }),
+            Kind::NudgeRanges => self.nudge(random).map(|silo| Turn::NudgeRanges { silo }),
             Kind::DeliverRecent => self.deliver_recent(random),
             Kind::DeliverOldest => self.deliver_oldest(random),
             Kind::DeliverAny => Some(Turn::Deliver { letter: self.letter_back(random, ANY) }),
@@ -227,8 +230,24 @@ impl Scene<'_> {
         Some(Turn::Offer { silo, grain, to: self.someone(random)?.silo })
     }
 
-    /// A silo sends again what it has outstanding, mostly one that waits.
-    fn nudge(&self, random: &mut Random) -> Option<Turn> {
+    /// A grain and a silo that mostly has an activation of it which asks, or closes where that will do.
+    fn some_waiting(&self, random: &mut Random, asks: bool) -> Option<(Silo, usize)> {
+        let mut found = (self.someone(random)?.silo, self.some_grain(random));
+        for _ in 0..4 {
+            let silo = self.someone(random)?.silo;
+            let phases = |held: &Held| held.phase == Phase::Asking || !asks && held.phase == Phase::Closing;
+            let held = self.stage.world.node(silo).map_or(Vec::new(), |node| node.host.in_order());
+            let waiting: Vec<&Held> = held.iter().filter(|held| phases(held)).collect();
+            if !waiting.is_empty() {
+                found = (silo, waiting[random.index(waiting.len())].grain as usize);
+                break;
+            }
+        }
+        Some(found)
+    }
+
+    /// Who is to send something again, mostly a silo whose ranges wait.
+    fn nudge(&self, random: &mut Random) -> Option<Silo> {
         let is_waiting = |silo: Silo| self.stage.world.node(silo).is_some_and(|node| count_waiting(node) > 0);
         let mut silo = self.someone(random)?.silo;
         for _ in 0..2 {
@@ -237,7 +256,7 @@ impl Scene<'_> {
             }
             silo = self.someone(random)?.silo;
         }
-        Some(Turn::Nudge { silo })
+        Some(silo)
     }
 
     // ---- Letters.

@@ -29,10 +29,11 @@ enum Thing {
     Lost,
     Restart,
     Yielded,
+    GivenUp,
 }
 
 /// What is said of each thing, in the order in which things are told.
-const WORDS: [&str; 21] = [
+const WORDS: [&str; 22] = [
     "snapshots with entries installed",
     "snapshots of several pages installed",
     "ranges recovered with entries",
@@ -54,6 +55,7 @@ const WORDS: [&str; 21] = [
     "letters lost",
     "silos replaced by a higher generation",
     "activations that yield",
+    "activations given up that ask",
 ];
 
 /// A letter that comes so many events after it was sent is late.
@@ -98,6 +100,7 @@ impl Tally {
                 self.note_delivery(world, before, kind, effect);
             }
             Happening::Lost { .. } => self.one(Thing::Lost),
+            Happening::Cancelled { .. } => self.one(Thing::GivenUp),
             _ => {}
         }
     }

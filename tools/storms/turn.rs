@@ -11,8 +11,11 @@ pub enum Turn {
     Kill { silo: Silo },
     See { silo: Silo, version: u64 },
     Nudge { silo: Silo },
+    NudgeGrain { silo: Silo, grain: usize },
+    NudgeRanges { silo: Silo },
     Wake { silo: Silo, grain: usize },
     Close { silo: Silo, grain: usize },
+    Cancel { silo: Silo, grain: usize },
     Find { silo: Silo, grain: usize },
     Forget { silo: Silo, grain: usize },
     Offer { silo: Silo, grain: usize, to: Silo },
@@ -24,9 +27,11 @@ impl Turn {
     /// The silo whose step it is, where that is told, and the grain that it is of.
     pub fn of(&self) -> (Option<Silo>, Option<usize>) {
         match *self {
-            Turn::Leave { silo } | Turn::See { silo, .. } | Turn::Nudge { silo } => (Some(silo), None),
+            Turn::Leave { silo } | Turn::See { silo, .. } | Turn::Nudge { silo } | Turn::NudgeRanges { silo } => (Some(silo), None),
             Turn::Wake { silo, grain }
             | Turn::Close { silo, grain }
+            | Turn::Cancel { silo, grain }
+            | Turn::NudgeGrain { silo, grain }
             | Turn::Find { silo, grain }
             | Turn::Forget { silo, grain }
             | Turn::Offer { silo, grain, .. } => (Some(silo), Some(grain)),
@@ -47,8 +52,11 @@ impl Turn {
             Turn::Kill { silo } => format!("kill {}", silo_of(*silo)),
             Turn::See { silo, version } => format!("see {} {version}", silo_of(*silo)),
             Turn::Nudge { silo } => format!("nudge {}", silo_of(*silo)),
+            Turn::NudgeGrain { silo, grain } => does("nudge", *silo, *grain),
+            Turn::NudgeRanges { silo } => format!("nudge {} ranges", silo_of(*silo)),
             Turn::Wake { silo, grain } => does("wake", *silo, *grain),
             Turn::Close { silo, grain } => does("close", *silo, *grain),
+            Turn::Cancel { silo, grain } => does("cancel", *silo, *grain),
             Turn::Find { silo, grain } => does("find", *silo, *grain),
             Turn::Forget { silo, grain } => does("forget", *silo, *grain),
             Turn::Offer { silo, grain, to } => format!("{} {}", does("offer", *silo, *grain), silo_of(*to)),
@@ -70,8 +78,11 @@ impl Turn {
             Turn::Kill { silo } => Event::Kill { silo: name(silo) },
             Turn::See { silo, version } => Event::See { silo: name(silo), version },
             Turn::Nudge { silo } => Event::Nudge { silo: name(silo) },
+            Turn::NudgeGrain { silo, grain } => Event::NudgeGrain { silo: name(silo), grain: number(grain) },
+            Turn::NudgeRanges { silo } => Event::NudgeRanges { silo: name(silo) },
             Turn::Wake { silo, grain } => Event::Wake { silo: name(silo), grain: number(grain) },
             Turn::Close { silo, grain } => Event::Close { silo: name(silo), grain: number(grain) },
+            Turn::Cancel { silo, grain } => Event::Cancel { silo: name(silo), grain: number(grain) },
             Turn::Find { silo, grain } => Event::Find { silo: name(silo), grain: number(grain) },
             Turn::Forget { silo, grain } => Event::Forget { silo: name(silo), grain: number(grain) },
             Turn::Offer { silo, grain, to } => Event::Offer { silo: name(silo), grain: number(grain), to: name(to) },

@@ -9,9 +9,8 @@ use Rattle.texts.proofs.Orderings.{Equal-from}
 use Rattle.silo_address.specs.Silo.{Silo, silo_cmp}
 use Rattle.silo_address.proofs.Order.{silo_cmp_exact}
 use Rattle.directory_rules.specs.Laws.{RiseBetween}
-use Rattle.directory_rules.specs.Letter.{Letter}
+use Rattle.directory_rules.specs.State.{Letter, Posted, World}
 use Rattle.directory_rules.specs.Mail.{letter_of}
-use Rattle.directory_rules.specs.World.{Posted, World}
 use Rattle.directory_rules.proofs.Cases.{on_bool}
 
 abbrev Mail : Type 0
@@ -32,7 +31,8 @@ above : (silo : Silo) (low high : ℕ) (mail : Mail) (e : ℕ × Posted) → Ris
 above silo low high [] e rise found = absurd (let no : None ≡ Some e = found in cc)
 above silo low high (x ∷ mail) e rise found =
     on_bool (λ b. cond b (Some x) (first_to silo mail) ≡ Some e → low < e.0) (is_to silo x.1)
-    (λ here found. let same : x.0 ≡ e.0 = ap (λ (o : Option (ℕ × Posted)). (unwrap_or o e).0) found in let first = rise.0 in omega (arith, same, first))
+    (λ here found. let same : x.0 ≡ e.0 = ap (λ (o : Option (ℕ × Posted)). (unwrap_or o e).0) found in let first = rise.0 in
+    omega (arith, same, first))
     (λ later found. let rest = above silo x.0 high mail e rise.1 found in let first = rise.0 in omega (arith, rest, first))
     found
 
@@ -46,7 +46,8 @@ record IsFirst (silo : Silo) (mail : Mail) (e : ℕ × Posted) : Type 0 where
   found : lookup (is_at (nat_cmp e.0)) mail ≡ Some e.1
   its : e.1.letter.to ≡ silo
 
-first_so : (silo : Silo) (low high : ℕ) (mail : Mail) (e : ℕ × Posted) → RiseBetween low high mail → first_to silo mail ≡ Some e → IsFirst silo mail e
+first_so : (silo : Silo) (low high : ℕ) (mail : Mail) (e : ℕ × Posted) → RiseBetween low high mail → first_to silo mail ≡ Some e
+    → IsFirst silo mail e
 first_so silo low high [] e rise found = absurd (let no : None ≡ Some e = found in cc)
 first_so silo low high (x ∷ mail) e rise found =
     on_bool (λ b. is_to silo x.1 ≡ b → cond b (Some x) (first_to silo mail) ≡ Some e → IsFirst silo (x ∷ mail) e) (is_to silo x.1)
@@ -54,12 +55,16 @@ first_so silo low high (x ∷ mail) e rise found =
     let same : x ≡ e = ap (λ (o : Option (ℕ × Posted)). unwrap_or o e) found in
     subst (λ (y : ℕ × Posted). IsFirst silo (x ∷ mail) y) same (record {
       found = ap (λ b. cond b (Some x.1) (lookup (is_at (nat_cmp x.0)) mail)) (at_itself x.0);
-      its = silo_cmp_exact x.1.letter.to silo (Equal-from (silo_cmp x.1.letter.to silo) (both x.1.fresh (is_at (silo_cmp x.1.letter.to) silo) tested));
+      its =
+          silo_cmp_exact x.1.letter.to silo (Equal-from (silo_cmp x.1.letter.to silo)
+          (both x.1.fresh (is_at (silo_cmp x.1.letter.to) silo) tested));
     }))
     (λ later tested found.
     let rest = first_so silo x.0 high mail e rise.1 found in
     record {
-      found = ap (λ b. cond b (Some x.1) (lookup (is_at (nat_cmp e.0)) mail)) (at_lower e.0 x.0 (above silo x.0 high mail e rise.1 found)) ∙ rest.found;
+      found =
+          ap (λ b. cond b (Some x.1) (lookup (is_at (nat_cmp e.0)) mail)) (at_lower e.0 x.0 (above silo x.0 high mail e rise.1 found))
+          ∙ rest.found;
       its = rest.its;
     })
     refl found
@@ -70,12 +75,19 @@ pub record IsMailedTo (world : World) (silo : Silo) (number : ℕ) : Type 0 wher
   pub mailed : letter_of world number ≡ Some letter
   pub its : letter.to ≡ silo
 
-pub mailed_to : (world : World) (silo : Silo) (number high : ℕ) → RiseBetween 0 high world.mail → option_map (λ (e : ℕ × Posted). e.0) (first_to silo world.mail) ≡ Some number → IsMailedTo world silo number
+pub mailed_to : (world : World) (silo : Silo) (number high : ℕ) → RiseBetween 0 high world.mail
+    → option_map (λ (e : ℕ × Posted). e.0) (first_to silo world.mail) ≡ Some number → IsMailedTo world silo number
 mailed_to world silo number high rise is = by (first_to silo world.mail) refl is
   where
-    by : (found : Option (ℕ × Posted)) → first_to silo world.mail ≡ found → option_map (λ (e : ℕ × Posted). e.0) found ≡ Some number → IsMailedTo world silo number
+    by : (found : Option (ℕ × Posted)) → first_to silo world.mail ≡ found → option_map (λ (e : ℕ × Posted). e.0) found ≡ Some number
+        → IsMailedTo world silo number
     by None found is = absurd (let no : None ≡ Some number = is in cc)
     by (Some e) found is =
         let first = first_so silo 0 high world.mail e rise found in
         let same : e.0 ≡ number = ap (λ (o : Option ℕ). unwrap_or o number) is in
-        subst (λ (n : ℕ). IsMailedTo world silo n) same (record { letter = e.1.letter; mailed = ap (λ (o : Option Posted). option_map (λ (p : Posted). p.letter) o) first.found; its = first.its })
+        subst (λ (n : ℕ). IsMailedTo world silo n) same
+        (record {
+          letter = e.1.letter;
+          mailed = ap (λ (o : Option Posted). option_map (λ (p : Posted). p.letter) o) first.found;
+          its = first.its;
+        })

@@ -1,6 +1,6 @@
 -- A board, as clauses see it.
 use Rattle.std.specs.Prelude.{Bool, List}
-use Rattle.directory_rules.specs.World.{World}
+use Rattle.directory_rules.specs.State.{World}
 use Rattle.cluster_journal.specs.Entry.{EntryValue}
 
 -- the world, its journal, and two flags that no event reads: that silos are to stop, and that one

@@ -2,8 +2,7 @@
 use Rattle.std.specs.Prelude.{◌≡◌, ℕ, Some}
 use Rattle.silo_address.specs.Silo.{Silo}
 use Rattle.directory_rules.specs.Event.{Event, Join, Leave, Kill, See, Do, Deliver, Lose}
-use Rattle.directory_rules.specs.Letter.{Letter}
-use Rattle.directory_rules.specs.World.{World}
+use Rattle.directory_rules.specs.State.{Letter, World}
 use Rattle.directory_rules.specs.Mail.{letter_of}
 
 -- the silo is the receiver of the letter of that number

@@ -2,7 +2,7 @@
 use Rattle.std.specs.Prelude.{◌≡◌, ℕ, IsOk, Option, Some, None, Err}
 use Rattle.directory_rules.specs.Event.{Deliver}
 use Rattle.directory_rules.specs.Happens.{happens}
-use Rattle.directory_rules.specs.World.{World}
+use Rattle.directory_rules.specs.State.{World}
 use Rattle.cluster_board.specs.Work.{IsCurrent, Work}
 use Rattle.cluster_board.specs.declared.refusal.CommitRefusal.{CommitRefusal}
 use Rattle.cluster_board.specs.declared.refusal.CommitRefusal.TheVariants.{StaleWork, JournalFull, MailFull, OutOfMemory}

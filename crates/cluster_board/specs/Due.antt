@@ -1,7 +1,7 @@
 -- What a silo has to do.
 use Rattle.std.specs.Prelude.{◌≡◌, ◌⊎◌, Some, None, true}
 use Rattle.silo_address.specs.Silo.{Silo}
-use Rattle.directory_rules.specs.World.{World}
+use Rattle.directory_rules.specs.State.{World}
 use Rattle.directory_rules.specs.Happens.{node_of}
 use Rattle.letter_mail.specs.Mail.{least_fresh_to}
 use Rattle.directory_core.specs.WorldMail.{mail_of}

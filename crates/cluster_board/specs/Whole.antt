@@ -1,9 +1,8 @@
 -- What every board keeps.
 use Rattle.std.specs.Prelude.{◌≡◌, ℕ, List, length}
 use Rattle.silo_address.specs.Silo.{Silo}
-use Rattle.directory_rules.specs.Node.{Node}
+use Rattle.directory_rules.specs.State.{Node, World}
 use Rattle.directory_rules.specs.Settings.{Settings}
-use Rattle.directory_rules.specs.World.{World}
 use Rattle.cluster_journal.specs.Entry.{EntryValue}
 use Rattle.cluster_journal.specs.Journal.{IsJournaled}
 use Rattle.cluster_board.specs.Marked.{AreMarks}

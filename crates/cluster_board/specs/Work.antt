@@ -1,8 +1,6 @@
 -- Work that is lent: a letter and the node of its receiver.
 use Rattle.std.specs.Prelude.{◌≡◌, ℕ, Some}
-use Rattle.directory_rules.specs.Letter.{Letter}
-use Rattle.directory_rules.specs.Node.{Node}
-use Rattle.directory_rules.specs.World.{World}
+use Rattle.directory_rules.specs.State.{Letter, Node, World}
 use Rattle.directory_rules.specs.Mail.{letter_of}
 use Rattle.directory_rules.specs.Happens.{node_of}
 

@@ -8,7 +8,7 @@ use Rattle.std.proofs.lemmas.Option.{slice_get-get_or}
 use mathlib.Core.List.{IsPrefix}
 use Rattle.directory_rules.specs.Event.{Event}
 use Rattle.directory_rules.specs.Settings.{Settings}
-use Rattle.directory_rules.specs.World.{World}
+use Rattle.directory_rules.specs.State.{World}
 use Rattle.directory_rules.specs.Run.{Ran}
 use Rattle.cluster_journal.specs.Agreement.{Stands}
 use Rattle.cluster_journal.specs.Entry.{EntryValue}
@@ -23,7 +23,8 @@ pub prefix_none : {E : Type 0} (xs : List E) → IsPrefix [] xs
 prefix_none xs = (xs, refl)
 
 pub prefix_then : {E : Type 0} (xs ys zs : List E) → IsPrefix xs ys → IsPrefix ys zs → IsPrefix xs zs
-prefix_then xs ys zs first second = (first.0 ++ second.0, sym (append_assoc xs first.0 second.0) ∙ (ap (λ l. l ++ second.0) first.1 ∙ second.1))
+prefix_then xs ys zs first second =
+    (first.0 ++ second.0, sym (append_assoc xs first.0 second.0) ∙ (ap (λ l. l ++ second.0) first.1 ∙ second.1))
 
 -- what goes before begins it
 pub prefix_of_more : {E : Type 0} (xs ys zs : List E) → ys ≡ xs ++ zs → IsPrefix xs ys
@@ -51,15 +52,18 @@ seam xs ys x =
     slice_get-get_or (xs ++ x ∷ ys) (length xs) x (omega (many, arith)) ∙ ap (λ y. Some y) (get_or-append_seam xs x ys x)
 
 -- the entry behind a beginning stands in the journal
-pub it_stands : (before journal : List EntryValue) (entry : EntryValue) (number : ℕ) → IsPrefix (before ++ entry ∷ []) journal → number ≡ length before + 1 → entry_at journal number ≡ Some entry
+pub it_stands : (before journal : List EntryValue) (entry : EntryValue) (number : ℕ) → IsPrefix (before ++ entry ∷ []) journal
+    → number ≡ length before + 1 → entry_at journal number ≡ Some entry
 it_stands before journal entry number begins is =
     let whole : before ++ entry ∷ begins.0 ≡ journal = sym (append_assoc before (entry ∷ []) begins.0) ∙ begins.1 in
     let some : (number == 0) ≡ false = ne_eqb number 0 (λ none. omega (none, is, arith)) in
     let index : number - 1 ≡ length before = omega (is, arith) in
-    rw some (ap (λ n. slice_get journal n) index ∙ subst (λ (l : List EntryValue). slice_get l (length before) ≡ Some entry) whole (seam before begins.0 entry))
+    rw some (ap (λ n. slice_get journal n) index ∙ subst (λ (l : List EntryValue). slice_get l (length before) ≡ Some entry) whole
+    (seam before begins.0 entry))
 
 -- so does the receipt of an event that was accepted
-pub receipt_stands : (settings : Settings) (before now : List EntryValue) (event : Event) (receipt : Receipt) → IsReceiptOf settings before now event receipt → Stands now receipt
+pub receipt_stands : (settings : Settings) (before now : List EntryValue) (event : Event) (receipt : Receipt)
+    → IsReceiptOf settings before now event receipt → Stands now receipt
 receipt_stands settings before now event receipt its = it_stands its.journal now receipt.entry receipt.number its.stands its.number
 
 -- ---- The last one.
@@ -75,7 +79,8 @@ longest {E} xs ys begins short = go begins.0 begins.1
         let same = ap (λ (l : List E). length l) is in
         absurd (omega (many, same, short, arith))
 
-pub is_whole : (before now : List EntryValue) (entry : EntryValue) (number : ℕ) → IsPrefix (before ++ entry ∷ []) now → number ≡ length before + 1 → number ≡ length now → now ≡ before ++ entry ∷ []
+pub is_whole : (before now : List EntryValue) (entry : EntryValue) (number : ℕ) → IsPrefix (before ++ entry ∷ []) now
+    → number ≡ length before + 1 → number ≡ length now → now ≡ before ++ entry ∷ []
 is_whole before now entry number begins is last =
     let many = length-append before (entry ∷ []) in
     longest (before ++ entry ∷ []) now begins (omega (many, is, last, arith))
@@ -83,5 +88,6 @@ is_whole before now entry number begins is last =
 -- ---- Worlds.
 
 -- a world is that of the journal that made it
-pub its_world : (settings : Settings) (journal : List EntryValue) (world : World) → IsJournaled settings journal world → world_of settings journal ≡ world
+pub its_world : (settings : Settings) (journal : List EntryValue) (world : World) → IsJournaled settings journal world
+    → world_of settings journal ≡ world
 its_world settings journal world journaled = ap (λ (ran : Ran). ran.world) journaled

@@ -29,13 +29,20 @@ module _ (E : RattleType) (s : IsSend E) where
     leaving = λ k f vs. tt;
   }
 
-  shared_sends : (K P : RattleType) (g : rule.Ghosts P.Denot E.Denot (known.the_row E).Denot K.Denot) → IsSend (shared.the_row E (known.the_row E) K P g)
+  shared_sends : (K P : RattleType) (g : rule.Ghosts P.Denot E.Denot (known.the_row E).Denot K.Denot)
+      → IsSend (shared.the_row E (known.the_row E) K P g)
   shared_sends K P g = record {
-    owned = λ d vs. ((λ vss. (tt, (tt, (tt, ((λ uss. (tt, tt)), tt))))), owns_keyless E s (known.the_row E).coded.code d.table_id (g.holds d.key) d.words d.slots);
+    owned =
+        λ d vs. (
+          (λ vss. (tt, (tt, (tt, ((λ uss. (tt, tt)), tt))))),
+          owns_keyless E s (known.the_row E).coded.code d.table_id
+              (g.holds d.key) d.words d.slots,
+        );
     leaving = λ k f vs. tt;
   }
 
-  table_field_sends : (K P : RattleType) (g : rule.Ghosts P.Denot E.Denot (known.the_row E).Denot K.Denot) → IsSend (table.the_field E (known.the_row E) K P Heap.the_row g ghosts).row
+  table_field_sends : (K P : RattleType) (g : rule.Ghosts P.Denot E.Denot (known.the_row E).Denot K.Denot)
+      → IsSend (table.the_field E (known.the_row E) K P Heap.the_row g ghosts).row
   table_field_sends K P g =
       struct_send (S.shape (table.the_type E (known.the_row E) K P Heap.the_row g ghosts))
       (shared_sends K P g, (search sendable, (search sendable, (lease_sends u64, (lease_sends E, (crossing.send, tt))))))
@@ -47,4 +54,5 @@ module _ (E : RattleType) (s : IsSend E) where
     pub keeper_sends : IsSend J → IsSend (keeper.the_row E J n)
     keeper_sends j =
         let k = inside.the_type E J n in
-        view_send (S.row k) _ _ _ _ (recorded_send _ k.D k.to k.to_one (struct_send (S.shape k) (search (table_field_sends, sendable), (seat_sends, (search sendable, tt)))))
+        view_send (S.row k) _ _ _ _ (recorded_send _ k.D k.to k.to_one
+        (struct_send (S.shape k) (search (table_field_sends, sendable), (seat_sends, (search sendable, tt)))))

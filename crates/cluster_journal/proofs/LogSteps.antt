@@ -35,10 +35,12 @@ pub begins : {E : Type 0} → AreOfOneLog {E = E} (keepers [] [] ∷ [])
 begins {E} = record { seat = 0; log = []; fit = one }
   where
     one : (by : ℕ) (known : Known E) → get_elem? (keepers [] [] ∷ []) by ≡ some known → Fits 0 [] by known
-    one zero known is = subst (Fits 0 [] 0) (some-injective _ _ is) (record { keeper = λ _. (refl, refl); begins = ([], refl); told = ([], refl) })
+    one zero known is =
+        subst (Fits 0 [] 0) (some-injective _ _ is) (record { keeper = λ _. (refl, refl); begins = ([], refl); told = ([], refl) })
     one (suc by) known is = absurd (some-ne-none known (sym is))
 
-added : {E : Type 0} → (by : ℕ) (all told : List E) (entry : E) (views : List (Known E)) → AreOfOneLog views → get_elem? views by ≡ some (keepers all told)
+added : {E : Type 0} → (by : ℕ) (all told : List E) (entry : E) (views : List (Known E)) → AreOfOneLog views
+    → get_elem? views by ≡ some (keepers all told)
     → AreOfOneLog (set views by (keepers (all ++ entry ∷ []) told))
 added {E} by all told entry views are at =
     let fit = are.fit by (keepers all told) at in
@@ -64,12 +66,14 @@ added {E} by all told entry views are at =
 
 pub adds : {E : Type 0} → (slots by : ℕ) (me : Me E (Known E)) (all : List E) (f : ℕ → ℕ) (entry : E) → me ≡ (keepers all [], [])
     → Allows AreKept slots by me 0 f (Adds (step slots 0 0 0 (some entry)) me)
-adds {E} slots by me all f entry is = subst (λ (m : Me E (Known E)). Allows AreKept slots by m 0 f (Adds (step slots 0 0 0 (some entry)) m)) (sym is) known
+adds {E} slots by me all f entry is =
+    subst (λ (m : Me E (Known E)). Allows AreKept slots by m 0 f (Adds (step slots 0 0 0 (some entry)) m)) (sym is) known
   where
     known : Allows AreKept slots by (keepers all [], []) 0 f (Adds (step slots 0 0 0 (some entry)) (keepers all [], []))
     known s are len at small = (keepers (all ++ entry ∷ []) [], keeps, tt, added by all [] entry s.views are at, refl)
 
-compared : {E : Type 0} → (by : ℕ) (all told : List E) (views : List (Known E)) → AreOfOneLog views → get_elem? views by ≡ some (keepers all told)
+compared : {E : Type 0} → (by : ℕ) (all told : List E) (views : List (Known E)) → AreOfOneLog views
+    → get_elem? views by ≡ some (keepers all told)
     → AreOfOneLog (set views by (keepers all [])) × IsPrefix told all
 compared {E} by all told views are at =
     let fit = are.fit by (keepers all told) at in
@@ -77,14 +81,17 @@ compared {E} by all told views are at =
       record {
         seat = are.seat;
         log = are.log;
-        fit = fits_set are.seat are.log views by (keepers all []) (λ other known _ is. are.fit other known is) (record { keeper = λ _. mine; begins = fit.begins; told = prefix_none are.log });
+        fit =
+            fits_set are.seat are.log views by (keepers all []) (λ other known _ is. are.fit other known is)
+            (record { keeper = λ _. mine; begins = fit.begins; told = prefix_none are.log });
       },
       subst (IsPrefix told) (sym mine.1) fit.told,
     )
 
 pub compares : {E : Type 0} → (slots by : ℕ) (me : Me E (Known E)) (all told : List E) → me ≡ (keepers all told, [])
     → Allows AreKept slots by me 0 (λ n. n) (Compares (step slots 0 0 0 none) me)
-compares {E} slots by me all told is = subst (λ (m : Me E (Known E)). Allows AreKept slots by m 0 (λ n. n) (Compares (step slots 0 0 0 none) m)) (sym is) known
+compares {E} slots by me all told is =
+    subst (λ (m : Me E (Known E)). Allows AreKept slots by m 0 (λ n. n) (Compares (step slots 0 0 0 none) m)) (sym is) known
   where
     known : Allows AreKept slots by (keepers all told, []) 0 (λ n. n) (Compares (step slots 0 0 0 none) (keepers all told, []))
     known s are len at small = let c = compared by all told s.views are at in (keepers all [], keeps, tt, c.0, (refl, c.1))
@@ -95,11 +102,13 @@ splits {E} by known s are at = record {
   log = are.log;
   fit = λ other its is. ⊎_elim
       (λ was. are.fit other its (subst (λ l. get_elem? l other ≡ some its) (set_again s.views by known at) was))
-      (λ (same : fronts known.all ≡ its). subst (Fits are.seat are.log other) same (keeps_none are.seat other are.log known.all (are.fit by known at).begins))
+      (λ (same : fronts known.all ≡ its). subst (Fits are.seat are.log other) same
+      (keeps_none are.seat other are.log known.all (are.fit by known at).begins))
       (at_snoc (set s.views by known) (fronts known.all) its other is);
 }
 
-pub joins : {E : Type 0} → (by : ℕ) (known : Known E) (other : ℕ) (its : Known E) → Joins AreKept by known other its (informed known its) (fronts [])
+pub joins : {E : Type 0} → (by : ℕ) (known : Known E) (other : ℕ) (its : Known E)
+    → Joins AreKept by known other its (informed known its) (fronts [])
 joins {E} by known other its s are at apart there =
     let now = informed known its in
     let fit = are.fit by known at in
@@ -111,5 +120,7 @@ joins {E} by known other its s are at apart there =
     record {
       seat = are.seat;
       log = are.log;
-      fit = fits_set are.seat are.log (set s.views by now) other (fronts []) (λ j u _ is. told j u is) (keeps_none are.seat other are.log [] (prefix_none are.log));
+      fit =
+          fits_set are.seat are.log (set s.views by now) other (fronts []) (λ j u _ is. told j u is)
+          (keeps_none are.seat other are.log [] (prefix_none are.log));
     }

@@ -46,6 +46,7 @@ effect_by short.Complete = effects.Complete
 abbrev pub NamesGrain : Effect → Type 0
 NamesGrain (effects.Started entry) = Unit {0}
 NamesGrain (effects.Closing entry) = Unit {0}
+NamesGrain (effects.Cancelled entry) = Unit {0}
 NamesGrain (effects.Offered entry to) = Unit {0}
 NamesGrain (effects.Cached entry) = Unit {0}
 NamesGrain (effects.Finding grain) = Unit {0}

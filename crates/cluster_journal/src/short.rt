@@ -75,6 +75,7 @@ impl ShortEffect {
             Effect::Complete => Some(ShortEffect::Complete),
             Effect::Started(_)
             | Effect::Closing(_)
+            | Effect::Cancelled(_)
             | Effect::Offered { .. }
             | Effect::Cached(_)
             | Effect::Finding(_)

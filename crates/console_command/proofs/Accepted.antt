@@ -66,19 +66,22 @@ kept_without name rows all = (fine_without (codes "points") 1 128 name rows all.
 -- each use of an option keeps them in range
 hashing_keep : (names : NameList) → Keeps false HaveInRange (filled (hashing_rule names))
 hashing_keep names values rows e all =
-    kept_with (codes "hashing") reading.AsWritten CommandLine _ (λ is. absurd (true≢false (sym is))) (λ is. absurd (true≢false (sym is))) _ (kept_without (codes "hashing") rows all)
+    kept_with (codes "hashing") reading.AsWritten CommandLine _ (λ is. absurd (true≢false (sym is))) (λ is. absurd (true≢false (sym is))) _
+    (kept_without (codes "hashing") rows all)
 
 points_keep : Keeps false HaveInRange (filled points_rule)
 points_keep [] rows e all = absurd (true≢false (ap is_faulty e))
 points_keep (v ∷ vs) rows e all =
     let accepted : IsAccepted 1 128 v = passed (accepts false (parser.Signed (pos 1) (pos 128)) v) (no_first _ _ (no_next _ _ (no_next _ _ e))) in
-    kept_with (codes "points") reading.WithoutMinus CommandLine (v ∷ vs) (λ is. (refl, accepted)) (λ is. absurd (true≢false (sym is))) _ (kept_without (codes "points") rows all)
+    kept_with (codes "points") reading.WithoutMinus CommandLine (v ∷ vs) (λ is. (refl, accepted)) (λ is. absurd (true≢false (sym is))) _
+    (kept_without (codes "points") rows all)
 
 cache_keep : Keeps false HaveInRange (filled cache_rule)
 cache_keep [] rows e all = absurd (true≢false (ap is_faulty e))
 cache_keep (v ∷ vs) rows e all =
     let accepted : IsAccepted 1 65536 v = passed (accepts false (parser.Signed (pos 1) (pos 65536)) v) (no_first _ _ (no_next _ _ (no_next _ _ e))) in
-    kept_with (codes "cache") reading.WithoutMinus CommandLine (v ∷ vs) (λ is. absurd (true≢false (sym is))) (λ is. (refl, accepted)) _ (kept_without (codes "cache") rows all)
+    kept_with (codes "cache") reading.WithoutMinus CommandLine (v ∷ vs) (λ is. absurd (true≢false (sym is))) (λ is. (refl, accepted)) _
+    (kept_without (codes "cache") rows all)
 
 help_keep : Keeps false HaveInRange (filled help_rule)
 help_keep values rows e all = all
@@ -93,7 +96,9 @@ hashing_default names rows all = go (has_row (codes "hashing") rows)
   where
     go : (b : Bool) → HaveInRange (cond b rows (default_rows (codes "hashing") reading.AsWritten (codes "sha256" ∷ []) rows))
     go true = all
-    go false = kept_with (codes "hashing") reading.AsWritten DefaultValue (codes "sha256" ∷ []) (λ is. absurd (true≢false (sym is))) (λ is. absurd (true≢false (sym is))) rows all
+    go false =
+        kept_with (codes "hashing") reading.AsWritten DefaultValue (codes "sha256" ∷ []) (λ is. absurd (true≢false (sym is)))
+        (λ is. absurd (true≢false (sym is))) rows all
 
 points_default : (rows : List Row) → HaveInRange rows
     → HaveInRange (with_default rows (filled points_rule)) × (has_row (codes "points") (with_default rows (filled points_rule)) ≡ true)
@@ -102,10 +107,12 @@ points_default rows all = go (has_row (codes "points") rows) refl
     given : List Row
     given = default_rows (codes "points") reading.WithoutMinus (codes "30" ∷ []) rows
 
-    go : (b : Bool) → has_row (codes "points") rows ≡ b → HaveInRange (cond b rows given) × (has_row (codes "points") (cond b rows given) ≡ true)
+    go : (b : Bool) → has_row (codes "points") rows ≡ b
+        → HaveInRange (cond b rows given) × (has_row (codes "points") (cond b rows given) ≡ true)
     go true is = (all, is)
     go false is = (
-      kept_with (codes "points") reading.WithoutMinus DefaultValue (codes "30" ∷ []) (λ same. (refl, refl)) (λ same. absurd (true≢false (sym same))) rows all,
+      kept_with (codes "points") reading.WithoutMinus DefaultValue (codes "30" ∷ []) (λ same. (refl, refl))
+          (λ same. absurd (true≢false (sym same))) rows all,
       has_with (codes "points") reading.WithoutMinus DefaultValue (codes "30" ∷ []) refl rows,
     )
 
@@ -119,7 +126,8 @@ cache_default rows all points = go (has_row (codes "cache") rows) refl
     go : (b : Bool) → has_row (codes "cache") rows ≡ b → HaveInRange (cond b rows given) × HaveBoth (cond b rows given)
     go true is = (all, (points, is))
     go false is = (
-      kept_with (codes "cache") reading.WithoutMinus DefaultValue (codes "1024" ∷ []) (λ same. absurd (true≢false (sym same))) (λ same. (refl, refl)) rows all,
+      kept_with (codes "cache") reading.WithoutMinus DefaultValue (codes "1024" ∷ []) (λ same. absurd (true≢false (sym same)))
+          (λ same. (refl, refl)) rows all,
       (
         still_has (codes "points") (codes "cache") reading.WithoutMinus DefaultValue (codes "1024" ∷ []) rows points,
         has_with (codes "cache") reading.WithoutMinus DefaultValue (codes "1024" ∷ []) refl rows,
@@ -134,7 +142,8 @@ help_default rows = go (has_row (codes "help") rows)
     go false = refl
 
 -- the matches have a row of each number, and each is in its range
-player_rows : (name : Text) (names : NameList) (words : List Text) → level_fault (player_shape name names) [] nothing_held words false [] ≡ []
+player_rows : (name : Text) (names : NameList) (words : List Text)
+    → level_fault (player_shape name names) [] nothing_held words false [] ≡ []
     → HaveInRange (rows_after (player_shape name names).rules [] words) × HaveBoth (rows_after (player_shape name names).rules [] words)
 player_rows name names words e =
     let walked = (settled (player_shape name names).rules (walk (player_shape name names).rules [] nothing_held words).held).rows in
@@ -146,13 +155,16 @@ player_rows name names words e =
     (subst HaveInRange same cached.0, subst HaveBoth same cached.1)
 
 -- what the getter reads of such a number is in its range
-in_range : (low high : ℕ) (found : Option Text) → high < 4294967296 → (text : Text) × (found ≡ Some (without_minus text)) × IsAccepted low high text
+in_range : (low high : ℕ) (found : Option Text) → high < 4294967296
+    → (text : Text) × (found ≡ Some (without_minus text)) × IsAccepted low high text
     → (low ≤ option_map_or number_or_zero found 0) × (option_map_or number_or_zero found 0 ≤ high)
 in_range low high found fits text =
-    subst (λ o. (low ≤ option_map_or number_or_zero o 0) × (option_map_or number_or_zero o 0 ≤ high)) (sym text.1) (accepted_in_range low high text.0 fits text.2)
+    subst (λ o. (low ≤ option_map_or number_or_zero o 0) × (option_map_or number_or_zero o 0 ≤ high)) (sym text.1)
+    (accepted_in_range low high text.0 fits text.2)
 
 -- so what the options choose is in range
-player_options : (name : Text) (names : NameList) (words : List Text) → level_fault (player_shape name names) [] nothing_held words false [] ≡ []
+player_options : (name : Text) (names : NameList) (words : List Text)
+    → level_fault (player_shape name names) [] nothing_held words false [] ≡ []
     → AreInRange (options_in (rows_after (player_shape name names).rules [] words))
 player_options name names words e =
     let after = rows_after (player_shape name names).rules [] words in
@@ -173,11 +185,13 @@ placed_address = filled (record address_rule { index = Some 1 })
 
 address_keep : Keeps false HaveInRange placed_address
 address_keep values rows e all =
-    kept_with (codes "ADDR") reading.AsWritten CommandLine _ (λ is. absurd (true≢false (sym is))) (λ is. absurd (true≢false (sym is))) _ (kept_without (codes "ADDR") rows all)
+    kept_with (codes "ADDR") reading.AsWritten CommandLine _ (λ is. absurd (true≢false (sym is))) (λ is. absurd (true≢false (sym is))) _
+    (kept_without (codes "ADDR") rows all)
 
 join_keep : Keeps false HaveInRange (filled join_rule)
 join_keep values rows e all =
-    kept_with (codes "join") reading.AsWritten CommandLine _ (λ is. absurd (true≢false (sym is))) (λ is. absurd (true≢false (sym is))) _ (kept_without (codes "join") rows all)
+    kept_with (codes "join") reading.AsWritten CommandLine _ (λ is. absurd (true≢false (sym is))) (λ is. absurd (true≢false (sym is))) _
+    (kept_without (codes "join") rows all)
 
 silo_keeps : (names : NameList) → Every (Keeps false HaveInRange) (silo_shape names).rules
 silo_keeps names = (address_keep, (join_keep, (hashing_keep names, (points_keep, (cache_keep, (help_keep, tt))))))
@@ -214,7 +228,8 @@ silo_options names words e =
     (points.0, points.1, cache.0, cache.1)
 
 -- whatever names the silo
-process_in_range : (read : Result Silo SiloError) (token : Result (Option (List ℕ)) ProcessMistake) (options : Options) → AreInRange options → AreReadInRange (process_of read token options)
+process_in_range : (read : Result Silo SiloError) (token : Result (Option (List ℕ)) ProcessMistake) (options : Options) → AreInRange options
+    → AreReadInRange (process_of read token options)
 process_in_range (Ok silo) (Ok token) options fine = fine
 process_in_range (Ok silo) (Err mistake) options fine = tt
 process_in_range (Err error) token options fine = tt
@@ -223,15 +238,18 @@ process_in_range (Err error) token options fine = tt
 
 -- where clap finds no fault and enters a subcommand, that is `play`, `threads`, `check` or `silo`
 command_entered : (names : NameList) (stop : Option (Text × List Text)) → StopsElsewhere stop → entered_fault (built (app names)) stop ≡ []
-    → is_some (entered (built (app names)) stop) ≡ true → IsSomeAnd (option_and_then line_in (entered (built (app names)) stop)) AreReadInRange
+    → is_some (entered (built (app names)) stop) ≡ true
+    → IsSomeAnd (option_and_then line_in (entered (built (app names)) stop)) AreReadInRange
 command_entered names None elsewhere e enters = absurd (true≢false (sym enters))
 command_entered names (Some p) elsewhere e enters =
-    go (bytes_eq (codes "play") p.0) (bytes_eq (codes "threads") p.0) (bytes_eq (codes "silo") p.0) (bytes_eq (codes "check") p.0) (bytes_eq (codes "help") p.0) refl e enters
+    go (bytes_eq (codes "play") p.0) (bytes_eq (codes "threads") p.0) (bytes_eq (codes "silo") p.0) (bytes_eq (codes "check") p.0)
+    (bytes_eq (codes "help") p.0) refl e enters
   where
     shape : (a b c d h : Bool) → Option Shape
     shape a b c d h =
         cond (a || false) (Some (player_shape (codes "play") names)) (cond (b || false) (Some (player_shape (codes "threads") names))
-        (cond (c || false) (Some (silo_shape names)) (cond (d || false) (Some (check_shape names)) (cond (h || false) (Some (built_leaf help_shape)) None))))
+        (cond (c || false) (Some (silo_shape names)) (cond (d || false) (Some (check_shape names))
+        (cond (h || false) (Some (built_leaf help_shape)) None))))
 
     go : (a b c d h : Bool) → bytes_eq (codes "help") p.0 ≡ h
         → option_map_or (λ s. level_fault s [] nothing_held p.1 false []) (shape a b c d h) [] ≡ []
@@ -250,17 +268,21 @@ command_entered names (Some p) elsewhere e enters =
     go false false false false false help none there = absurd (true≢false (sym there))
 
 -- words in which clap finds no fault are a line, with numbers in their ranges, or name no process
-pub accepted : (names : NameList) (words : List Text) → fault_of (app names) words ≡ [] → IsSomeAnd (line_of (app names) words) AreReadInRange
+pub accepted : (names : NameList) (words : List Text) → fault_of (app names) words ≡ []
+    → IsSomeAnd (line_of (app names) words) AreReadInRange
 accepted names words e =
     let command = built (app names) in
     let given = argument_words (app names) words in
     let stop = (walk command.top.rules (names_of command) nothing_held given).stopped in
     command_entered names stop (walk_stops command.top refl (names_of command) given (walk_from nothing_held) (no_first _ _ e) tt)
-    (no_first _ _ (no_next _ _ e)) (required_there command.top (finished command.top.rules (walk command.top.rules (names_of command) nothing_held given).held)
-    (is_some (entered command stop)) refl (checks_pass command.top (names_of command) given (is_some (entered command stop)) (entered_fault command stop) e))
+    (no_first _ _ (no_next _ _ e)) (required_there command.top
+    (finished command.top.rules (walk command.top.rules (names_of command) nothing_held given).held)
+    (is_some (entered command stop)) refl (checks_pass command.top (names_of command) given (is_some (entered command stop))
+    (entered_fault command stop) e))
 
 -- the line of such words has them
-pub range_of_line : (o : Option (Result Line ProcessMistake)) (read : Result Line ProcessMistake) → o ≡ Some read → IsSomeAnd o AreReadInRange → AreReadInRange read
+pub range_of_line : (o : Option (Result Line ProcessMistake)) (read : Result Line ProcessMistake) → o ≡ Some read
+    → IsSomeAnd o AreReadInRange → AreReadInRange read
 range_of_line None read is there = absurd there
 range_of_line (Some other) read is there = subst AreReadInRange (ap (λ o. unwrap_or o other) is) there
 

@@ -14,22 +14,27 @@ pub nothing_read : (known : Option (List ℕ)) (bytes : List ℕ) → bytes ≡ 
 nothing_read known bytes none = subst (Consumes known known) (sym none) (Consumes-nil known)
 
 -- a chunk more
-pub chunk_read : (first before now : Option (List ℕ)) (bytes chunk longer : List ℕ) → Consumes first before bytes → Consumes before now chunk
+pub chunk_read : (first before now : Option (List ℕ)) (bytes chunk longer : List ℕ) → Consumes first before bytes
+    → Consumes before now chunk
     → longer ≡ bytes ++ chunk → Consumes first now longer
-chunk_read first before now bytes chunk longer read got grown = subst (Consumes first now) (sym grown) (Consumes-trans first before now bytes chunk read got)
+chunk_read first before now bytes chunk longer read got grown =
+    subst (Consumes first now) (sym grown) (Consumes-trans first before now bytes chunk read got)
 
 -- the end
-pub all_read : (first before now : Option (List ℕ)) (bytes chunk : List ℕ) → Consumes first before bytes → Consumes before now chunk → chunk ≡ []
+pub all_read : (first before now : Option (List ℕ)) (bytes chunk : List ℕ) → Consumes first before bytes → Consumes before now chunk
+    → chunk ≡ []
     → IsAtEnd now → length bytes ≤ most_read → IfSome first (λ all. IsRead all now bytes)
 all_read None before now bytes chunk read got none end fits = tt
 all_read (Some all) before now bytes chunk read got none end fits =
     let consumed : Consumes (Some all) now bytes =
-    subst (Consumes (Some all) now) (ap (λ l. bytes ++ l) none ∙ append-nil bytes) (Consumes-trans (Some all) before now bytes chunk read got) in
+    subst (Consumes (Some all) now) (ap (λ l. bytes ++ l) none ∙ append-nil bytes)
+    (Consumes-trans (Some all) before now bytes chunk read got) in
     let is : bytes ≡ all = Consumes-all (Some all) now bytes [] bytes consumed end refl in
     record { whole = is; fits = subst (λ l. length l ≤ most_read) is fits; consumes = consumed; at_end = end }
 
 -- a read that failed behind it
-pub kept_unread : (first before now : Option (List ℕ)) (bytes : List ℕ) → Consumes first before bytes → Keeps before now → length bytes ≤ most_read
+pub kept_unread : (first before now : Option (List ℕ)) (bytes : List ℕ) → Consumes first before bytes → Keeps before now
+    → length bytes ≤ most_read
     → IfSome first (λ all. HasRead all now)
 kept_unread None before now bytes read kept fits = tt
 kept_unread (Some all) before now bytes read kept fits = record {
@@ -41,7 +46,8 @@ kept_unread (Some all) before now bytes read kept fits = record {
 }
 
 -- a chunk that can't be put behind it
-pub not_taken : (first before now : Option (List ℕ)) (bytes chunk : List ℕ) (unread : Unread) → Consumes first before bytes → Consumes before now chunk
+pub not_taken : (first before now : Option (List ℕ)) (bytes chunk : List ℕ) (unread : Unread) → Consumes first before bytes
+    → Consumes before now chunk
     → length bytes ≤ most_read → length chunk ≤ most_at_once → (unread ≡ TooLong → most_read < length bytes + length chunk)
     → (unread ≡ OutOfMemory → length bytes + length chunk ≤ most_read) → IfSome first (λ all. IsUnread all now unread)
 not_taken None before now bytes chunk unread read got fits small long within = tt
@@ -60,9 +66,18 @@ not_taken (Some all) before now bytes chunk unread read got fits small long with
     longer None consumed = absurd consumed
     longer (Some rest) consumed = omega (arith, ap length consumed, length-append (bytes ++ chunk) rest, length-append bytes chunk)
 
-    go : (unread : Unread) → (unread ≡ TooLong → most_read < length bytes + length chunk) → (unread ≡ OutOfMemory → length bytes + length chunk ≤ most_read) → IsUnread all now unread
+    go : (unread : Unread) → (unread ≡ TooLong → most_read < length bytes + length chunk)
+        → (unread ≡ OutOfMemory → length bytes + length chunk ≤ most_read) → IsUnread all now unread
     go TooLong long within = (has_read, omega (arith, long refl, longer now has_read.consumes))
-    go OutOfMemory long within = (has_read, record { bytes = bytes ++ chunk; consumes = has_read.consumes; fits = omega (arith, within refl, length-append bytes chunk) })
+    go OutOfMemory long within = (
+      has_read,
+      record {
+        bytes = bytes ++ chunk;
+        consumes = has_read.consumes;
+        fits = omega
+            (arith, within refl, length-append bytes chunk);
+      },
+    )
     go Broken long within = has_read
 
 -- ---- The calls that read them.
@@ -85,12 +100,14 @@ module _ {R : Type 0} (reads : R → Option (List ℕ) → R → Type 0) (first 
   read_broken once before = before new false (read_failed once)
 
   -- the last can't be kept
-  pub read_unkept : (chunk : List ℕ) (unread : Unread) → (unread ≡ Broken → ⊥) → 0 < length chunk → reads now (Some chunk) new → ReadSoFar reads first now
+  pub read_unkept : (chunk : List ℕ) (unread : Unread) → (unread ≡ Broken → ⊥) → 0 < length chunk → reads now (Some chunk) new
+      → ReadSoFar reads first now
       → ReadsInTurn reads first new (were_well unread)
   read_unkept chunk Broken unbroken some once before = absurd (unbroken refl)
   read_unkept chunk TooLong unbroken some once before = before new true (read_some chunk some once no_read)
   read_unkept chunk OutOfMemory unbroken some once before = before new true (read_some chunk some once no_read)
 
 -- without memory for a chunk none is made
-pub read_not_begun : {R : Type 0} (reads : R → Option (List ℕ) → R → Type 0) (source : R) (unread : Unread) → unread ≡ OutOfMemory → ReadsInTurn reads source source (were_well unread)
+pub read_not_begun : {R : Type 0} (reads : R → Option (List ℕ) → R → Type 0) (source : R) (unread : Unread) → unread ≡ OutOfMemory
+    → ReadsInTurn reads source source (were_well unread)
 read_not_begun reads source unread is = subst (λ (u : Unread). ReadsInTurn reads source source (were_well u)) (sym is) no_read

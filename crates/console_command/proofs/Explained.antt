@@ -25,7 +25,8 @@ mistaken (errors.NoProcess e) not there words read = by_process e read
 mistaken errors.OutOfMemory not there words read = absurd (there refl)
 
 -- what is answered, or refused, is all that is called
-pub is_explained : {R W : Type 0} (reads : R → Option (List ℕ) → R → Type 0) (writes : W → List ℕ → Option ℕ → W → Type 0) (source : R) (old new : W) (exit : Exit)
+pub is_explained : {R W : Type 0} (reads : R → Option (List ℕ) → R → Type 0) (writes : W → List ℕ → Option ℕ → W → Type 0) (source : R)
+    (old new : W) (exit : Exit)
     → WritesAnswer writes old new exit → MakesCalls reads writes (source, old) (source, new) exit
 is_explained reads writes source old new (Played ended) written = absurd written
 is_explained reads writes source old new (Threaded ended) written = absurd written
@@ -34,7 +35,8 @@ is_explained reads writes source old new (Silo stopped) written = absurd written
 is_explained reads writes source old new other written = (refl, written)
 
 -- no more is read then
-pub explained_in_turn : {R W : Type 0} (reads : R → Option (List ℕ) → R → Type 0) (writes : W → List ℕ → Option ℕ → W → Type 0) (words : List Text) (source : R) (old new : W) (exit : Exit)
+pub explained_in_turn : {R W : Type 0} (reads : R → Option (List ℕ) → R → Type 0) (writes : W → List ℕ → Option ℕ → W → Type 0)
+    (words : List Text) (source : R) (old new : W) (exit : Exit)
     → WritesAnswer writes old new exit → DoesInTurn reads writes words (source, old) (source, new) exit
 explained_in_turn reads writes words source old new (Played ended) written = absurd written
 explained_in_turn reads writes words source old new (Silo stopped) written = absurd written

@@ -2,7 +2,7 @@
 use Rattle.std.proofs.Common.{◌≡◌, ℕ, ◌++◌, List, [], ◌∷◌, ap, refl, sym, ◌∙◌, append_assoc, append-nil}
 use Rattle.script_rules.specs.Output.{Performed, before, printing}
 use Rattle.texts.specs.Printed.{text_of_lines}
-use Rattle.directory_rules.specs.World.{World}
+use Rattle.directory_rules.specs.State.{World}
 use Rattle.script_lines.specs.Printed.{printed}
 use Rattle.script_lines.proofs.Fronts.{begins_with_the_first}
 use Rattle.script_lines.specs.Spaced.{BeginsWith}
@@ -13,7 +13,8 @@ pub nothing_printed : (world : World) (text : List ℕ) → Performs (printing [
 nothing_printed world text = record { session = refl; lines = sym (append-nil text) }
 
 -- one line is printed
-pub one_printed : (world : World) (line start text : List ℕ) → text ≡ start ++ printed line → Performs (printing (line ∷ []) (in_session world)) start world text
+pub one_printed : (world : World) (line start text : List ℕ) → text ≡ start ++ printed line
+    → Performs (printing (line ∷ []) (in_session world)) start world text
 one_printed world line start text written = record {
   session = refl;
   lines = written ∙ ap (λ t. start ++ t) (sym (append-nil (printed line)));
@@ -24,7 +25,9 @@ pub then_printed : (performed : Performed) (world : World) (line start middle te
     → Performs performed middle world text → Performs (before line performed) start world text
 then_printed performed world line start middle text written next = record {
   session = next.session;
-  lines = next.lines ∙ (ap (λ t. t ++ text_of_lines performed.lines) written ∙ append_assoc start (printed line) (text_of_lines performed.lines));
+  lines =
+      next.lines ∙ (ap (λ t. t ++ text_of_lines performed.lines) written
+      ∙ append_assoc start (printed line) (text_of_lines performed.lines));
 }
 
 -- what was written begins with what stood there

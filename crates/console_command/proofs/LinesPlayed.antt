@@ -1,6 +1,6 @@
 -- Lines played to a cluster.
 use Rattle.std.proofs.Common.{◌≡◌, ◌∙◌, ℕ, ◌+◌, ◌++◌, Bool, List, [], ◌∷◌, Option, None, Some, IfSome, Ok, Err, ap, append-nil, refl, sym}
-use Rattle.directory_rules.specs.World.{World}
+use Rattle.directory_rules.specs.State.{World}
 use Rattle.script_rules.specs.Script.{Command, read_line}
 use Rattle.script_rules.specs.Lines.{fault_line}
 use Rattle.script_rules.specs.Output.{Session, line_played, onto, performed, played}
@@ -24,7 +24,8 @@ plays old number line feed text fault new = PlaysLine (lines_played old.world) (
 
 module _ (old new : Cluster) (number : ℕ) (line : List ℕ) (feed : Bool) where
   -- a line that says nothing
-  pub passed_over : (text : List ℕ) → new ≡ old → read_line (stripped line) ≡ Ok None → Prints (plays old number line feed) text text None new
+  pub passed_over : (text : List ℕ) → new ≡ old → read_line (stripped line) ≡ Ok None
+      → Prints (plays old number line feed) text text None new
   unfolding played
   passed_over text same is = record {
     text = [];
@@ -35,7 +36,8 @@ module _ (old new : Cluster) (number : ℕ) (line : List ℕ) (feed : Bool) wher
 
   -- a command
   pub command_played : (before after : List ℕ) (command : Command) → read_line (stripped line) ≡ Ok (Some command)
-      → Performs (performed (in_session old.world) command) before new.world after → Prints (plays old number line feed) before after None new
+      → Performs (performed (in_session old.world) command) before new.world after
+      → Prints (plays old number line feed) before after None new
   unfolding played
   command_played before after command is done =
       let made = performed (in_session old.world) command in
@@ -48,15 +50,19 @@ module _ (old new : Cluster) (number : ℕ) (line : List ℕ) (feed : Bool) wher
       }
 
   -- a fault
-  pub fault_told : (before after : List ℕ) (fault : ScriptLineFault) → fault.line ≡ number → read_line (stripped line) ≡ Err (script_fault_number fault.fault)
-      → after ≡ before ++ printed (fault_line number (script_fault_number fault.fault)) → Prints (plays old number line feed) before after (Some fault) new
+  pub fault_told : (before after : List ℕ) (fault : ScriptLineFault) → fault.line ≡ number
+      → read_line (stripped line) ≡ Err (script_fault_number fault.fault)
+      → after ≡ before ++ printed (fault_line number (script_fault_number fault.fault))
+      → Prints (plays old number line feed) before after (Some fault) new
   unfolding played
   fault_told before after fault its_line is written =
       let code = script_fault_number fault.fault in
       let told : text_of_lines (fault_line number code ∷ []) ≡ told_fault fault = ap (λ (n : ℕ). text_of_lines (fault_line n code ∷ [])) (sym its_line) in
       record {
         text = told_fault fault;
-        behind = written ∙ (ap (λ (t : List ℕ). before ++ t) (sym (append-nil (printed (fault_line number code)))) ∙ ap (λ (t : List ℕ). before ++ t) told);
+        behind =
+            written ∙ (ap (λ (t : List ℕ). before ++ t) (sym (append-nil (printed (fault_line number code))))
+            ∙ ap (λ (t : List ℕ). before ++ t) told);
         plays = (
           its_line,
           refl,
@@ -68,17 +74,24 @@ module _ (old new : Cluster) (number : ℕ) (line : List ℕ) (feed : Bool) wher
 -- ---- Scripts.
 
 -- the output of a script that is played to a cluster
-pub script_written : (first last : Cluster) (read rest begun written : Option (List ℕ)) (ending : Ended ScriptLineFault) → IfSome read (λ script. Ends plays most_read first last script rest begun written ending)
+pub script_written : (first last : Cluster) (read rest begun written : Option (List ℕ)) (ending : Ended ScriptLineFault)
+    → IfSome read (λ script. Ends plays most_read first last script rest begun written ending)
     → IfSome read (λ script. WritesScript (lines_played first.world 1) script rest begun written ending)
 script_written first last None rest begun written ending ends = tt
 script_written first last (Some script) rest begun written ending ends =
-    writes_script plays (λ (c : Cluster). lines_played c.world) (λ a b number line feed text fault made. made) (λ c number. nothing_is_played c.world number) first last script rest begun written ending ends
+    writes_script plays (λ (c : Cluster). lines_played c.world) (λ a b number line feed text fault made. made)
+    (λ c number. nothing_is_played c.world number) first last script rest begun written ending ends
 
 -- and in turn
-pub script_in_turn : {R W : Type 0} (reads : R → Option (List ℕ) → R → Type 0) (writes : W → List ℕ → Option ℕ → W → Type 0) (old new : R × W) (first : Cluster) (ending : Ended ScriptLineFault)
-    → EndsInTurn reads writes most_begun most_read (PlaysLines plays first) (PrintsLine plays) old new ending → PlaysInTurn reads writes lines_played first.world old new ending
+pub script_in_turn : {R W : Type 0} (reads : R → Option (List ℕ) → R → Type 0) (writes : W → List ℕ → Option ℕ → W → Type 0)
+    (old new : R × W) (first : Cluster) (ending : Ended ScriptLineFault)
+    → EndsInTurn reads writes most_begun most_read (PlaysLines plays first) (PrintsLine plays) old new ending
+    → PlaysInTurn reads writes lines_played first.world old new ending
 script_in_turn reads writes old new first ending turn =
-    in_turn_so reads writes old most_begun most_read (PlaysLines plays first) (PrintsLines (lines_played first.world 1)) (PrintsLine plays) (PrintsOne lines_played)
-    (prints_lines plays (λ (c : Cluster). lines_played c.world) (λ a b number line feed text fault made. made) (λ c number. nothing_is_played c.world number) first)
-    (λ text made. let it = prints_one plays (λ (c : Cluster). lines_played c.world) (λ a b number line feed more fault one. one) (λ c number. nothing_is_played c.world number) first text made in (it.0.world, it.1, it.2, it.3))
+    in_turn_so reads writes old most_begun most_read (PlaysLines plays first) (PrintsLines (lines_played first.world 1)) (PrintsLine plays)
+    (PrintsOne lines_played)
+    (prints_lines plays (λ (c : Cluster). lines_played c.world) (λ a b number line feed text fault made. made)
+    (λ c number. nothing_is_played c.world number) first)
+    (λ text made.
+    let it = prints_one plays (λ (c : Cluster). lines_played c.world) (λ a b number line feed more fault one. one) (λ c number. nothing_is_played c.world number) first text made in (it.0.world, it.1, it.2, it.3))
     new ending turn

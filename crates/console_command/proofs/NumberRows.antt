@@ -39,10 +39,12 @@ module _ (id : Text) (low high : ℕ) where
   fine_append (x ∷ xs) ys a b = (a.0, fine_append xs ys a.1 b)
 
   -- a change of the rows of any option
-  fine_at_row : (name : Text) (change : Row → List Row) (missing : List Row) → ((r : Row) → IsFineRow r → AreFine (change r)) → AreFine missing
+  fine_at_row : (name : Text) (change : Row → List Row) (missing : List Row) → ((r : Row) → IsFineRow r → AreFine (change r))
+      → AreFine missing
       → (rows : List Row) → AreFine rows → AreFine (at_row name change missing rows)
   fine_at_row name change missing changes none [] all = none
-  fine_at_row name change missing changes none (r ∷ rs) all = go (bytes_eq r.id name) (fine_at_row name change missing changes none rs all.1)
+  fine_at_row name change missing changes none (r ∷ rs) all =
+      go (bytes_eq r.id name) (fine_at_row name change missing changes none rs all.1)
     where
       go : (b : Bool) → AreFine (at_row name change missing rs) → AreFine (cond b (change r ++ rs) (r ∷ at_row name change missing rs))
       go true later = fine_append (change r) rs (changes r all.0) all.1
@@ -93,7 +95,8 @@ pub still_has : (id name : Text) (how : Reading) (s : ValueSource) (values : Lis
 still_has id name how s values [] has = absurd (true≢false (sym has))
 still_has id name how s values (r ∷ rs) has = go (bytes_eq r.id name) (bytes_eq r.id id) refl has (still_has id name how s values rs)
   where
-    go : (b d : Bool) → bytes_eq r.id id ≡ d → (d || has_row id rs) ≡ true → (has_row id rs ≡ true → has_row id (with_values name how s values rs) ≡ true)
+    go : (b d : Bool) → bytes_eq r.id id ≡ d → (d || has_row id rs) ≡ true
+        → (has_row id rs ≡ true → has_row id (with_values name how s values rs) ≡ true)
         → has_row id (cond b (more_values s values r ++ rs) (r ∷ with_values name how s values rs)) ≡ true
     go true d is here later = ap (λ b. b || has_row id rs) is ∙ here
     go false true is here later = ap (λ b. b || has_row id (with_values name how s values rs)) is

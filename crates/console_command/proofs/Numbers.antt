@@ -72,7 +72,8 @@ pub accepted_in_range : (low high : ℕ) (text : Text) → high < 4294967296 →
     → (low ≤ number_or_zero (without_minus text)) × (number_or_zero (without_minus text) ≤ high)
 accepted_in_range low high text fits accepted = go (parses (without_minus text)).0 (parses (without_minus text)).1
   where
-    read : (r : Option ℕ) → ReadsOne {E = Unit {0}} (ParsesUnsigned 32 10) (without_minus text) r → (n : ℕ) × (r ≡ Some n) × (low ≤ n) × (n ≤ high)
+    read : (r : Option ℕ) → ReadsOne {E = Unit {0}} (ParsesUnsigned 32 10) (without_minus text) r
+        → (n : ℕ) × (r ≡ Some n) × (low ≤ n) × (n ≤ high)
     read r h = signed_reads (Unit {0}) (ParsesUnsigned 32 10) 32 low high text r h (λ u x g. g) fits
         (accepts-Accepts false (parser.Signed (pos low) (pos high)) text accepted)
 

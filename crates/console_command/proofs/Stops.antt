@@ -33,7 +33,8 @@ module _ (s : Shape) (helps : s.disable_help_subcommand ≡ false) where
   flag_step waiting word h plain = plain_step waiting word h
   flag_step waiting word h refused = plain_step waiting word h
 
-  other_step : (waiting : Waiting) (word : Text) (h : Held) (flag : Option (Text × Option Text)) → IsNoHelp (long_or_other s.rules waiting word flag h).1
+  other_step : (waiting : Waiting) (word : Text) (h : Held) (flag : Option (Text × Option Text))
+      → IsNoHelp (long_or_other s.rules waiting word flag h).1
   other_step waiting word h (Some p) = flag_step waiting word _ _
   other_step waiting word h None = go (short_of word)
     where

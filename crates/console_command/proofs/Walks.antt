@@ -91,7 +91,8 @@ module _ (s : Shape) (P : List Row → Type 0) (keeps : Every (Keeps s.args_over
   long_keeps name v h = go (arg_by_long s.rules name) refl
     where
       takes : (a : Rule) → Keeps s.args_override_self P a → (b : Bool)
-          → cond b (option_fault s.rules s.args_override_self a v h) (cond (is_some v) (kind.TooManyValues ∷ []) (react_fault s.rules s.args_override_self a [] h)) ≡ []
+          → cond b (option_fault s.rules s.args_override_self a v h)
+          (cond (is_some v) (kind.TooManyValues ∷ []) (react_fault s.rules s.args_override_self a [] h)) ≡ []
           → P h.rows → P (cond b (option_met s.rules a v h) (flag_met s.rules a v h)).0.rows
       takes a kept true e rows = option_keeps a kept v h e rows
       takes a kept false e rows = flag_keeps a kept v h e rows
@@ -104,12 +105,14 @@ module _ (s : Shape) (P : List Row → Type 0) (keeps : Every (Keeps s.args_over
   -- ---- bundles of short options
 
   abbrev BundleKeeps : (Text → ℕ → Held → Kinds) → (Text → ℕ → Outcome → Held → Held × Outcome) → Type 0
-  BundleKeeps faults met = (flags : Text) (skip : ℕ) (so_far : Outcome) (h : Held) → Fine (faults flags skip h) h (met flags skip so_far h).0
+  BundleKeeps faults met =
+      (flags : Text) (skip : ℕ) (so_far : Outcome) (h : Held) → Fine (faults flags skip h) h (met flags skip so_far h).0
 
   -- one flag of a bundle, and then the rest
   short_keeps : (x : ℕ) (rest : Text) (h : Held) (faults : Held → Kinds) (met : Held → Held × Outcome)
       → ((k : Held) → Fine (faults k) k (met k).0)
-      → Fine (short_fault s.rules s.args_override_self (arg_by_short s.rules x) rest h faults) h (short_met s.rules (arg_by_short s.rules x) rest h met).0
+      → Fine (short_fault s.rules s.args_override_self (arg_by_short s.rules x) rest h faults) h
+      (short_met s.rules (arg_by_short s.rules x) rest h met).0
   short_keeps x rest h faults met after = go (arg_by_short s.rules x) refl
     where
       takes : (a : Rule) → Keeps s.args_override_self P a → (b : Bool)
@@ -208,7 +211,8 @@ module _ (s : Shape) (P : List Row → Type 0) (keeps : Every (Keeps s.args_over
   step_keeps w word h (subcommand name) e rows = rows
   step_keeps w word h value e rows = value_keeps w word h e rows
 
-  turn_keeps : (names : Names) (w : Walk) (word : Text) → turn_fault s names w word ≡ [] → P w.held.rows → P (walked s.rules names w word).held.rows
+  turn_keeps : (names : Names) (w : Walk) (word : Text) → turn_fault s names w word ≡ [] → P w.held.rows
+      → P (walked s.rules names w word).held.rows
   unfolding walked
   turn_keeps names w word e rows = go w.stopped e
     where
@@ -218,7 +222,9 @@ module _ (s : Shape) (P : List Row → Type 0) (keeps : Every (Keeps s.args_over
           (word_met s.rules names w.is_trailing w.waiting w.position word w.held).1)) ≡ []
           → P (walked_from s.rules names stopped w word).held.rows
       go (Some p) none = rows
-      go None none = step_keeps w word _ _ (no_next _ _ none) (word_keeps names w.is_trailing w.waiting w.position word w.held (no_first _ _ none) rows)
+      go None none =
+          step_keeps w word _ _ (no_next _ _ none) (word_keeps names w.is_trailing w.waiting w.position word w.held (no_first _ _ none)
+          rows)
 
   pub walk_keeps : (names : Names) (words : List Text) (w : Walk) → walk_fault s names w words ≡ [] → P w.held.rows
       → P (fold (walked s.rules names) w words).held.rows
@@ -238,7 +244,8 @@ module _ (s : Shape) (P : List Row → Type 0) (keeps : Every (Keeps s.args_over
       settle_keeps (walk s.rules names nothing_held words).held settle_is (walk_keeps names words (walk_from nothing_held) walk_is rows)
 
 -- where a level has no fault, its last checks found none
-pub checks_pass : (s : Shape) (names : Names) (words : List Text) (there : Bool) (below : Kinds) → level_fault s names nothing_held words there below ≡ []
+pub checks_pass : (s : Shape) (names : Names) (words : List Text) (there : Bool) (below : Kinds)
+    → level_fault s names nothing_held words there below ≡ []
     → check_fault s (finished s.rules (walk s.rules names nothing_held words).held) there ≡ []
 checks_pass s names words there below e =
     let end = (walk s.rules names nothing_held words).held in
@@ -253,7 +260,8 @@ missing_is_told false true argument is e = true≢false (ap is_faulty e)
 missing_is_told false false argument is e = true≢false (sym is)
 
 -- a required subcommand is there, where its absence is no fault
-pub required_there : (s : Shape) (rows : List Row) (there : Bool) → s.subcommand_required ≡ true → check_fault s rows there ≡ [] → there ≡ true
+pub required_there : (s : Shape) (rows : List Row) (there : Bool) → s.subcommand_required ≡ true → check_fault s rows there ≡ []
+    → there ≡ true
 required_there s rows true required e = refl
 required_there s rows false required e = absurd (missing_is_told
     (s.arg_required_else_help && not (list_any (λ r. explicit_source r.source) rows)) s.subcommand_required _ required e)

@@ -2,7 +2,7 @@
 use Rattle.std.specs.Prelude.{◌≡◌, ℕ, ◌+◌, ◌-◌, ◌++◌, Bool, true, false, List, map}
 use Rattle.std.specs.List.{range_with_len}
 use Rattle.directory_rules.specs.Event.{Event, See}
-use Rattle.directory_rules.specs.World.{World}
+use Rattle.directory_rules.specs.State.{World}
 use Rattle.directory_rules.specs.Happens.{happens}
 use Rattle.script_rules.specs.Output.{Session, Performed, after_event, deliver_next, events_in_turn}
 use Rattle.texts.specs.Printed.{text_of_lines}

@@ -1,7 +1,7 @@
 -- Lines played to a cluster, by the rule.
 use Rattle.std.specs.Prelude.{◌≡◌, ℕ, ◌+◌, ◌<◌, List, [], ◌∷◌, length, refl}
 use Rattle.std.proofs.lemmas.Bool.{lt-ltb}
-use Rattle.directory_rules.specs.World.{World}
+use Rattle.directory_rules.specs.State.{World}
 use Rattle.script_rules.specs.Output.{played}
 use Rattle.script_rules.specs.Script.{longest_line, read_line}
 use Rattle.texts.specs.Printed.{Output}

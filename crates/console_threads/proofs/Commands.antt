@@ -22,21 +22,27 @@ use Rattle.console_threads.specs.Kept.{KeepsLine, KeepsLines, PlaysAndKeeps}
 use Rattle.console_threads.specs.declared.script.Script.{Script}
 
 -- a line without a command
-pub kept_none : (line : List ℕ) (commands : List Command) → rule.read_line line ≡ Ok None → KeepsLine line (map command_of commands) (map command_of commands)
+pub kept_none : (line : List ℕ) (commands : List Command) → rule.read_line line ≡ Ok None
+    → KeepsLine line (map command_of commands) (map command_of commands)
 kept_none line commands read =
-    sym (append-nil (map command_of commands)) ∙ ap (λ (r : Result (Option rule.Command) ℕ). map command_of commands ++ command_in r) (sym read)
+    sym (append-nil (map command_of commands)) ∙ ap (λ (r : Result (Option rule.Command) ℕ). map command_of commands ++ command_in r)
+    (sym read)
 
 -- one with a fault
-pub kept_at_fault : (line : List ℕ) (commands : List Command) (fault : ℕ) → rule.read_line line ≡ Err fault → KeepsLine line (map command_of commands) (map command_of commands)
+pub kept_at_fault : (line : List ℕ) (commands : List Command) (fault : ℕ) → rule.read_line line ≡ Err fault
+    → KeepsLine line (map command_of commands) (map command_of commands)
 kept_at_fault line commands fault read =
-    sym (append-nil (map command_of commands)) ∙ ap (λ (r : Result (Option rule.Command) ℕ). map command_of commands ++ command_in r) (sym read)
+    sym (append-nil (map command_of commands)) ∙ ap (λ (r : Result (Option rule.Command) ℕ). map command_of commands ++ command_in r)
+    (sym read)
 
 -- one with a command
-pub kept_one : (line : List ℕ) (commands after : List Command) (command : Command) → rule.read_line line ≡ Ok (Some (command_of command)) → after ≡ commands ++ command ∷ []
+pub kept_one : (line : List ℕ) (commands after : List Command) (command : Command) → rule.read_line line ≡ Ok (Some (command_of command))
+    → after ≡ commands ++ command ∷ []
     → KeepsLine line (map command_of commands) (map command_of after)
 kept_one line commands after command read is =
     ap (λ (all : List Command). map command_of all) is
-    ∙ (map-append command_of commands (command ∷ []) ∙ ap (λ (r : Result (Option rule.Command) ℕ). map command_of commands ++ command_in r) (sym read))
+    ∙ (map-append command_of commands (command ∷ [])
+    ∙ ap (λ (r : Result (Option rule.Command) ℕ). map command_of commands ++ command_in r) (sym read))
 
 -- ---- Lines one after the other.
 
@@ -48,32 +54,40 @@ kept_by script = map command_of script.commands.items
 abbrev pub plays : Script → ℕ → List ℕ → Bool → List ℕ → Option ScriptLineFault → Script → Type 0
 plays old number line feed text fault new = PlaysAndKeeps number line text fault (kept_by old) (kept_by new)
 
-commands_behind : (lines others : List (List ℕ)) → commands_of (map stripped (lines ++ others)) ≡ commands_of (map stripped lines) ++ commands_of (map stripped others)
+commands_behind : (lines others : List (List ℕ)) → commands_of (map stripped (lines ++ others)) ≡ commands_of (map stripped lines) ++
+    commands_of (map stripped others)
 commands_behind lines others =
-    ap commands_of (map-append stripped lines others) ∙ flat_map-append (λ (line : List ℕ). command_in (rule.read_line line)) (map stripped lines) (map stripped others)
+    ap commands_of (map-append stripped lines others)
+    ∙ flat_map-append (λ (line : List ℕ). command_in (rule.read_line line)) (map stripped lines) (map stripped others)
 
-kept_in_turn : (first now : Script) (lines : List (List ℕ)) (text : List ℕ) → PlaysOn plays first lines text now → kept_by now ≡ kept_by first ++ commands_of (map stripped lines)
+kept_in_turn : (first now : Script) (lines : List (List ℕ)) (text : List ℕ) → PlaysOn plays first lines text now
+    → kept_by now ≡ kept_by first ++ commands_of (map stripped lines)
 kept_in_turn first now lines text no_line = sym (append-nil (kept_by first))
 kept_in_turn first now lines text (then_line {lines = front} {text = before} {before = between} on line more made) =
     made.1
     ∙ (ap (λ (l : List rule.Command). l ++ command_in (rule.read_line (stripped line))) (kept_in_turn first between front before on)
     ∙ (append_assoc (kept_by first) (commands_of (map stripped front)) (command_in (rule.read_line (stripped line)))
     ∙ ap (λ (l : List rule.Command). kept_by first ++ l)
-    (ap (λ (l : List rule.Command). commands_of (map stripped front) ++ l) (sym (append-nil (command_in (rule.read_line (stripped line))))) ∙ sym (commands_behind front (line ∷ [])))))
+    (ap (λ (l : List rule.Command). commands_of (map stripped front) ++ l) (sym (append-nil (command_in (rule.read_line (stripped line)))))
+    ∙ sym (commands_behind front (line ∷ [])))))
 
 -- where all were played, those of the last too
-kept_to_the_end : (first last : Script) (script text : List ℕ) → PlaysTo plays first (pieces_at line_feed script) text None last → kept_by last ≡ kept_by first ++ commands_of (rule.lines_of script)
+kept_to_the_end : (first last : Script) (script text : List ℕ) → PlaysTo plays first (pieces_at line_feed script) text None last
+    → kept_by last ≡ kept_by first ++ commands_of (rule.lines_of script)
 kept_to_the_end first last script text to =
     let cut : pieces_at line_feed script ≡ to.lines ++ to.line ∷ [] = to.cut ∙ ap (λ (ls : List (List ℕ)). to.lines ++ to.line ∷ ls) (to.whole refl) in
     to.plays_line.1
-    ∙ (ap (λ (l : List rule.Command). l ++ command_in (rule.read_line (stripped to.line))) (kept_in_turn first to.between to.lines to.before to.on)
+    ∙ (ap (λ (l : List rule.Command). l ++ command_in (rule.read_line (stripped to.line)))
+    (kept_in_turn first to.between to.lines to.before to.on)
     ∙ (append_assoc (kept_by first) (commands_of (map stripped to.lines)) (command_in (rule.read_line (stripped to.line)))
     ∙ ap (λ (l : List rule.Command). kept_by first ++ l)
-    (ap (λ (l : List rule.Command). commands_of (map stripped to.lines) ++ l) (sym (append-nil (command_in (rule.read_line (stripped to.line)))))
+    (ap (λ (l : List rule.Command). commands_of (map stripped to.lines) ++ l)
+    (sym (append-nil (command_in (rule.read_line (stripped to.line)))))
     ∙ (sym (commands_behind to.lines (to.line ∷ [])) ∙ ap (λ (ps : List (List ℕ)). commands_of (map stripped ps)) (sym cut)))))
 
 -- so the commands of a script are kept
-pub lines_kept : (first last : Script) (read rest begun written : Option (List ℕ)) (end : Ended ScriptLineFault) → IfSome read (λ script. Ends plays most_read first last script rest begun written end)
+pub lines_kept : (first last : Script) (read rest begun written : Option (List ℕ)) (end : Ended ScriptLineFault)
+    → IfSome read (λ script. Ends plays most_read first last script rest begun written end)
     → IfSome read (λ script. KeepsLines script (kept_by first) (kept_by last) end)
 lines_kept first last None rest begun written end ends = tt
 lines_kept first last (Some script) rest begun written ended.AtEnd ends = kept_to_the_end first last script ends.text ends.concludes
@@ -83,15 +97,19 @@ lines_kept first last (Some script) rest begun written ended.OutOfMemory ends = 
 lines_kept first last (Some script) rest begun written ended.Broken ends = tt
 
 -- and its fault is printed
-pub lines_end : (first last : Script) (read rest begun written : Option (List ℕ)) (end : Ended ScriptLineFault) → IfSome read (λ script. Ends plays most_read first last script rest begun written end)
+pub lines_end : (first last : Script) (read rest begun written : Option (List ℕ)) (end : Ended ScriptLineFault)
+    → IfSome read (λ script. Ends plays most_read first last script rest begun written end)
     → IfSome read (λ script. WritesScript (faults_alone 1) script rest begun written end)
 lines_end first last None rest begun written end ends = tt
 lines_end first last (Some script) rest begun written end ends =
-    writes_script plays (λ s. faults_alone) (λ a b number line feed text fault made. made.0) (λ s number. nothing_is_wrong number) first last script rest begun written end ends
+    writes_script plays (λ s. faults_alone) (λ a b number line feed text fault made. made.0) (λ s number. nothing_is_wrong number) first
+    last script rest begun written end ends
 
 -- those of a player that kept none before are the script's
-pub carried_whole : (settings : Settings) (journal : List EntryValue) (script : List ℕ) (before after : Script) (end : Ended ScriptLineFault) → before.commands.items ≡ [] → KeepsLines script (kept_by before) (kept_by after) end
+pub carried_whole : (settings : Settings) (journal : List EntryValue) (script : List ℕ) (before after : Script)
+    (end : Ended ScriptLineFault) → before.commands.items ≡ [] → KeepsLines script (kept_by before) (kept_by after) end
     → CarriesOut settings journal (kept_by after) → HasCarriedOut settings journal script end
 carried_whole settings journal script before after ended.AtEnd none keeps carried =
-    subst (CarriesOut settings journal) (keeps ∙ ap (λ (l : List Command). map command_of l ++ commands_of (rule.lines_of script)) none) carried
+    subst (CarriesOut settings journal) (keeps ∙ ap (λ (l : List Command). map command_of l ++ commands_of (rule.lines_of script)) none)
+    carried
 carried_whole settings journal script before after other none keeps carried = tt

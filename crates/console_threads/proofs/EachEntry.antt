@@ -18,12 +18,14 @@ use Rattle.cluster_journal.specs.declared.entry.Receipt.{Receipt}
 
 -- ---- Numbers of entries.
 
-behind_zero : (is_zero : Bool) (found : Option EntryValue) (entry : EntryValue) → (if is_zero then None else found) ≡ Some entry → (is_zero ≡ false) × (found ≡ Some entry)
+behind_zero : (is_zero : Bool) (found : Option EntryValue) (entry : EntryValue) → (if is_zero then None else found) ≡ Some entry
+    → (is_zero ≡ false) × (found ≡ Some entry)
 behind_zero true found entry is = absurd (cc)
 behind_zero false found entry is = (refl, is)
 
 -- they are from 1 on, up to how many entries there are
-numbered : (journal : List EntryValue) (number : ℕ) (entry : EntryValue) → entry_at journal number ≡ Some entry → (0 < number) × (number < length journal + 1)
+numbered : (journal : List EntryValue) (number : ℕ) (entry : EntryValue) → entry_at journal number ≡ Some entry
+    → (0 < number) × (number < length journal + 1)
 numbered journal number entry is =
     let found = behind_zero (number == 0) (slice_get journal (number - 1)) entry is in
     let within = slice_get_within journal (number - 1) entry found.1 in
@@ -34,7 +36,8 @@ numbered journal number entry is =
 abbrev numbers_of : List Receipt → List ℕ
 numbers_of receipts = map (λ (receipt : Receipt). receipt.number) receipts
 
-number_at : (receipts : List Receipt) (index : ℕ) (d : Receipt) (e : ℕ) → index < length receipts → get_or (numbers_of receipts) index e ≡ (get_or receipts index d).number
+number_at : (receipts : List Receipt) (index : ℕ) (d : Receipt) (e : ℕ) → index < length receipts
+    → get_or (numbers_of receipts) index e ≡ (get_or receipts index d).number
 number_at receipts index d e within = get_or-map (λ (r : Receipt). r.number) receipts index d e within
 
 many_numbers : (receipts : List Receipt) → length (numbers_of receipts) ≡ length receipts
@@ -61,7 +64,8 @@ module _ (journal : List EntryValue) (receipts : List Receipt) (d : Receipt) (ag
       let its = many_numbers receipts in
       let later : j < length receipts = omega (within, its, arith) in
       let sooner : i < length receipts = omega (less, later, arith) in
-      rw (number_at receipts i d e sooner) (rw (number_at receipts j d e later) (ne_eqb (get_or receipts i d).number (get_or receipts j d).number (agree.apart i j d less later))))
+      rw (number_at receipts i d e sooner) (rw (number_at receipts j d e later)
+      (ne_eqb (get_or receipts i d).number (get_or receipts j d).number (agree.apart i j d less later))))
 
   -- so there is no room for a number besides these, and 0
   no_other : (number : ℕ) → (0 < number) × (number < length journal + 1) → list_any (eqb number) (numbers_of receipts) ≡ false → ⊥
@@ -86,7 +90,8 @@ module _ (journal : List EntryValue) (receipts : List Receipt) (d : Receipt) (ag
       omega (within, many, agree.many, arith)
 
   -- where a number is found, its receipt is
-  found_at : (number : ℕ) → list_any (eqb number) (numbers_of receipts) ≡ true → Any (λ (receipt : Receipt). receipt.number ≡ number) receipts
+  found_at : (number : ℕ) → list_any (eqb number) (numbers_of receipts) ≡ true
+      → Any (λ (receipt : Receipt). receipt.number ≡ number) receipts
   found_at number found =
       let at = Any-from_list_any (eqb number) (numbers_of receipts) found in
       let many = many_numbers receipts in
@@ -95,12 +100,15 @@ module _ (journal : List EntryValue) (receipts : List Receipt) (d : Receipt) (ag
       (at.0, get_or receipts at.0 d, here, get_or_default receipts at.0 _ d here, sym its ∙ (at.3 ∙ sym (eqb-true number at.1 at.4)))
 
 -- each entry of a journal has its receipt among those that agree with it
-pub each_entry_has_its_receipt : (journal : List EntryValue) (receipts : List Receipt) (number : ℕ) (entry : EntryValue) → Agree journal receipts → entry_at journal number ≡ Some entry
+pub each_entry_has_its_receipt : (journal : List EntryValue) (receipts : List Receipt) (number : ℕ) (entry : EntryValue)
+    → Agree journal receipts → entry_at journal number ≡ Some entry
     → Any (λ (receipt : Receipt). receipt.number ≡ number) receipts
-each_entry_has_its_receipt journal [] number entry agree is = let its = numbered journal number entry is in absurd (omega (its.0, its.1, agree.many, arith))
+each_entry_has_its_receipt journal [] number entry agree is =
+    let its = numbered journal number entry is in absurd (omega (its.0, its.1, agree.many, arith))
 each_entry_has_its_receipt journal (receipt ∷ more) number entry agree is =
     let receipts = receipt ∷ more in
-    elim (list_any (eqb number) (numbers_of receipts)) as (λ b. list_any (eqb number) (numbers_of receipts) ≡ b → Any (λ (r : Receipt). r.number ≡ number) receipts) [
+    elim (list_any (eqb number) (numbers_of receipts)) as
+    (λ b. list_any (eqb number) (numbers_of receipts) ≡ b → Any (λ (r : Receipt). r.number ≡ number) receipts) [
       | true ↦ λ found. found_at journal receipts receipt agree number found
       | false ↦ λ none. absurd (no_other journal receipts receipt agree number (numbered journal number entry is) none)
     ] refl

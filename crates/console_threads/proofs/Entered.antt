@@ -23,7 +23,8 @@ use Rattle.console_threads.proofs.EachEntry.{each_entry_has_its_receipt}
 module _ (journal : List EntryValue) where
   -- ---- The driver's are among all.
 
-  module _ (settings : Settings) (seen : List EntryValue) (cluster : ClusterValue) (receipts all : List Receipt) (amount total : ℕ) (has : HasMore settings seen cluster.workers receipts all amount total) (agree : Agree journal all) where
+  module _ (settings : Settings) (seen : List EntryValue) (cluster : ClusterValue) (receipts all : List Receipt) (amount total : ℕ)
+      (has : HasMore settings seen cluster.workers receipts all amount total) (agree : Agree journal all) where
     many : length all ≡ length receipts + length has.more
     many = ap (λ (l : List Receipt). length l) has.kept ∙ length-append receipts has.more
 
@@ -36,18 +37,23 @@ module _ (journal : List EntryValue) where
     -- ---- The others are the silos' deliveries.
 
     -- the entry that a receipt is of
-    its_entry : (receipt : Receipt) (number : ℕ) (entry : EntryValue) → Stands journal receipt → receipt.number ≡ number → entry_at journal number ≡ Some entry → receipt.entry ≡ entry
-    its_entry receipt number entry stands same at = ap (λ (o : Option EntryValue). unwrap_or o receipt.entry) (sym stands ∙ (ap (entry_at journal) same ∙ at))
+    its_entry : (receipt : Receipt) (number : ℕ) (entry : EntryValue) → Stands journal receipt → receipt.number ≡ number
+        → entry_at journal number ≡ Some entry → receipt.entry ≡ entry
+    its_entry receipt number entry stands same at =
+        ap (λ (o : Option EntryValue). unwrap_or o receipt.entry) (sym stands ∙ (ap (entry_at journal) same ∙ at))
 
-    delivery : (receipt : Receipt) (entry : EntryValue) → IsDeliveryToOneOf settings seen cluster.workers receipt → receipt.entry ≡ entry → IsDelivery entry.event
+    delivery : (receipt : Receipt) (entry : EntryValue) → IsDeliveryToOneOf settings seen cluster.workers receipt → receipt.entry ≡ entry
+        → IsDelivery entry.event
     delivery receipt entry delivered is = subst (λ (e : EntryValue). IsDelivery e.event) is (subst IsDelivery (sym delivered.4.told.its) tt)
 
     -- a receipt behind the driver's is of a delivery
-    behind : (k : ℕ) (receipt : Receipt) → length receipts ≤ k → k < length all → get_or all k receipt ≡ receipt → IsDeliveryToOneOf settings seen cluster.workers receipt
+    behind : (k : ℕ) (receipt : Receipt) → length receipts ≤ k → k < length all → get_or all k receipt ≡ receipt
+        → IsDeliveryToOneOf settings seen cluster.workers receipt
     behind k receipt later within is =
         let its = many in
         let place = ap (λ (l : List Receipt). get_or l k receipt) (sym has.kept) in
-        subst (IsDeliveryToOneOf settings seen cluster.workers) (sym (get_or-append_right receipts has.more k receipt later) ∙ (place ∙ is)) (has.its (k - length receipts) receipt (omega (within, later, its, arith)))
+        subst (IsDeliveryToOneOf settings seen cluster.workers) (sym (get_or-append_right receipts has.more k receipt later) ∙ (place ∙ is))
+        (has.its (k - length receipts) receipt (omega (within, later, its, arith)))
 
     pub deliveries_beside : HasDeliveriesBeside journal (numbers_of receipts)
     deliveries_beside number entry at =
@@ -63,14 +69,18 @@ module _ (journal : List EntryValue) where
           | inl more ↦
               let later = more.1 in
               let delivered = behind k receipt later found.2 found.3 in
-              inr (delivery receipt entry delivered (its_entry receipt number entry (subst (Stands journal) found.3 (agree.stand k receipt found.2)) found.4 at))
+              inr (delivery receipt entry delivered (its_entry receipt number entry
+              (subst (Stands journal) found.3 (agree.stand k receipt found.2)) found.4 at))
         ]
 
 -- ---- Of a cluster that was closed.
 
-pub closed_carries_out : {E : Type 0} (settings : Settings) (closed : Result BoardValue E) (commands : List Command) (seen now : List EntryValue) (before receipts : List Receipt) (lacks : Bool) → before ≡ []
-    → seen ≡ [] → (lacks ≡ false → Puts (λ journal from to. AreCarriedOut settings journal from to commands) seen now before receipts) → OnOk closed (lacks ≡ false)
-    → IfOk closed (λ board. IsPrefix now board.journal) → IfOk closed (λ board. HasDeliveriesBeside board.journal (numbers_of receipts)) → IfOk closed (λ board. CarriesOut settings board.journal commands)
+pub closed_carries_out : {E : Type 0} (settings : Settings) (closed : Result BoardValue E) (commands : List Command)
+    (seen now : List EntryValue) (before receipts : List Receipt) (lacks : Bool) → before ≡ []
+    → seen ≡ [] → (lacks ≡ false → Puts (λ journal from to. AreCarriedOut settings journal from to commands) seen now before receipts)
+    → OnOk closed (lacks ≡ false)
+    → IfOk closed (λ board. IsPrefix now board.journal) → IfOk closed (λ board. HasDeliveriesBeside board.journal (numbers_of receipts))
+    → IfOk closed (λ board. CarriesOut settings board.journal commands)
 closed_carries_out settings (Ok board) commands seen now before receipts lacks none nothing puts all begins beside =
     let its = puts all in
     let is : its.more ≡ receipts = sym (its.kept ∙ ap (λ (l : List Receipt). l ++ its.more) none) in
@@ -78,7 +88,8 @@ closed_carries_out settings (Ok board) commands seen now before receipts lacks n
       numbers = numbers_of receipts;
       known = length now;
       carried = subst (λ (l : List Receipt). AreCarriedOut settings board.journal 0 (length now) commands (numbers_of l)) is
-          (subst (λ (l : List EntryValue). AreCarriedOut settings board.journal (length l) (length now) commands (numbers_of its.more)) nothing (its.its board.journal begins));
+          (subst (λ (l : List EntryValue). AreCarriedOut settings board.journal (length l) (length now) commands (numbers_of its.more))
+          nothing (its.its board.journal begins));
       beside = beside;
     }
 closed_carries_out settings (Err error) commands seen now before receipts lacks none nothing puts all begins beside = tt

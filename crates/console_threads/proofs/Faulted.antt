@@ -10,12 +10,15 @@ use Rattle.line_loop.specs.declared.fault.ScriptLineFault.{ScriptLineFault}
 use Rattle.threaded_play.specs.Faults.{faults_alone, line_told}
 
 -- a line without a fault, whatever it does
-pub passed_over : (number : ℕ) (line : List ℕ) (command : Option Command) → read_line (stripped line) ≡ Ok command → PlaysLine faults_alone faults_alone number line [] None
+pub passed_over : (number : ℕ) (line : List ℕ) (command : Option Command) → read_line (stripped line) ≡ Ok command
+    → PlaysLine faults_alone faults_alone number line [] None
 unfolding faults_alone
 passed_over number line command is = λ lines. ap (λ r. line_told r number (faults_alone (number + 1) lines)) is
 
 -- a fault
-pub fault_told : (number : ℕ) (line : List ℕ) (fault : ScriptLineFault) → fault.line ≡ number → read_line (stripped line) ≡ Err (script_fault_number fault.fault) → PlaysLine faults_alone faults_alone number line (told_fault fault) (Some fault)
+pub fault_told : (number : ℕ) (line : List ℕ) (fault : ScriptLineFault) → fault.line ≡ number
+    → read_line (stripped line) ≡ Err (script_fault_number fault.fault)
+    → PlaysLine faults_alone faults_alone number line (told_fault fault) (Some fault)
 unfolding faults_alone
 fault_told number line fault its_line is =
     let code = script_fault_number fault.fault in (
@@ -26,7 +29,9 @@ fault_told number line fault its_line is =
     )
 
 -- its text
-pub fault_behind : (number : ℕ) (before after : List ℕ) (fault : ScriptLineFault) → fault.line ≡ number → after ≡ before ++ printed (fault_line number (script_fault_number fault.fault)) → after ≡ before ++ told_fault fault
+pub fault_behind : (number : ℕ) (before after : List ℕ) (fault : ScriptLineFault) → fault.line ≡ number
+    → after ≡ before ++ printed (fault_line number (script_fault_number fault.fault)) → after ≡ before ++ told_fault fault
 fault_behind number before after fault its_line written =
     let code = script_fault_number fault.fault in
-    written ∙ (ap (λ (t : List ℕ). before ++ t) (sym (append-nil (printed (fault_line number code)))) ∙ ap (λ (n : ℕ). before ++ text_of_lines (fault_line n code ∷ [])) (sym its_line))
+    written ∙ (ap (λ (t : List ℕ). before ++ t) (sym (append-nil (printed (fault_line number code))))
+    ∙ ap (λ (n : ℕ). before ++ text_of_lines (fault_line n code ∷ [])) (sym its_line))

@@ -23,7 +23,8 @@ texts_lost old new (text_written text written after) = texts_lost _ new after
 texts_lost old new (text_broken text broken) = text_lost text old new broken
 
 -- so the reads were well, unless the play is broken
-pub read_well : {R : Type 0} (reads : R → Option (List ℕ) → R → Type 0) (source rest : R) (old new : Held) (end : Ended ScriptLineFault) → new.lost ≡ false
+pub read_well : {R : Type 0} (reads : R → Option (List ℕ) → R → Type 0) (source rest : R) (old new : Held) (end : Ended ScriptLineFault)
+    → new.lost ≡ false
     → MakesCalls reads keeps (source, old) (rest, new) end → ReadsInTurn reads source rest (is_read_well end)
 read_well reads source rest old new ended.Broken all (inl calls) = calls.0
 read_well reads source rest old new ended.Broken all (inr calls) = absurd (true≢false (sym (texts_lost old new calls.1) ∙ all))

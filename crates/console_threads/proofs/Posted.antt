@@ -7,7 +7,7 @@ use Rattle.directory_rules.specs.Event as rule
 use Rattle.directory_rules.specs.EventModel.{event_of}
 use Rattle.directory_rules.specs.Happens.{happens}
 use Rattle.directory_rules.specs.Settings.{Settings}
-use Rattle.directory_rules.specs.World.{World}
+use Rattle.directory_rules.specs.State.{World}
 use Rattle.directory_rules.specs.declared.event.Event.{Event}
 use Rattle.directory_rules.specs.declared.event.Event.TheVariants.{Deliver, Lose}
 use Rattle.cluster_journal.specs.Entry.{EntryValue}
@@ -27,19 +27,22 @@ use Rattle.console_threads.proofs.SoFar.{PutsSoFar, nothing_yet, then_last, then
 -- ---- What a command posts.
 
 -- an event that isn't the workers' own
-pub posts_itself : (event : Event) (world : World) → ((number : ℕ) → event ≡ Deliver number → ⊥) → ((number : ℕ) → event ≡ Lose number → ⊥) → posted_by world (script.Happen (event_of event)) ≡ event_of event ∷ []
+pub posts_itself : (event : Event) (world : World) → ((number : ℕ) → event ≡ Deliver number → ⊥) → ((number : ℕ) → event ≡ Lose number → ⊥)
+    → posted_by world (script.Happen (event_of event)) ≡ event_of event ∷ []
 posts_itself (Deliver number) world not_delivered not_lost = absurd (not_delivered number refl)
 posts_itself (Lose number) world not_delivered not_lost = absurd (not_lost number refl)
 posts_itself other world not_delivered not_lost = refl
 
 -- one that is
-no_delivery : (event : Event) (number : ℕ) → event ≡ Deliver number → (world : World) → posted_by world (script.Happen (event_of event)) ≡ []
+no_delivery : (event : Event) (number : ℕ) → event ≡ Deliver number → (world : World)
+    → posted_by world (script.Happen (event_of event)) ≡ []
 no_delivery event number is world = ap (λ (e : Event). posted_by world (script.Happen (event_of e))) is
 
 no_loss : (event : Event) (number : ℕ) → event ≡ Lose number → (world : World) → posted_by world (script.Happen (event_of event)) ≡ []
 no_loss event number is world = ap (λ (e : Event). posted_by world (script.Happen (event_of e))) is
 
-pub no_own : (event : Event) → ((number : ℕ) × (event ≡ Deliver number)) ⊎ ((number : ℕ) × (event ≡ Lose number)) → (world : World) → posted_by world (script.Happen (event_of event)) ≡ []
+pub no_own : (event : Event) → ((number : ℕ) × (event ≡ Deliver number)) ⊎ ((number : ℕ) × (event ≡ Lose number)) → (world : World)
+    → posted_by world (script.Happen (event_of event)) ≡ []
 no_own event (inl delivers) world = no_delivery event delivers.0 delivers.1 world
 no_own event (inr loses) world = no_loss event loses.0 loses.1 world
 
@@ -47,7 +50,8 @@ pub no_settling : (command : Command) → command ≡ commands.Settle → (world
 no_settling command is world = ap (λ (c : Command). posted_by world (command_of c)) is
 
 -- a command that asks for no event
-pub posts_none : (command : Command) (world : World) → ((event : Event) → command ≡ commands.Happen event → ⊥) → (command ≡ commands.Sync → ⊥) → posted_by world (command_of command) ≡ []
+pub posts_none : (command : Command) (world : World) → ((event : Event) → command ≡ commands.Happen event → ⊥)
+    → (command ≡ commands.Sync → ⊥) → posted_by world (command_of command) ≡ []
 posts_none (commands.Happen event) world not_event not_sync = absurd (not_event event refl)
 posts_none commands.Sync world not_event not_sync = absurd (not_sync refl)
 posts_none other world not_event not_sync = refl
@@ -59,7 +63,8 @@ module _ (settings : Settings) where
   known_world : (now journal : List EntryValue) → IsPrefix now journal → world_of settings now ≡ world_at settings journal (length now)
   known_world now journal begins = ap (λ (l : List EntryValue). world_of settings l) (sym (is_taken now journal begins))
 
-  refused_there : (seen now journal : List EntryValue) (event : rule.Event) (number : ℕ) → IsRefused settings seen now event number → IsPrefix now journal
+  refused_there : (seen now journal : List EntryValue) (event : rule.Event) (number : ℕ) → IsRefused settings seen now event number
+      → IsPrefix now journal
       → (length seen ≤ length now) × IsRefusedAt settings journal (length now) event
   refused_there seen now journal event number refused begins = (
     no_longer seen now refused.behind,
@@ -70,25 +75,35 @@ module _ (settings : Settings) where
     },
   )
 
-  entered_there : (seen now journal : List EntryValue) (event : rule.Event) (receipt : Receipt) → IsReceiptOf settings seen now event receipt → IsPrefix now journal
+  entered_there : (seen now journal : List EntryValue) (event : rule.Event) (receipt : Receipt)
+      → IsReceiptOf settings seen now event receipt → IsPrefix now journal
       → (length seen < receipt.number) × IsEntered journal event receipt.number
   entered_there seen now journal event receipt its begins =
       let before = no_longer seen its.journal its.behind in
-      let stands = prefix_then (its.journal ++ receipt.entry ∷ []) now journal its.stands begins in
-      (omega (before, its.number, arith), (receipt.entry, it_stands its.journal journal receipt.entry receipt.number stands its.number, its.its))
+      let stands = prefix_then (its.journal ++ receipt.entry ∷ []) now journal its.stands begins in (
+        omega (before, its.number, arith),
+        (
+          receipt.entry,
+          it_stands its.journal journal receipt.entry receipt.number stands its.number,
+          its.its,
+        ),
+      )
 
   -- ---- Events one after the other.
 
   abbrev pub Posted : List EntryValue → (before after : ℕ) → List rule.Event → List ℕ → Type 0
   Posted journal before after events numbers = ArePosted settings journal before after events numbers
 
-  module _ (all : List rule.Event) (seen : List EntryValue) (before : List Receipt) (left later : List rule.Event) (event : rule.Event) (now next : List EntryValue) (receipts after : List Receipt)
+  module _ (all : List rule.Event) (seen : List EntryValue) (before : List Receipt) (left later : List rule.Event) (event : rule.Event)
+      (now next : List EntryValue) (receipts after : List Receipt)
       (is : left ≡ event ∷ later) (so_far : PutsSoFar Posted all left seen now before receipts) where
     -- one that was refused, and then none
-    pub one_refused : IsPosted settings event false now next receipts after → Puts (λ journal from to. Posted journal from to all) seen next before after
+    pub one_refused : IsPosted settings event false now next receipts after
+        → Puts (λ journal from to. Posted journal from to all) seen next before after
     one_refused posted =
         then_last Posted all seen before left now next receipts after [] posted.0.1.behind (posted.1 ∙ sym (append-nil receipts)) so_far
-        (λ journal begins. subst (λ (l : List rule.Event). Posted journal (length now) (length next) l []) (sym is) (refused_there now next journal event posted.0.0 posted.0.1 begins))
+        (λ journal begins. subst (λ (l : List rule.Event). Posted journal (length now) (length next) l []) (sym is)
+        (refused_there now next journal event posted.0.0 posted.0.1 begins))
 
     -- one more that was accepted
     pub one_accepted : IsPosted settings event true now next receipts after → PutsSoFar Posted all later seen next before after
@@ -103,7 +118,8 @@ module _ (settings : Settings) where
         (there.0, there.1, subst (λ n. Posted journal n last later rest) (sym posted.2) rests))
 
   -- all were accepted
-  pub all_accepted : (all left : List rule.Event) (seen now : List EntryValue) (before receipts : List Receipt) → left ≡ [] → PutsSoFar Posted all left seen now before receipts
+  pub all_accepted : (all left : List rule.Event) (seen now : List EntryValue) (before receipts : List Receipt) → left ≡ []
+      → PutsSoFar Posted all left seen now before receipts
       → Puts (λ journal from to. Posted journal from to all) seen now before receipts
   all_accepted all left seen now before receipts is so_far =
       then_last Posted all seen before left now now receipts receipts [] (prefix_self now) (sym (append-nil receipts)) so_far
@@ -112,7 +128,8 @@ module _ (settings : Settings) where
   -- ---- A command.
 
   -- nothing was posted
-  pub nothing_performed : (command : script.Command) (seen : List EntryValue) (receipts : List Receipt) → ((world : World) → posted_by world command ≡ [])
+  pub nothing_performed : (command : script.Command) (seen : List EntryValue) (receipts : List Receipt)
+      → ((world : World) → posted_by world command ≡ [])
       → Puts (λ journal from to. IsCarriedOut settings journal from to command) seen seen receipts receipts
   nothing_performed command seen receipts none = record {
     more = [];
@@ -122,13 +139,17 @@ module _ (settings : Settings) where
       count = length seen;
       behind = omega arith;
       within = no_longer seen journal begins;
-      posted = subst (λ (l : List rule.Event). Posted journal (length seen) (length seen) l []) (sym (none (world_at settings journal (length seen)))) refl;
+      posted =
+          subst (λ (l : List rule.Event). Posted journal (length seen) (length seen) l [])
+          (sym (none (world_at settings journal (length seen)))) refl;
     };
   }
 
   -- events were posted that the command posts in the world of what was known then
-  pub performed : (command : script.Command) (events : List rule.Event) (seen known now : List EntryValue) (before receipts : List Receipt) → IsPrefix seen known
-      → events ≡ posted_by (world_of settings known) command → Puts (λ journal from to. Posted journal from to events) known now before receipts
+  pub performed : (command : script.Command) (events : List rule.Event) (seen known now : List EntryValue) (before receipts : List Receipt)
+      → IsPrefix seen known
+      → events ≡ posted_by (world_of settings known) command
+      → Puts (λ journal from to. Posted journal from to events) known now before receipts
       → Puts (λ journal from to. IsCarriedOut settings journal from to command) seen now before receipts
   performed command events seen known now before receipts goes are puts = record {
     more = puts.more;
@@ -146,14 +167,19 @@ module _ (settings : Settings) where
   }
 
   -- one that posts its event alone
-  pub event_performed : (event : rule.Event) (accepted : Bool) (seen now : List EntryValue) (before receipts : List Receipt) → ((world : World) → posted_by world (script.Happen event) ≡ event ∷ [])
-      → IsPosted settings event accepted seen now before receipts → Puts (λ journal from to. IsCarriedOut settings journal from to (script.Happen event)) seen now before receipts
+  pub event_performed : (event : rule.Event) (accepted : Bool) (seen now : List EntryValue) (before receipts : List Receipt)
+      → ((world : World) → posted_by world (script.Happen event) ≡ event ∷ [])
+      → IsPosted settings event accepted seen now before receipts
+      → Puts (λ journal from to. IsCarriedOut settings journal from to (script.Happen event)) seen now before receipts
   event_performed event true seen now before receipts posts posted =
       performed (script.Happen event) (event ∷ []) seen seen now before receipts (prefix_self seen) (sym (posts (world_of settings seen)))
-      (all_accepted (event ∷ []) [] seen now before receipts refl (one_accepted (event ∷ []) seen before (event ∷ []) [] event seen now before receipts refl (nothing_yet Posted (event ∷ []) seen before) posted))
+      (all_accepted (event ∷ []) [] seen now before receipts refl
+      (one_accepted (event ∷ []) seen before (event ∷ []) [] event seen now before receipts refl
+      (nothing_yet Posted (event ∷ []) seen before) posted))
   event_performed event false seen now before receipts posts posted =
       performed (script.Happen event) (event ∷ []) seen seen now before receipts (prefix_self seen) (sym (posts (world_of settings seen)))
-      (one_refused (event ∷ []) seen before (event ∷ []) [] event seen now before receipts refl (nothing_yet Posted (event ∷ []) seen before) posted)
+      (one_refused (event ∷ []) seen before (event ∷ []) [] event seen now before receipts refl
+      (nothing_yet Posted (event ∷ []) seen before) posted)
 
   -- ---- Commands one after the other.
 
@@ -161,15 +187,19 @@ module _ (settings : Settings) where
   Carried journal before after commands numbers = AreCarriedOut settings journal before after commands numbers
 
   -- one more was performed
-  pub one_performed : (all left later : List script.Command) (command : script.Command) (seen now next : List EntryValue) (before receipts after : List Receipt) → left ≡ command ∷ later
-      → Puts (λ journal from to. IsCarriedOut settings journal from to command) now next receipts after → PutsSoFar Carried all left seen now before receipts → PutsSoFar Carried all later seen next before after
+  pub one_performed : (all left later : List script.Command) (command : script.Command) (seen now next : List EntryValue)
+      (before receipts after : List Receipt) → left ≡ command ∷ later
+      → Puts (λ journal from to. IsCarriedOut settings journal from to command) now next receipts after
+      → PutsSoFar Carried all left seen now before receipts → PutsSoFar Carried all later seen next before after
   one_performed all left later command seen now next before receipts after is puts so_far =
       then_more Carried all seen before left now next receipts after puts.more puts.begins puts.kept so_far later
-      (λ journal begins last rest rests. subst (λ (l : List script.Command). Carried journal (length now) last l (numbers_of puts.more ++ rest)) (sym is)
+      (λ journal begins last rest rests. subst (λ (l : List script.Command). Carried journal (length now) last l
+      (numbers_of puts.more ++ rest)) (sym is)
       (then_command (numbers_of puts.more) (puts.its journal begins) rests))
 
   -- all were
-  pub all_performed : (all left : List script.Command) (seen now : List EntryValue) (before receipts : List Receipt) → left ≡ [] → PutsSoFar Carried all left seen now before receipts
+  pub all_performed : (all left : List script.Command) (seen now : List EntryValue) (before receipts : List Receipt) → left ≡ []
+      → PutsSoFar Carried all left seen now before receipts
       → Puts (λ journal from to. Carried journal from to all) seen now before receipts
   all_performed all left seen now before receipts is so_far =
       then_last Carried all seen before left now now receipts receipts [] (prefix_self now) (sym (append-nil receipts)) so_far
@@ -181,9 +211,11 @@ where_well (Ok value) goes p = goes p
 where_well (Err error) goes p = tt
 
 -- ---- What is left of those that are gone through.
-pub one_left : {A B : Type 0} (f : A → B) (xs : List A) (index : ℕ) (x : A) → index < length xs → x ≡ get_or xs index x → map f (drop index xs) ≡ f x ∷ map f (drop (index + 1) xs)
+pub one_left : {A B : Type 0} (f : A → B) (xs : List A) (index : ℕ) (x : A) → index < length xs → x ≡ get_or xs index x
+    → map f (drop index xs) ≡ f x ∷ map f (drop (index + 1) xs)
 one_left f xs index x less is =
-    ap (map f) (drop-cons xs index x less ∙ ap (λ y. y ∷ drop (suc index) xs) (sym is)) ∙ ap (λ n. f x ∷ map f (drop n xs)) (sym (add-one index))
+    ap (map f) (drop-cons xs index x less ∙ ap (λ y. y ∷ drop (suc index) xs) (sym is))
+    ∙ ap (λ n. f x ∷ map f (drop n xs)) (sym (add-one index))
 
 pub none_left : {A B : Type 0} (f : A → B) (xs : List A) (index : ℕ) → length xs ≤ index → map f (drop index xs) ≡ []
 none_left f xs index all = ap (map f) (drop_all index xs all)

@@ -21,11 +21,13 @@ takes_its_steps d silo s there = record {
   receives_so = λ index letter found. ap (λ o. receives_at o d silo index) there ∙ ap (λ o. delivers o d silo s) found;
 }
 
-begins : (d : Deployment) (silo : Silo) (stated : List ℕ) (m : Membership) → changed d.settings d.membership (Join silo stated) ≡ Ok m → process_of (after d (Decide (Join silo stated))) silo ≡ Some (first_silo d.settings silo)
+begins : (d : Deployment) (silo : Silo) (stated : List ℕ) (m : Membership) → changed d.settings d.membership (Join silo stated) ≡ Ok m
+    → process_of (after d (Decide (Join silo stated))) silo ≡ Some (first_silo d.settings silo)
 unfolding after
 begins d silo stated m is =
     ap (λ r. process_of (decided r d (Join silo stated)) silo) is
-    ∙ found_put silo_cmp silo_cmp_total silo_cmp_exact silo (first_silo d.settings silo) (without (occupant silo d.membership.views.rows) d.processes)
+    ∙ found_put silo_cmp silo_cmp_total silo_cmp_exact silo (first_silo d.settings silo)
+    (without (occupant silo d.membership.views.rows) d.processes)
 
 pub calls_are_steps : CallsAreSteps
 calls_are_steps = record {

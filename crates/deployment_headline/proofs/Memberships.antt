@@ -18,14 +18,15 @@ use Rattle.directory_rules.specs.Settings.{Settings}
 use Rattle.directory_rules.specs.Host.{outstanding, has_numbers, renewed}
 use Rattle.directory_rules.specs.Cache.{cache_seeing}
 use Rattle.directory_rules.specs.Sight.{is_next, pieces_after, sealed, shelf_after}
-use Rattle.directory_rules.specs.Node.{Node}
+use Rattle.directory_rules.specs.State.{Node}
 use Rattle.directory_rules.specs.Step.{Stepped, see, having_seen, new_gatherings, new_recoveries}
 use Rattle.directory_rules.proofs.Cases.{on_bool}
 use Rattle.directory_rules.specs.Membership.{Change, Membership, changed, is_seeable}
 use Rattle.silo_rules.proofs.Lawful.{row_known}
 use Rattle.silo_rules.proofs.Whole.{Are, made, accepts}
 
-pub one_higher : (settings : Settings) (m next : Membership) → Are settings m → (c : Change) → changed settings m c ≡ Ok next → next.views.version ≡ m.views.version + 1
+pub one_higher : (settings : Settings) (m next : Membership) → Are settings m → (c : Change) → changed settings m c ≡ Ok next
+    → next.views.version ≡ m.views.version + 1
 one_higher settings m next are c is =
     let its = made settings m next are c is in
     versions_rise m.views its.way next.views (accepts settings m next are its)
@@ -42,14 +43,19 @@ abbrev pub Leads : Settings → Membership → List Change → Membership → Ty
 Leads settings m [] n = m ≡ n
 Leads settings m (c ∷ cs) n = (next : Membership) × (changed settings m c ≡ Ok next) × Leads settings next cs n
 
-pub leads_on : (settings : Settings) (m n last : Membership) (cs : List Change) (c : Change) → Leads settings m cs n → changed settings n c ≡ Ok last → Leads settings m (cs ++ c ∷ []) last
+pub leads_on : (settings : Settings) (m n last : Membership) (cs : List Change) (c : Change) → Leads settings m cs n
+    → changed settings n c ≡ Ok last → Leads settings m (cs ++ c ∷ []) last
 leads_on settings m n last [] c leads is = (last, subst (λ k. changed settings k c ≡ Ok last) (sym leads) is, refl)
 leads_on settings m n last (d ∷ ds) c leads is = (leads.0, leads.1, leads_on settings leads.0 n last ds c leads.2 is)
 
 -- so the later one agrees
-pub leads_to : (settings : Settings) (m n : Membership) (cs : List Change) → Are settings m → Leads settings m cs n → Agrees m n × Are settings n
-leads_to settings m n [] are leads =
-    (subst (Agrees m) leads (record { version = omega arith; views = λ k within. refl; rings = λ k within. refl }), subst (Are settings) leads are)
+pub leads_to : (settings : Settings) (m n : Membership) (cs : List Change) → Are settings m → Leads settings m cs n
+    → Agrees m n × Are settings n
+leads_to settings m n [] are leads = (
+  subst (Agrees m) leads (record { version = omega arith; views = λ k within. refl; rings = λ k within. refl }),
+  subst (Are settings)
+      leads are,
+)
 leads_to settings m n (c ∷ cs) are leads =
     let next = leads.0 in
     let its = made settings m next are c leads.1 in
@@ -61,7 +67,9 @@ leads_to settings m n (c ∷ cs) are leads =
       record {
         version = omega arith;
         views = λ k within. later.0.views k (omega arith) ∙ stays k within;
-        rings = λ k within. subst (λ view. ring_of view n.places ≡ ring_of view next.places) (stays k within) (later.0.rings k (omega arith)) ∙ its.rings k;
+        rings =
+            λ k within. subst (λ view. ring_of view n.places ≡ ring_of view next.places) (stays k within) (later.0.rings k (omega arith))
+            ∙ its.rings k;
       },
       later.1,
     )
@@ -86,13 +94,15 @@ seen_by node before view old new =
       shelf = shelf_after next view node.shelf (sealed node.settings.hashing view node.host.silo node.holding.pieces arcs);
     })))
 
-seen_by-is : (node : Node) (before view : ViewValue) (places : PlacesValue) → see node before view places ≡ seen_by node before view (ring_of before places) (ring_of view places)
+seen_by-is : (node : Node) (before view : ViewValue) (places : PlacesValue)
+    → see node before view places ≡ seen_by node before view (ring_of before places) (ring_of view places)
 unfolding seen_by
 seen_by-is node before view places = refl
 
 -- a sight by earlier changes is that by later ones
 pub same_sight : (node : Node) (m n : Membership) (version : ℕ) → Agrees m n → version ≤ m.views.version
-    → see node (view_at m.views (version - 1)) (view_at m.views version) m.places ≡ see node (view_at n.views (version - 1)) (view_at n.views version) n.places
+    → see node (view_at m.views (version - 1)) (view_at m.views version) m.places ≡ see node (view_at n.views (version - 1))
+    (view_at n.views version) n.places
 same_sight node m n version agrees within =
     let before = view_at m.views (version - 1) in
     let view = view_at m.views version in
@@ -109,31 +119,42 @@ same_sight node m n version agrees within =
 -- a view in which a silo has a status has been made
 was_made : (views : ViewsValue) (version : ℕ) (silo : Silo) → is_some (status_at views version silo) ≡ true → version ≤ views.version
 was_made views version silo there =
-    on_bool (λ b. nat_le version views.version ≡ b → is_some (lookup (is_at (silo_cmp silo)) (if b then rows_in version views.rows else [])) ≡ true → version ≤ views.version) (nat_le version views.version)
+    on_bool (λ b. nat_le version views.version ≡ b → is_some (lookup (is_at (silo_cmp silo)) (if b then rows_in version views.rows else []))
+    ≡ true → version ≤ views.version) (nat_le version views.version)
     (λ t is some. leb-true version views.version is) (λ f is some. absurd (cc (some))) refl there
 
 -- who is in the view of a version sees it
-is_in_view : (settings : Settings) (n : Membership) (version : ℕ) (silo : Silo) → Are settings n → is_some (status_at n.views version silo) ≡ true → is_seeable n silo version ≡ true
+is_in_view : (settings : Settings) (n : Membership) (version : ℕ) (silo : Silo) → Are settings n
+    → is_some (status_at n.views version silo) ≡ true → is_seeable n silo version ≡ true
 is_in_view settings n version silo are there =
     let within = was_made n.views version silo there in
-    ap (λ b. b && nat_le (unwrap_or (joining_version n.views silo) 0) version) (le-leb version n.views.version within) ∙ by within (joining_version n.views silo) refl
+    ap (λ b. b && nat_le (unwrap_or (joining_version n.views silo) 0) version) (le-leb version n.views.version within)
+    ∙ by within (joining_version n.views silo) refl
   where
     by : version ≤ n.views.version → (o : Option ℕ) → joining_version n.views silo ≡ o → nat_le (unwrap_or o 0) version ≡ true
     by within None is = le-leb 0 version (omega arith)
     by within (Some joined) is = le-leb joined version ((joined_from n.views are.whole silo joined is version within).0 there)
 
 -- who was told of its own join sees by later changes what it sees by earlier ones
-pub still_seeable : (settings : Settings) (m n : Membership) (silo : Silo) (version : ℕ) → Are settings m → Are settings n → Agrees m n → is_some (status_at m.views m.views.version silo) ≡ true → is_seeable m silo version ≡ true
+pub still_seeable : (settings : Settings) (m n : Membership) (silo : Silo) (version : ℕ) → Are settings m → Are settings n → Agrees m n
+    → is_some (status_at m.views m.views.version silo) ≡ true → is_seeable m silo version ≡ true
     → (version ≤ m.views.version) × (is_seeable n silo version ≡ true)
 still_seeable settings m n silo version are later agrees told seeable =
     let joined = nat_le (unwrap_or (joining_version m.views silo) 0) version in
     let two = both (nat_le version m.views.version) joined seeable in
     let within = leb-true version m.views.version two.0 in
-    let there = in_view within (leb-true (unwrap_or (joining_version m.views silo) 0) version two.1) (row_of m.views silo) refl in
-    (within, is_in_view settings n version silo later (ap (λ v. is_some (lookup (is_at (silo_cmp silo)) v.rows)) (agrees.views version within) ∙ there))
+    let there = in_view within (leb-true (unwrap_or (joining_version m.views silo) 0) version two.1) (row_of m.views silo) refl in (
+      within,
+      is_in_view settings n version silo later
+          (ap (λ v. is_some (lookup (is_at (silo_cmp silo)) v.rows)) (agrees.views version within) ∙ there),
+    )
   where
-    in_view : version ≤ m.views.version → unwrap_or (joining_version m.views silo) 0 ≤ version → (o : Option Row) → row_of m.views silo ≡ o → is_some (status_at m.views version silo) ≡ true
-    in_view within since None at = let never : false ≡ true = ap (λ (o : Option Row). is_some o) (sym at) ∙ row_known m.views are.whole silo ∙ told in absurd (cc (never))
+    in_view : version ≤ m.views.version → unwrap_or (joining_version m.views silo) 0 ≤ version → (o : Option Row) → row_of m.views silo ≡ o
+        → is_some (status_at m.views version silo) ≡ true
+    in_view within since None at =
+        let never : false ≡ true = ap (λ (o : Option Row). is_some o) (sym at) ∙ row_known m.views are.whole silo ∙ told in
+        absurd (cc (never))
     in_view within since (Some row) at =
         let joined : joining_version m.views silo ≡ Some row.joined = ap (λ (o : Option Row). option_map (λ (r : Row). r.joined) o) at in
-        (joined_from m.views are.whole silo row.joined joined version within).1 (subst (λ (o : Option ℕ). unwrap_or o 0 ≤ version) joined since)
+        (joined_from m.views are.whole silo row.joined joined version within).1
+        (subst (λ (o : Option ℕ). unwrap_or o 0 ≤ version) joined since)

@@ -9,7 +9,7 @@ use Rattle.membership_view.specs.Changes.{occupant, after_join}
 use Rattle.hash_ring.specs.Places.{PlacesValue}
 use Rattle.directory_rules.specs.declared.effect.Effect.TheVariants.{Ignored}
 use Rattle.directory_rules.specs.Settings.{Settings}
-use Rattle.directory_rules.specs.Letter.{Letter}
+use Rattle.directory_rules.specs.State.{Letter}
 use Rattle.directory_rules.specs.Step.{Stepped, silently}
 use Rattle.directory_rules.specs.Input.{Input, Does, Receives, step, sight_of}
 use Rattle.directory_rules.specs.Membership.{Change, Join, Leave, Die, Membership, joined, changed, replaced_by, is_seeable}
@@ -37,11 +37,13 @@ module _ (events letters : ℕ) where
   process_there d silo = lookup-over P (is_at (silo_cmp silo)) d.processes
 
   -- ---- changes
-  joined_same : (o : Result ViewsValue ℕ) (settings : Settings) (places : PlacesValue) (silo : Silo) (stated : List ℕ) → joined o (with_room events letters settings) places silo stated ≡ joined o settings places silo stated
+  joined_same : (o : Result ViewsValue ℕ) (settings : Settings) (places : PlacesValue) (silo : Silo) (stated : List ℕ)
+      → joined o (with_room events letters settings) places silo stated ≡ joined o settings places silo stated
   joined_same (Err number) settings places silo stated = refl
   joined_same (Ok views) settings places silo stated = refl
 
-  changed_same : (settings : Settings) (m : Membership) (c : Change) → changed (with_room events letters settings) m c ≡ changed settings m c
+  changed_same : (settings : Settings) (m : Membership) (c : Change)
+      → changed (with_room events letters settings) m c ≡ changed settings m c
   changed_same settings m (Join silo stated) = joined_same (after_join m.views silo) settings m.places silo stated
   changed_same settings m (Leave silo) = refl
   changed_same settings m (Die silo) = refl
@@ -60,24 +62,30 @@ module _ (events letters : ℕ) where
 
   decided_same : (d : Deployment) (c : Change) (r : Result Membership ℕ) → decided r (R d) c ≡ R (decided r d c)
   decided_same d c (Err number) = refl
-  decided_same d c (Ok membership) = ap (λ ps. record (R d) { changes = d.changes ++ c ∷ []; membership = membership; processes = ps }) (processes_same d c)
+  decided_same d c (Ok membership) =
+      ap (λ ps. record (R d) { changes = d.changes ++ c ∷ []; membership = membership; processes = ps }) (processes_same d c)
 
   -- ---- what a process is told
-  told_same : (s : SiloValue) (version : ℕ) (c : Change) → told (P s).node.settings (P s).membership version c ≡ told s.node.settings s.membership version c
+  told_same : (s : SiloValue) (version : ℕ) (c : Change)
+      → told (P s).node.settings (P s).membership version c ≡ told s.node.settings s.membership version c
   told_same s version c =
       let m = s.membership in
-      ap (λ r. if nat_le version m.views.version then told_again m version c else (if not (version == m.views.version + 1) then Err 206 else heard_by r (replaced_by m c))) (changed_same s.node.settings m c)
+      ap (λ r. if nat_le version m.views.version then told_again m version c else
+      (if not (version == m.views.version + 1) then Err 206 else heard_by r (replaced_by m c))) (changed_same s.node.settings m c)
 
   heard_same : (d : Deployment) (silo : Silo) (s : SiloValue) (r : Result Heard ℕ) → heard r (R d) silo (P s) ≡ R (heard r d silo s)
   heard_same d silo s (Err number) = refl
-  heard_same d silo s (Ok its) = ap (λ ps. record (R d) { processes = ps }) (insert-over P silo_cmp d.processes silo (record s { membership = its.membership }))
+  heard_same d silo s (Ok its) =
+      ap (λ ps. record (R d) { processes = ps }) (insert-over P silo_cmp d.processes silo (record s { membership = its.membership }))
 
-  tells_same : (d : Deployment) (silo : Silo) (s : SiloValue) (index : ℕ) (o : Option Change) → tells o (R d) silo (P s) index ≡ R (tells o d silo s index)
+  tells_same : (d : Deployment) (silo : Silo) (s : SiloValue) (index : ℕ) (o : Option Change)
+      → tells o (R d) silo (P s) index ≡ R (tells o d silo s index)
   tells_same d silo s index None = refl
   tells_same d silo s index (Some c) =
       ap (λ r. heard r (R d) silo (P s)) (told_same s (index + 1) c) ∙ heard_same d silo s (told s.node.settings s.membership (index + 1) c)
 
-  tells_at_same : (d : Deployment) (silo : Silo) (index : ℕ) (o : Option SiloValue) → tells_at (option_map P o) (R d) silo index ≡ R (tells_at o d silo index)
+  tells_at_same : (d : Deployment) (silo : Silo) (index : ℕ) (o : Option SiloValue)
+      → tells_at (option_map P o) (R d) silo index ≡ R (tells_at o d silo index)
   tells_at_same d silo index None = refl
   tells_at_same d silo index (Some s) = tells_same d silo s index (slice_get d.changes index)
 
@@ -85,19 +93,22 @@ module _ (events letters : ℕ) where
   took_same : (d : Deployment) (silo : Silo) (s : SiloValue) (r : Result Stepped ℕ) → took (Q r) (R d) silo (P s) ≡ R (took r d silo s)
   took_same d silo s (Err number) = refl
   took_same d silo s (Ok stepped) =
-      ap (λ ps. record (R d) { processes = ps; written = d.written ++ stepped.letters }) (insert-over P silo_cmp d.processes silo (record s { node = stepped.node }))
+      ap (λ ps. record (R d) { processes = ps; written = d.written ++ stepped.letters })
+      (insert-over P silo_cmp d.processes silo (record s { node = stepped.node }))
 
   barred_same : (o : Option ℕ) (r : Result Stepped ℕ) → unless_barred o (Q r) ≡ Q (unless_barred o r)
   barred_same None r = refl
   barred_same (Some number) r = refl
 
   does_same : (s : SiloValue) (input : Input) → does (P s) input ≡ Q (does s input)
-  does_same s input = ap (λ r. unless_barred (barred s) r) (steps_same events letters s.node input) ∙ barred_same (barred s) (step s.node input)
+  does_same s input =
+      ap (λ r. unless_barred (barred s) r) (steps_same events letters s.node input) ∙ barred_same (barred s) (step s.node input)
 
   seen_same : (s : SiloValue) (version : ℕ) → alone.seen (P s) version ≡ Q (alone.seen s version)
   seen_same s version = by (nat_lt s.node.view.version version) (is_seeable s.membership s.node.host.silo version)
     where
-      by : (newer seeable : Bool) → (if not newer then Err 903 else (if not seeable then Err 904 else step (P s).node (sight_of s.membership version)))
+      by : (newer seeable : Bool) → (if not newer then Err 903 else
+          (if not seeable then Err 904 else step (P s).node (sight_of s.membership version)))
           ≡ Q (if not newer then Err 903 else (if not seeable then Err 904 else step s.node (sight_of s.membership version)))
       by false seeable = refl
       by true false = refl
@@ -109,18 +120,21 @@ module _ (events letters : ℕ) where
   receives_same : (s : SiloValue) (letter : Letter) → receives (P s) letter ≡ Q (receives s letter)
   receives_same s letter = by (silo_eq letter.to s.node.host.silo)
     where
-      by : (its : Bool) → (if its then does (P s) (Receives letter) else Ok (silently (P s).node Ignored)) ≡ Q (if its then does s (Receives letter) else Ok (silently s.node Ignored))
+      by : (its : Bool) → (if its then does (P s) (Receives letter) else Ok (silently (P s).node Ignored)) ≡ Q
+          (if its then does s (Receives letter) else Ok (silently s.node Ignored))
       by true = does_same s (Receives letter)
       by false = refl
 
-  does_at_same : (d : Deployment) (silo : Silo) (input : Input) (o : Option SiloValue) → does_at (option_map P o) (R d) silo input ≡ R (does_at o d silo input)
+  does_at_same : (d : Deployment) (silo : Silo) (input : Input) (o : Option SiloValue)
+      → does_at (option_map P o) (R d) silo input ≡ R (does_at o d silo input)
   does_at_same d silo input None = refl
   does_at_same d silo input (Some s) = ap (λ r. took r (R d) silo (P s)) (does_same s input) ∙ took_same d silo s (does s input)
 
   comes_same : (d : Deployment) (silo : Silo) (input : Input) → comes (R d) silo input ≡ R (comes d silo input)
   comes_same d silo input = ap (λ o. does_at o (R d) silo input) (process_there d silo) ∙ does_at_same d silo input (process_of d silo)
 
-  sees_at_same : (d : Deployment) (silo : Silo) (version : ℕ) (o : Option SiloValue) → sees_at (option_map P o) (R d) silo version ≡ R (sees_at o d silo version)
+  sees_at_same : (d : Deployment) (silo : Silo) (version : ℕ) (o : Option SiloValue)
+      → sees_at (option_map P o) (R d) silo version ≡ R (sees_at o d silo version)
   sees_at_same d silo version None = refl
   sees_at_same d silo version (Some s) = ap (λ r. took r (R d) silo (P s)) (sees_same s version) ∙ took_same d silo s (sees s version)
 
@@ -128,23 +142,29 @@ module _ (events letters : ℕ) where
   delivers_same d silo s None = refl
   delivers_same d silo s (Some letter) = ap (λ r. took r (R d) silo (P s)) (receives_same s letter) ∙ took_same d silo s (receives s letter)
 
-  receives_at_same : (d : Deployment) (silo : Silo) (index : ℕ) (o : Option SiloValue) → receives_at (option_map P o) (R d) silo index ≡ R (receives_at o d silo index)
+  receives_at_same : (d : Deployment) (silo : Silo) (index : ℕ) (o : Option SiloValue)
+      → receives_at (option_map P o) (R d) silo index ≡ R (receives_at o d silo index)
   receives_at_same d silo index None = refl
   receives_at_same d silo index (Some s) = delivers_same d silo s (slice_get d.written index)
 
   -- ---- deployments
   after_same : (d : Deployment) (s : Step) → after (R d) s ≡ R (after d s)
   unfolding after
-  after_same d (Decide c) = ap (λ r. decided r (R d) c) (changed_same d.settings d.membership c) ∙ decided_same d c (changed d.settings d.membership c)
-  after_same d (Tell silo index) = ap (λ o. tells_at o (R d) silo index) (process_there d silo) ∙ tells_at_same d silo index (process_of d silo)
-  after_same d (See silo version) = ap (λ o. sees_at o (R d) silo version) (process_there d silo) ∙ sees_at_same d silo version (process_of d silo)
+  after_same d (Decide c) =
+      ap (λ r. decided r (R d) c) (changed_same d.settings d.membership c) ∙ decided_same d c (changed d.settings d.membership c)
+  after_same d (Tell silo index) =
+      ap (λ o. tells_at o (R d) silo index) (process_there d silo) ∙ tells_at_same d silo index (process_of d silo)
+  after_same d (See silo version) =
+      ap (λ o. sees_at o (R d) silo version) (process_there d silo) ∙ sees_at_same d silo version (process_of d silo)
   after_same d (Do silo step) = comes_same d silo (Does step)
-  after_same d (Receive silo index) = ap (λ o. receives_at o (R d) silo index) (process_there d silo) ∙ receives_at_same d silo index (process_of d silo)
+  after_same d (Receive silo index) =
+      ap (λ o. receives_at o (R d) silo index) (process_there d silo) ∙ receives_at_same d silo index (process_of d silo)
 
   after_all_same : (d : Deployment) (steps : List Step) → after_all (R d) steps ≡ R (after_all d steps)
   unfolding after_all
   after_all_same d [] = refl
   after_all_same d (s ∷ steps) = ap (λ e. after_all e steps) (after_same d s) ∙ after_all_same (after d s) steps
 
-  pub deployed_same : (settings : Settings) (steps : List Step) → deployed (with_room events letters settings) steps ≡ R (deployed settings steps)
+  pub deployed_same : (settings : Settings) (steps : List Step)
+      → deployed (with_room events letters settings) steps ≡ R (deployed settings steps)
   deployed_same settings steps = after_all_same (first_deployment settings) steps

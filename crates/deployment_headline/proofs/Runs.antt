@@ -12,10 +12,8 @@ use Rattle.silo_address.specs.Silo.{Silo, silo_cmp}
 use Rattle.silo_address.specs.Grain.{Grain}
 use Rattle.membership_view.specs.Views.{view_at}
 use Rattle.directory_rules.specs.Settings.{Settings, AreSettings}
-use Rattle.directory_rules.specs.Letter.{Letter}
-use Rattle.directory_rules.specs.Node.{Node}
+use Rattle.directory_rules.specs.State.{Letter, Node, Posted, World}
 use Rattle.directory_rules.specs.Event.{Event, IsEvent}
-use Rattle.directory_rules.specs.World.{Posted, World}
 use Rattle.directory_rules.specs.Mail.{letter_of}
 use Rattle.directory_rules.specs.Happens.{happens, node_of}
 use Rattle.directory_rules.specs.Run.{run, run_from_start, world_after}
@@ -55,7 +53,8 @@ unfolding run
 after_append world [] ys = refl
 after_append world (event ∷ xs) ys = after_append (world_after (happens world event) world) xs ys
 
-pub run_on : (world middle last : World) (xs ys : List Event) → (run world xs).world ≡ middle → (run middle ys).world ≡ last → (run world (xs ++ ys)).world ≡ last
+pub run_on : (world middle last : World) (xs ys : List Event) → (run world xs).world ≡ middle → (run middle ys).world ≡ last
+    → (run world (xs ++ ys)).world ≡ last
 run_on world middle last xs ys first second = after_append world xs ys ∙ ap (λ its. (run its ys).world) first ∙ second
 
 pub settings_stay : (d : Deployment) → Sound d → (steps : List Step) → (after_all d steps).settings ≡ d.settings
@@ -66,12 +65,15 @@ settings_stay d sound (s ∷ steps) = let one = keeps d sound s in settings_stay
 pub written_grow : (d : Deployment) → Sound d → (steps : List Step) → length d.written ≤ length (after_all d steps).written
 unfolding after_all
 written_grow d sound [] = omega arith
-written_grow d sound (s ∷ steps) = let one = keeps d sound s in let later = written_grow (after d s) one.sound steps in omega (one.written, later, arith)
+written_grow d sound (s ∷ steps) =
+    let one = keeps d sound s in let later = written_grow (after d s) one.sound steps in omega (one.written, later, arith)
 
-pub makes : (d : Deployment) → Sound d → (accepted : ℕ) (mail : List (ℕ × Posted)) → HasWritten d mail → (steps : List Step) → All IsStep steps → accepted + length steps ≤ d.settings.events
+pub makes : (d : Deployment) → Sound d → (accepted : ℕ) (mail : List (ℕ × Posted)) → HasWritten d mail → (steps : List Step)
+    → All IsStep steps → accepted + length steps ≤ d.settings.events
     → length (after_all d steps).written ≤ d.settings.letters → Makes d (after_all d steps) accepted (length steps) mail
 unfolding after_all run
-makes d sound accepted mail has [] named room space = record { events = []; named = All-nil IsEvent; count = accepted; letters = mail; few = omega arith; has = has; is = refl }
+makes d sound accepted mail has [] named room space =
+    record { events = []; named = All-nil IsEvent; count = accepted; letters = mail; few = omega arith; has = has; is = refl }
 makes d sound accepted mail has (s ∷ steps) named room space =
     let one = keeps d sound s in
     let next = after d s in
@@ -87,11 +89,14 @@ makes d sound accepted mail has (s ∷ steps) named room space =
       letters = rest.letters;
       few = omega (moved.few, rest.few, arith);
       has = rest.has;
-      is = run_on (make d accepted mail) (make next moved.count moved.letters) (make (after_all next steps) rest.count rest.letters) moved.events rest.events moved.is rest.is;
+      is =
+          run_on (make d accepted mail) (make next moved.count moved.letters) (make (after_all next steps) rest.count rest.letters)
+          moved.events rest.events moved.is rest.is;
     }
 
 -- the letters of a mail that has what was written
-values : (n : ℕ) (mail : List (ℕ × Posted)) (letters : List Letter) → over its_letter mail ≡ enumerate_from n letters → map (λ e. e.1.letter) mail ≡ letters
+values : (n : ℕ) (mail : List (ℕ × Posted)) (letters : List Letter) → over its_letter mail ≡ enumerate_from n letters
+    → map (λ e. e.1.letter) mail ≡ letters
 values n [] [] is = refl
 values n [] (letter ∷ letters) is = absurd (cc (is))
 values n (e ∷ mail) [] is = absurd (cc (is))
@@ -107,7 +112,8 @@ pub record HaveRoom (settings : Settings) (steps : List Step) : Type 0 where
   pub letters : length (deployed settings steps).written ≤ settings.letters
 
 -- the steps, where the limits have room for them
-module _ (settings : Settings) (steps : List Step) (first : Are settings (first_membership settings)) (named : All IsStep steps) (room : HaveRoom settings steps) where
+module _ (settings : Settings) (steps : List Step) (first : Are settings (first_membership settings)) (named : All IsStep steps)
+    (room : HaveRoom settings steps) where
   pub all_made : Makes (first_deployment settings) (deployed settings steps) 0 (length steps) []
   all_made = makes (first_deployment settings) (sound_first settings first) 0 [] refl steps named (omega (room.events, arith)) room.letters
 
@@ -121,16 +127,30 @@ module _ (settings : Settings) (steps : List Step) (are : AreSettings settings) 
 
   first_so : Are roomy (first_membership roomy)
   unfolding roomy
-  first_so = let its = seen_keep.first settings are in record { whole = its.whole; limit = its.limit; hashing = its.hashing; points = its.points; added = its.added }
+  first_so =
+      let its = seen_keep.first settings are in record {
+        whole = its.whole;
+        limit = its.limit;
+        hashing = its.hashing;
+        points = its.points;
+        added = its.added;
+      }
 
   has_room : length steps ≤ events → length d.written ≤ letters → HaveRoom roomy steps
   unfolding roomy
-  has_room enough most = record { events = enough; letters = subst (λ (e : Deployment). length e.written ≤ letters) (sym (deployed_same events letters settings steps)) most }
+  has_room enough most =
+      record {
+        events = enough;
+        letters = subst (λ (e : Deployment). length e.written ≤ letters)
+            (sym (deployed_same events letters settings steps)) most;
+      }
 
-  pub made_so : length steps ≤ events → length d.written ≤ letters → Makes (first_deployment (with_room events letters settings)) (deployment_with_room events letters d) 0 (length steps) []
+  pub made_so : length steps ≤ events → length d.written ≤ letters
+      → Makes (first_deployment (with_room events letters settings)) (deployment_with_room events letters d) 0 (length steps) []
   unfolding roomy
   made_so enough most =
-      subst (λ e. Makes (first_deployment (with_room events letters settings)) e 0 (length steps) []) (deployed_same events letters settings steps) (all_made roomy steps first_so named (has_room enough most))
+      subst (λ e. Makes (first_deployment (with_room events letters settings)) e 0 (length steps) [])
+      (deployed_same events letters settings steps) (all_made roomy steps first_so named (has_room enough most))
 
   pub run_so : length steps ≤ events → length d.written ≤ letters → IsRun d
   run_so enough most =
@@ -140,20 +160,23 @@ module _ (settings : Settings) (steps : List Step) (are : AreSettings settings) 
         most_letters = letters;
         events = all.events;
         named = all.named;
-        same = subst (λ world. IsWorldOf (deployment_with_room events letters d) world) (sym (ap (λ s. (run_from_start (with_room events letters s) all.events).world) stay ∙ all.is)) (record {
-          settings = refl;
-          views = refl;
-          places = refl;
-          nodes = refl;
-          mail = values 1 all.letters d.written all.has;
-        });
+        same =
+            subst (λ world. IsWorldOf (deployment_with_room events letters d) world)
+            (sym (ap (λ s. (run_from_start (with_room events letters s) all.events).world) stay ∙ all.is)) (record {
+              settings = refl;
+              views = refl;
+              places = refl;
+              nodes = refl;
+              mail = values 1 all.letters d.written all.has;
+            });
       }
     where
       stay : d.settings ≡ settings
       stay = settings_stay (first_deployment settings) (sound_first settings (seen_keep.first settings are)) steps
 
 pub deployments_are_runs : DeploymentsAreRuns
-deployments_are_runs settings steps are named = run_so settings steps are named (length steps) (length (deployed settings steps).written) (omega arith) (omega arith)
+deployments_are_runs settings steps are named =
+    run_so settings steps are named (length steps) (length (deployed settings steps).written) (omega arith) (omega arith)
 
 -- each letter written is in the mail of such a world, and so its sender's own
 got : (letters : List Letter) (k : ℕ) (other : Letter) → k < length letters → slice_get letters k ≡ Some (slice_index_or letters k other)
@@ -168,7 +191,8 @@ written_are_own settings steps are named k other below =
     let letters = length d.written in
     let all = made_so settings steps are named most letters (omega arith) (omega arith) in
     let found = letter_there (deployment_with_room most letters d) all.count all.letters all.has k ∙ got d.written k other below in
-    letters_are_own (with_room most letters settings) all.events (1 + k) (slice_index_or d.written k other) (ap (λ world. letter_of world (1 + k)) all.is ∙ found)
+    letters_are_own (with_room most letters settings) all.events (1 + k) (slice_index_or d.written k other)
+    (ap (λ world. letter_of world (1 + k)) all.is ∙ found)
 
 -- what processes were told
 pub sound_after : (d : Deployment) → Sound d → (steps : List Step) → Sound (after_all d steps)
@@ -177,11 +201,13 @@ sound_after d sound [] = sound
 sound_after d sound (s ∷ steps) = sound_after (after d s) (keeps d sound s).sound steps
 
 -- a process makes the next change, if the changes decided have one
-told_next : (settings : Settings) (m next : Membership) (c : Change) → changed settings m c ≡ Ok next → told settings m (m.views.version + 1) c ≡ Ok (record { membership = next; news = news_of (replaced_by m c) })
+told_next : (settings : Settings) (m next : Membership) (c : Change) → changed settings m c ≡ Ok next
+    → told settings m (m.views.version + 1) c ≡ Ok (record { membership = next; news = news_of (replaced_by m c) })
 told_next settings m next c is =
     let v = m.views.version in
     let equal : (v + 1 == v + 1) ≡ true = grind (arith, nat_tests) in
-    ap (λ b. if b then told_again m (v + 1) c else (if not (v + 1 == v + 1) then Err 206 else heard_by (changed settings m c) (replaced_by m c))) (lt-leb (v + 1) v (omega arith))
+    ap (λ b. if b then told_again m (v + 1) c else (if not (v + 1 == v + 1) then Err 206 else heard_by (changed settings m c)
+    (replaced_by m c))) (lt-leb (v + 1) v (omega arith))
     ∙ ap (λ b. if not b then Err 206 else heard_by (changed settings m c) (replaced_by m c)) equal
     ∙ ap (λ r. heard_by r (replaced_by m c)) is
 
@@ -196,8 +222,11 @@ processes_are_behind settings steps are named silo s there =
       views = λ k within. sym (to.views k within);
       next = λ change is.
           let rest = rest_begins d.changes m.views.version change is in
-          let leads : Leads d.settings m (change ∷ drop (suc m.views.version) d.changes) d.membership = subst (λ l. Leads d.settings m l d.membership) rest.0 its.told.leads in
-          (record { membership = leads.0; news = news_of (replaced_by m change) }, told_next s.node.settings m leads.0 change (ap (λ (t : Settings). changed t m change) its.set_up ∙ leads.1));
+          let leads : Leads d.settings m (change ∷ drop (suc m.views.version) d.changes) d.membership = subst (λ l. Leads d.settings m l d.membership) rest.0 its.told.leads in (
+            record { membership = leads.0; news = news_of (replaced_by m change) },
+            told_next s.node.settings m leads.0 change
+                (ap (λ (t : Settings). changed t m change) its.set_up ∙ leads.1),
+          );
     }
 
 pub processes_are_own : ProcessesAreOwn
@@ -209,7 +238,8 @@ pub limits_do_not_matter : LimitsDoNotMatter
 limits_do_not_matter settings steps events letters = deployed_same events letters settings steps
 
 -- so the headline holds of the deployment
-pub has_settings : (its : Settings) (events letters : ℕ) → AreSettings its → 1 ≤ events → 1 ≤ letters → AreSettings (with_room events letters its)
+pub has_settings : (its : Settings) (events letters : ℕ) → AreSettings its → 1 ≤ events → 1 ≤ letters
+    → AreSettings (with_room events letters its)
 has_settings its events letters are some any = record {
   points_above = are.points_above;
   points_within = are.points_within;
@@ -238,13 +268,15 @@ processes_keep_the_headline settings steps are named =
     over-over its_node (process_with_room most letters) d.processes ∙ sym (over-over (node_with_room most letters) its_node d.processes) in
     headline_under (world_of d) most letters all.count all.letters (length d.written)
     (subst Headline (all.is ∙ ap (λ its. record (make (deployment_with_room most letters d) all.count all.letters) { nodes = its }) nodes)
-    (headline_after (with_room most letters settings) all.events (has_settings settings most letters are (omega arith) (omega arith)) all.named))
+    (headline_after (with_room most letters settings) all.events (has_settings settings most letters are (omega arith) (omega arith))
+    all.named))
 
 pub processes_keep_one_firm : ProcessesKeepOneFirm
 processes_keep_one_firm settings steps are named grain s t one other =
     (processes_keep_the_headline settings steps are named).no_two_firm grain s t one.held other.held (as_node s one) (as_node t other)
   where
-    as_node : (silo : Silo) → (is : IsFirmAt (deployed settings steps) grain silo) → IsFirmOn (world_of (deployed settings steps)) grain silo is.held
+    as_node : (silo : Silo) → (is : IsFirmAt (deployed settings steps) grain silo)
+        → IsFirmOn (world_of (deployed settings steps)) grain silo is.held
     as_node silo is = record {
       node = is.process.node;
       live = lookup-over its_node (is_at (silo_cmp silo)) (deployed settings steps).processes ∙ ap (option_map its_node) is.there;
@@ -263,8 +295,10 @@ same_plain p q same = subst (IsSame p) same (record { view = refl; unused = λ s
 
 -- where the limits have room
 plain_within :
-    (settings : Settings) (steps : List Step) (s : Step) → AreSettings settings → All IsStep steps → IsStep s → HaveRoom settings (steps ++ s ∷ [])
-    → (kind : PlainStep) × IsPlainStep (plain_of (world_of (deployed settings steps))) kind (plain_of (world_of (deployed settings (steps ++ s ∷ []))))
+    (settings : Settings) (steps : List Step) (s : Step) → AreSettings settings → All IsStep steps → IsStep s
+    → HaveRoom settings (steps ++ s ∷ [])
+    → (kind : PlainStep) × IsPlainStep (plain_of (world_of (deployed settings steps))) kind
+    (plain_of (world_of (deployed settings (steps ++ s ∷ []))))
 plain_within settings steps s are named is_step room =
     let d = deployed settings steps in
     let first = seen_keep.first settings are in
@@ -276,23 +310,31 @@ plain_within settings steps s are named is_step room =
     let stay = settings_stay (first_deployment settings) (sound_first settings first) steps in
     let moved = moves d all.count all.letters all.has (subst (λ (t : Settings). all.count < t.events) (sym stay) (omega (all.few, room.events, longer, arith))) sound.sorted (its_process d sound) s is_step
     (subst (λ (t : Settings). length (after d s).written ≤ t.letters) (sym stay) space) in
-    by d (deployed settings (steps ++ s ∷ [])) all.count moved.count all.letters moved.letters (subst MovesPlainly all.is (plain_after settings all.events are all.named))
-    (subst (λ e. (make d all.count all.letters ≡ make e moved.count moved.letters) ⊎ IsOneEvent (make d all.count all.letters) (make e moved.count moved.letters)) (sym next) moved.how)
+    by d (deployed settings (steps ++ s ∷ [])) all.count moved.count all.letters moved.letters
+    (subst MovesPlainly all.is (plain_after settings all.events are all.named))
+    (subst (λ e. (make d all.count all.letters ≡ make e moved.count moved.letters)
+    ⊎ IsOneEvent (make d all.count all.letters) (make e moved.count moved.letters)) (sym next) moved.how)
   where
-    by : (d next : Deployment) (accepted count : ℕ) (mail letters : List (ℕ × Posted)) → MovesPlainly (make d accepted mail) → (make d accepted mail ≡ make next count letters) ⊎ IsOneEvent (make d accepted mail) (make next count letters)
+    by : (d next : Deployment) (accepted count : ℕ) (mail letters : List (ℕ × Posted)) → MovesPlainly (make d accepted mail)
+        → (make d accepted mail ≡ make next count letters) ⊎ IsOneEvent (make d accepted mail) (make next count letters)
         → (kind : PlainStep) × IsPlainStep (plain_of (world_of d)) kind (plain_of (world_of next))
-    by d next accepted count mail letters plain (inl same) = (Nothing_changes, same_plain (plain_of (world_of d)) (plain_of (world_of next)) (ap plain_of same))
+    by d next accepted count mail letters plain (inl same) =
+        (Nothing_changes, same_plain (plain_of (world_of d)) (plain_of (world_of next)) (ap plain_of same))
     by d next accepted count mail letters plain (inr one) = (
       plain_step_of one.accepted.outcome.happening,
-      subst (λ f. IsPlainStep (plain_of (world_of d)) (plain_step_of one.accepted.outcome.happening) (plain_of f)) one.makes (plain one.event one.accepted one.named one.is),
+      subst (λ f. IsPlainStep (plain_of (world_of d)) (plain_step_of one.accepted.outcome.happening) (plain_of f)) one.makes
+          (plain one.event one.accepted one.named one.is),
     )
 
 -- the plain machine looks at no limit either
-life_same : (events letters : ℕ) (grain : Grain) (o : Option Node) → option_and_then (life_on grain) (option_map (node_with_room events letters) o) ≡ option_and_then (life_on grain) o
+life_same : (events letters : ℕ) (grain : Grain) (o : Option Node)
+    → option_and_then (life_on grain) (option_map (node_with_room events letters) o) ≡ option_and_then (life_on grain) o
 life_same events letters grain None = refl
 life_same events letters grain (Some node) = refl
 
-unused_same : (events letters : ℕ) (o : Option Node) → option_map (λ (n : Node). n.host.next_count) (option_map (node_with_room events letters) o) ≡ option_map (λ (n : Node). n.host.next_count) o
+unused_same : (events letters : ℕ) (o : Option Node)
+    → option_map (λ (n : Node). n.host.next_count) (option_map (node_with_room events letters) o) ≡ option_map
+    (λ (n : Node). n.host.next_count) o
 unused_same events letters None = refl
 unused_same events letters (Some node) = refl
 
@@ -303,13 +345,19 @@ plain_same events letters d =
     let nodes : (silo : Silo) → node_of f silo ≡ option_map (node_with_room events letters) (node_of g silo) =
     λ silo.
     ap (λ l. lookup (is_at (silo_cmp silo)) l)
-    (over-over its_node (process_with_room events letters) d.processes ∙ sym (over-over (node_with_room events letters) its_node d.processes))
+    (over-over its_node (process_with_room events letters) d.processes
+    ∙ sym (over-over (node_with_room events letters) its_node d.processes))
     ∙ lookup-over (node_with_room events letters) (is_at (silo_cmp silo)) (nodes_of d) in
     let lives : (silo : Silo) (grain : Grain) → option_and_then (life_on grain) (node_of f silo) ≡ option_and_then (life_on grain) (node_of g silo) =
     λ silo grain. ap (option_and_then (life_on grain)) (nodes silo) ∙ life_same events letters grain (node_of g silo) in
     let unused : (silo : Silo) → option_map (λ (n : Node). n.host.next_count) (node_of f silo) ≡ option_map (λ (n : Node). n.host.next_count) (node_of g silo) =
     λ silo. ap (option_map (λ (n : Node). n.host.next_count)) (nodes silo) ∙ unused_same events letters (node_of g silo) in
-    λ i. record { view = view_at d.membership.views d.membership.views.version; lives = λ silo grain. lives silo grain i; unused = λ silo. unused silo i }
+    λ i. record {
+      view = view_at d.membership.views d.membership.views.version;
+      lives = λ silo grain. lives silo grain i;
+      unused = λ silo.
+          unused silo i;
+    }
 
 pub steps_are_plain : StepsArePlain
 steps_are_plain settings steps are named s is_step =
@@ -324,5 +372,9 @@ steps_are_plain settings steps are named s is_step =
     let plain = plain_within roomy steps s (has_settings settings most letters are (omega arith) (omega arith)) named is_step room in
     let before : plain_of (world_of (deployed roomy steps)) ≡ plain_of (world_of (deployed settings steps)) = ap (λ e. plain_of (world_of e)) same ∙ plain_same most letters (deployed settings steps) in
     let next : plain_of (world_of (deployed roomy more)) ≡ plain_of (world_of (after (deployed settings steps) s)) =
-    ap (λ e. plain_of (world_of e)) again ∙ plain_same most letters last ∙ ap (λ e. plain_of (world_of e)) (one_more (first_deployment settings) steps s) in
-    (plain.0, subst (λ p. IsPlainStep p plain.0 (plain_of (world_of (after (deployed settings steps) s)))) before (subst (IsPlainStep (plain_of (world_of (deployed roomy steps))) plain.0) next plain.1))
+    ap (λ e. plain_of (world_of e)) again ∙ plain_same most letters last
+    ∙ ap (λ e. plain_of (world_of e)) (one_more (first_deployment settings) steps s) in (
+      plain.0,
+      subst (λ p. IsPlainStep p plain.0 (plain_of (world_of (after (deployed settings steps) s)))) before
+          (subst (IsPlainStep (plain_of (world_of (deployed roomy steps))) plain.0) next plain.1),
+    )

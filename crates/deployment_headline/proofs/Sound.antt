@@ -13,7 +13,7 @@ use Rattle.membership_view.specs.Changes.{occupant}
 use Rattle.texts.proofs.Entries.{sorted-insert_entry, sorted-remove_entry}
 use Rattle.directory_rules.specs.declared.effect.Effect.TheVariants.{Ignored}
 use Rattle.directory_rules.specs.Settings.{Settings}
-use Rattle.directory_rules.specs.Letter.{Letter}
+use Rattle.directory_rules.specs.State.{Letter}
 use Rattle.directory_rules.specs.Step.{Stepped, silently}
 use Rattle.directory_rules.specs.Input.{Input, Does, Receives, step, sight_of}
 use Rattle.directory_facts.proofs.Entries.{all_put, all_removed, found_so, same_key}
@@ -39,7 +39,13 @@ pub record Sound (d : Deployment) : Type 0 where
 
 pub sound_first : (settings : Settings) → Are settings (first_membership settings) → Sound (first_deployment settings)
 unfolding IsStrictlySortedBy
-sound_first settings first = record { first = first; start = refl; each = All-nil (λ (e : Silo × SiloValue). IsProcessIn (first_deployment settings) e.0 e.1); sorted = tt }
+sound_first settings first =
+    record {
+      first = first;
+      start = refl;
+      each = All-nil (λ (e : Silo × SiloValue). IsProcessIn (first_deployment settings) e.0 e.1);
+      sorted = tt;
+    }
 
 -- the process of a silo is its own
 pub its_process : (d : Deployment) → Sound d → (silo : Silo) (s : SiloValue) → process_of d silo ≡ Some s → IsProcessIn d silo s
@@ -54,7 +60,8 @@ pub record Keeps (d next : Deployment) : Type 0 where
   pub sound : Sound next
 
 -- one change more is decided
-more_told : (settings : Settings) (changes : List Change) (now next own : Membership) (c : Change) → changed settings now c ≡ Ok next → IsTold settings changes now own → IsTold settings (changes ++ c ∷ []) next own
+more_told : (settings : Settings) (changes : List Change) (now next own : Membership) (c : Change) → changed settings now c ≡ Ok next
+    → IsTold settings changes now own → IsTold settings (changes ++ c ∷ []) next own
 more_told settings changes now next own c is its =
     let longer = length-append changes (c ∷ []) in
     let low = its.within in
@@ -66,7 +73,9 @@ more_told settings changes now next own c is its =
     }
 
 -- a process is told one change more
-told_one : (settings : Settings) (changes : List Change) (now own next : Membership) (c : Change) → slice_get changes own.views.version ≡ Some c → changed settings own c ≡ Ok next → IsTold settings changes now own → IsTold settings changes now next
+told_one : (settings : Settings) (changes : List Change) (now own next : Membership) (c : Change)
+    → slice_get changes own.views.version ≡ Some c → changed settings own c ≡ Ok next → IsTold settings changes now own
+    → IsTold settings changes now next
 told_one settings changes now own next c there is its =
     let rest = rest_begins changes own.views.version c there in
     let leads : Leads settings own (c ∷ drop (suc own.views.version) changes) now = subst (λ l. Leads settings own l now) rest.0 its.leads in
@@ -75,15 +84,19 @@ told_one settings changes now own next c there is its =
     record {
       are = (made settings own next its.are c is).are;
       within = subst (λ n. n ≤ length changes) higher rest.1;
-      leads = subst (λ n. Leads settings next (drop n changes) now) higher (subst (λ m. Leads settings m (drop (suc own.views.version) changes) now) same leads.2);
+      leads =
+          subst (λ n. Leads settings next (drop n changes) now) higher
+          (subst (λ m. Leads settings m (drop (suc own.views.version) changes) now) same leads.2);
     }
 
 -- ---- what steps leave of a silo
-barred_own : (o : Option ℕ) (s : SiloValue) (r : Result Stepped ℕ) → IfOk r (λ stepped. StaysOwn s.node stepped.node) → IfOk (unless_barred o r) (λ stepped. StaysOwn s.node stepped.node)
+barred_own : (o : Option ℕ) (s : SiloValue) (r : Result Stepped ℕ) → IfOk r (λ stepped. StaysOwn s.node stepped.node)
+    → IfOk (unless_barred o r) (λ stepped. StaysOwn s.node stepped.node)
 barred_own None s r own = own
 barred_own (Some number) s r own = tt
 
-stepped_own : (s : SiloValue) (input : Input) (r : Result Stepped ℕ) → step s.node input ≡ r → IfOk r (λ stepped. StaysOwn s.node stepped.node)
+stepped_own : (s : SiloValue) (input : Input) (r : Result Stepped ℕ) → step s.node input ≡ r
+    → IfOk r (λ stepped. StaysOwn s.node stepped.node)
 stepped_own s input (Err number) is = tt
 stepped_own s input (Ok stepped) is = stays_own s.node input stepped is
 
@@ -93,9 +106,11 @@ does_own s input = barred_own (barred s) s (step s.node input) (stepped_own s in
 sees_own : (s : SiloValue) (version : ℕ) → IfOk (sees s version) (λ stepped. StaysOwn s.node stepped.node)
 sees_own s version =
     barred_own (barred s) s (seen s version)
-    (by (nat_lt s.node.view.version version) (is_seeable s.membership s.node.host.silo version) (step s.node (sight_of s.membership version)) refl)
+    (by (nat_lt s.node.view.version version) (is_seeable s.membership s.node.host.silo version)
+    (step s.node (sight_of s.membership version)) refl)
   where
-    by : (newer seeable : Bool) (r : Result Stepped ℕ) → step s.node (sight_of s.membership version) ≡ r → IfOk (if not newer then Err 903 else (if not seeable then Err 904 else r)) (λ stepped. StaysOwn s.node stepped.node)
+    by : (newer seeable : Bool) (r : Result Stepped ℕ) → step s.node (sight_of s.membership version) ≡ r
+        → IfOk (if not newer then Err 903 else (if not seeable then Err 904 else r)) (λ stepped. StaysOwn s.node stepped.node)
     by false seeable r is = tt
     by true false r is = tt
     by true true r is = stepped_own s (sight_of s.membership version) r is
@@ -103,7 +118,8 @@ sees_own s version =
 receives_own : (s : SiloValue) (letter : Letter) → IfOk (receives s letter) (λ stepped. StaysOwn s.node stepped.node)
 receives_own s letter = by (silo_eq letter.to s.node.host.silo)
   where
-    by : (its : Bool) → IfOk (if its then does s (Receives letter) else Ok (silently s.node Ignored)) (λ stepped. StaysOwn s.node stepped.node)
+    by : (its : Bool) → IfOk (if its then does s (Receives letter) else Ok (silently s.node Ignored))
+        (λ stepped. StaysOwn s.node stepped.node)
     by true = does_own s (Receives letter)
     by false = record { settings = refl; silo = refl }
 
@@ -112,7 +128,8 @@ module _ (d : Deployment) (sound : Sound d) where
   same = record { settings = refl; written = omega arith; sound = sound }
 
   -- a process goes on so
-  put : (silo : Silo) (s : SiloValue) (written : List Letter) → length d.written ≤ length written → IsProcessIn d silo s → Keeps d (record d { processes = insert_entry silo_cmp d.processes silo s; written = written })
+  put : (silo : Silo) (s : SiloValue) (written : List Letter) → length d.written ≤ length written → IsProcessIn d silo s
+      → Keeps d (record d { processes = insert_entry silo_cmp d.processes silo s; written = written })
   put silo s written longer its = record {
     settings = refl;
     written = longer;
@@ -125,7 +142,8 @@ module _ (d : Deployment) (sound : Sound d) where
   }
 
   -- ---- steps
-  took_keeps : (silo : Silo) (s : SiloValue) (r : Result Stepped ℕ) → IsProcessIn d silo s → IfOk r (λ stepped. StaysOwn s.node stepped.node) → Keeps d (took r d silo s)
+  took_keeps : (silo : Silo) (s : SiloValue) (r : Result Stepped ℕ) → IsProcessIn d silo s
+      → IfOk r (λ stepped. StaysOwn s.node stepped.node) → Keeps d (took r d silo s)
   took_keeps silo s (Err number) its own = same
   took_keeps silo s (Ok stepped) its own =
       let longer = length-append d.written stepped.letters in
@@ -149,18 +167,23 @@ module _ (d : Deployment) (sound : Sound d) where
   receives_keeps silo index (Some s) there = delivers_keeps silo s (slice_get d.written index) (its_process d sound silo s there)
 
   -- ---- what a process is told
-  heard_keeps : (silo : Silo) (s : SiloValue) (r : Result Heard ℕ) → IsProcessIn d silo s → IfOk r (λ its. IsTold d.settings d.changes d.membership its.membership) → Keeps d (heard r d silo s)
+  heard_keeps : (silo : Silo) (s : SiloValue) (r : Result Heard ℕ) → IsProcessIn d silo s
+      → IfOk r (λ its. IsTold d.settings d.changes d.membership its.membership) → Keeps d (heard r d silo s)
   heard_keeps silo s (Err number) its told_so = same
   heard_keeps silo s (Ok heard) its told_so =
-      put silo (record s { membership = heard.membership }) d.written (omega arith) (record { told = told_so; set_up = its.set_up; address = its.address })
+      put silo (record s { membership = heard.membership }) d.written (omega arith)
+      (record { told = told_so; set_up = its.set_up; address = its.address })
 
   told_so : (silo : Silo) (s : SiloValue) (index : ℕ) (c : Change) → IsProcessIn d silo s → slice_get d.changes index ≡ Some c
       → IfOk (told s.node.settings s.membership (index + 1) c) (λ its. IsTold d.settings d.changes d.membership its.membership)
   told_so silo s index c its found =
-      by (nat_le (index + 1) s.membership.views.version) (is_known s.membership (index + 1) c) (index + 1 == s.membership.views.version + 1) (changed s.node.settings s.membership c) refl refl
+      by (nat_le (index + 1) s.membership.views.version) (is_known s.membership (index + 1) c) (index + 1 == s.membership.views.version + 1)
+      (changed s.node.settings s.membership c) refl refl
     where
-      by : (old known next : Bool) (made : Result Membership ℕ) → (index + 1 == s.membership.views.version + 1) ≡ next → changed s.node.settings s.membership c ≡ made
-          → IfOk (if old then (if known then Ok (record { membership = s.membership; news = Known }) else Err 207) else (if not next then Err 206 else heard_by made (replaced_by s.membership c)))
+      by : (old known next : Bool) (made : Result Membership ℕ) → (index + 1 == s.membership.views.version + 1) ≡ next
+          → changed s.node.settings s.membership c ≡ made
+          → IfOk (if old then (if known then Ok (record { membership = s.membership; news = Known }) else Err 207) else
+          (if not next then Err 206 else heard_by made (replaced_by s.membership c)))
           (λ its. IsTold d.settings d.changes d.membership its.membership)
       by true true next made at is = its.told
       by true false next made at is = tt
@@ -172,9 +195,11 @@ module _ (d : Deployment) (sound : Sound d) where
           told_one d.settings d.changes d.membership s.membership m c (subst (λ n. slice_get d.changes n ≡ Some c) turn found)
           (ap (λ (t : Settings). changed t s.membership c) (sym its.set_up) ∙ is) its.told
 
-  tells_keeps : (silo : Silo) (s : SiloValue) (index : ℕ) (o : Option Change) → IsProcessIn d silo s → slice_get d.changes index ≡ o → Keeps d (tells o d silo s index)
+  tells_keeps : (silo : Silo) (s : SiloValue) (index : ℕ) (o : Option Change) → IsProcessIn d silo s → slice_get d.changes index ≡ o
+      → Keeps d (tells o d silo s index)
   tells_keeps silo s index None its next = same
-  tells_keeps silo s index (Some c) its next = heard_keeps silo s (told s.node.settings s.membership (index + 1) c) its (told_so silo s index c its next)
+  tells_keeps silo s index (Some c) its next =
+      heard_keeps silo s (told s.node.settings s.membership (index + 1) c) its (told_so silo s index c its next)
 
   tells_at_keeps : (silo : Silo) (index : ℕ) (o : Option SiloValue) → process_of d silo ≡ o → Keeps d (tells_at o d silo index)
   tells_at_keeps silo index None there = same
@@ -188,7 +213,11 @@ module _ (d : Deployment) (sound : Sound d) where
     on : All P d.processes
     on =
         All-weaker (λ e. IsProcessIn d e.0 e.1) P
-        (λ e its. record { told = more_told d.settings d.changes d.membership next e.1.membership c is its.told; set_up = its.set_up; address = its.address }) d.processes sound.each
+        (λ e its. record {
+          told = more_told d.settings d.changes d.membership next e.1.membership c is its.told;
+          set_up = its.set_up;
+          address = its.address;
+        }) d.processes sound.each
 
     start : Leads d.settings (first_membership d.settings) (d.changes ++ c ∷ []) next
     start = leads_on d.settings (first_membership d.settings) d.membership next d.changes c sound.start is
@@ -199,7 +228,8 @@ module _ (d : Deployment) (sound : Sound d) where
 
     processes_so : (how : Change) → All P (processes_after d how)
     processes_so (Join silo stated) =
-        all_put silo_cmp silo_cmp_exact P silo (first_silo d.settings silo) (without (occupant silo d.membership.views.rows) d.processes) (without_so (occupant silo d.membership.views.rows))
+        all_put silo_cmp silo_cmp_exact P silo (first_silo d.settings silo) (without (occupant silo d.membership.views.rows) d.processes)
+        (without_so (occupant silo d.membership.views.rows))
         (record { told = record { are = sound.first; within = omega arith; leads = start }; set_up = refl; address = refl })
     processes_so (Leave silo) = on
     processes_so (Die silo) = without_so (Some silo)

@@ -25,8 +25,10 @@ module _ (m : Setting) (g : Grain) (a : ActivationId) (u : ℕ) where
 
   -- the directory names it no more
   turns_late :
-      (w : World) (seen : Silo → ℕ) (replies : List Reply) (level : ℕ → ℕ) → Kept m w → EarlyOf m g a u w → ((s : Silo) → w.seen s ≤ seen s) → u ≤ level (m.hash g)
-      → ((y : Reply) (x : Held) → Sent y replies → Counts seen w.held y g x → (Sent y w.replies × Counts w.seen w.held y g x) ⊎ (u ≤ y.version))
+      (w : World) (seen : Silo → ℕ) (replies : List Reply) (level : ℕ → ℕ) → Kept m w → EarlyOf m g a u w → ((s : Silo) → w.seen s ≤ seen s)
+      → u ≤ level (m.hash g)
+      → ((y : Reply) (x : Held) → Sent y replies → Counts seen w.held y g x → (Sent y w.replies × Counts w.seen w.held y g x)
+      ⊎ (u ≤ y.version))
       → Late m g u w.now seen w.held replies level
   turns_late w seen replies level k e rises low old =
       record {
@@ -48,7 +50,12 @@ module _ (m : Setting) (g : Grain) (a : ActivationId) (u : ℕ) where
       }
 
   early_served : (w : World) (x : Service) → MayServe m w x → Kept m w → EarlyOf m g a u w → Since (after m w (Serve x))
-  early_served w x may k e = elim (grain_cases g x.request.grain) [ inl same ↦ here same | inr apart ↦ inl (still (put_grain_other x.request.grain x.entry w.authority g apart ∙ e.entered)) ]
+  early_served w x may k e =
+      elim (grain_cases g x.request.grain) [
+        | inl same ↦ here same
+        | inr apart ↦ inl
+            (still (put_grain_other x.request.grain x.entry w.authority g apart ∙ e.entered))
+      ]
     where
       still : put_grain x.request.grain x.entry w.authority g ≡ Some a → EarlyOf m g a u (after m w (Serve x))
       still is =
@@ -66,18 +73,21 @@ module _ (m : Setting) (g : Grain) (a : ActivationId) (u : ℕ) where
       before same = k.backed.entries.right x.server x.request.grain may.alive may.settled ∙ ap w.authority (sym same) ∙ e.entered
 
       stays : g ≡ x.request.grain → x.entry ≡ Some a → Since (after m w (Serve x))
-      stays same is = inl (still (ap (put_grain x.request.grain x.entry w.authority) same ∙ put_grain_same x.request.grain x.entry w.authority ∙ is))
+      stays same is =
+          inl (still (ap (put_grain x.request.grain x.entry w.authority) same ∙ put_grain_same x.request.grain x.entry w.authority ∙ is))
 
       goes : g ≡ x.request.grain → u ≤ x.request.version → Since (after m w (Serve x))
       goes same low =
           let at : w.level (m.hash x.request.grain) ≡ w.seen x.server = k.placed.levels.at_level x.server (m.hash x.request.grain) may.alive may.settled in
           let here : w.level (m.hash g) ≡ w.level (m.hash x.request.grain) = ap (λ g. w.level (m.hash g)) same in
           inr (turns_late w w.seen (replied x ∷ w.replies) w.level k e (λ s. omega arith) (omega (arith, may.same_version))
-          (λ y z. sent_all (λ y. Counts w.seen w.held y g z → (Sent y w.replies × Counts w.seen w.held y g z) ⊎ (u ≤ y.version)) (replied x) w.replies (λ c. inr low) (λ y q c. inl (q, c)) y))
+          (λ y z. sent_all (λ y. Counts w.seen w.held y g z → (Sent y w.replies × Counts w.seen w.held y g z) ⊎ (u ≤ y.version)) (replied x)
+          w.replies (λ c. inr low) (λ y q c. inl (q, c)) y))
 
       by_purpose :
           g ≡ x.request.grain → (purpose : Purpose) → x.request.purpose ≡ purpose
-          → IsAnswered purpose (named x.request) x.request.previous (w.table x.server x.request.grain) x.answer x.entry → Since (after m w (Serve x))
+          → IsAnswered purpose (named x.request) x.request.previous (w.table x.server x.request.grain) x.answer x.entry
+          → Since (after m w (Serve x))
       by_purpose same Register q (inl i) =
           elim i.2 [
             | inl none ↦ (let there = before same in absurd cc)
@@ -98,7 +108,14 @@ module _ (m : Setting) (g : Grain) (a : ActivationId) (u : ℕ) where
 
   module _ (dead_later : (v : ℕ) → m.alive v a.silo ≡ false → u ≤ v) where
     early_sight : (w : World) (x : Sight) → MaySee m w x → Kept m w → EarlyOf m g a u w → Since (after m w (See x))
-    early_sight w x may k e = elim (bool_cases (x.kept (m.hash g))) [ inl t ↦ here t | inr f ↦ inl (early_rise m g a u w (put x.silo x.version w.seen) (where_true x.kept (λ h. x.version) w.level) (where_true (λ g. x.kept (m.hash g)) (kept_entries m w x) w.authority) rises higher (ap (λ b. cond b (kept_entries m w x g) (w.authority g)) f ∙ e.entered) e) ]
+    early_sight w x may k e =
+        elim (bool_cases (x.kept (m.hash g))) [
+          | inl t ↦ here t
+          | inr f ↦ inl
+              (early_rise m g a u w (put x.silo x.version w.seen) (where_true x.kept (λ h. x.version) w.level)
+              (where_true (λ g. x.kept (m.hash g)) (kept_entries m w x) w.authority) rises higher
+              (ap (λ b. cond b (kept_entries m w x g) (w.authority g)) f ∙ e.entered) e)
+        ]
       where
         rises : (s : Silo) → w.seen s ≤ put x.silo x.version w.seen s
         rises = (later_sight m w x may).no_less
@@ -106,7 +123,8 @@ module _ (m : Setting) (g : Grain) (a : ActivationId) (u : ℕ) where
         higher : w.level (m.hash g) ≤ where_true x.kept (λ h. x.version) w.level (m.hash g)
         higher =
             on_bool (λ b. w.level (m.hash g) ≤ cond b x.version (w.level (m.hash g))) (x.kept (m.hash g))
-            (λ t. let at : w.level (m.hash g) ≡ w.seen x.silo = sight_level m w x may k.placed (m.hash g) t in omega (arith, may.newer)) (λ f. omega arith)
+            (λ t. let at : w.level (m.hash g) ≡ w.seen x.silo = sight_level m w x may k.placed (m.hash g) t in omega (arith, may.newer))
+            (λ f. omega arith)
 
         here : x.kept (m.hash g) ≡ true → Since (after m w (See x))
         here t = elim (bool_cases (m.alive x.version a.silo)) [ inl live ↦ stays live | inr dead ↦ goes dead ]
@@ -116,7 +134,8 @@ module _ (m : Setting) (g : Grain) (a : ActivationId) (u : ℕ) where
 
             stays : m.alive x.version a.silo ≡ true → Since (after m w (See x))
             stays live =
-                inl (early_rise m g a u w (put x.silo x.version w.seen) (where_true x.kept (λ h. x.version) w.level) (where_true (λ g. x.kept (m.hash g)) (kept_entries m w x) w.authority) rises higher
+                inl (early_rise m g a u w (put x.silo x.version w.seen) (where_true x.kept (λ h. x.version) w.level)
+                (where_true (λ g. x.kept (m.hash g)) (kept_entries m w x) w.authority) rises higher
                 (ap (λ b. cond b (kept_entries m w x g) (w.authority g)) t ∙ surviving_stays m x.version (w.table x.silo g) a there live) e)
 
             goes : m.alive x.version a.silo ≡ false → Since (after m w (See x))
@@ -127,23 +146,35 @@ module _ (m : Setting) (g : Grain) (a : ActivationId) (u : ℕ) where
 
     -- by what the new table has
     early_settling :
-        (w : World) (x : Settling) → ((h : ℕ) → x.part h ≡ true → w.level h < w.seen x.silo) → (x.part (m.hash g) ≡ true → (x.entries g ≡ Some a) ⊎ (u ≤ w.seen x.silo))
+        (w : World) (x : Settling) → ((h : ℕ) → x.part h ≡ true → w.level h < w.seen x.silo)
+        → (x.part (m.hash g) ≡ true → (x.entries g ≡ Some a) ⊎ (u ≤ w.seen x.silo))
         → Kept m w → EarlyOf m g a u w
-        → Early m g a u w.now w.seen w.held w.requests w.offers w.reports (where_true x.part (λ h. w.seen x.silo) w.level) (where_true (λ g. x.part (m.hash g)) x.entries w.authority)
+        → Early m g a u w.now w.seen w.held w.requests w.offers w.reports (where_true x.part (λ h. w.seen x.silo) w.level)
+        (where_true (λ g. x.part (m.hash g)) x.entries w.authority)
         ⊎ Late m g u w.now w.seen w.held w.replies (where_true x.part (λ h. w.seen x.silo) w.level)
-    early_settling w x raised has k e = elim (bool_cases (x.part (m.hash g))) [ inl t ↦ here t (has t) | inr f ↦ inl (stays (ap (λ b. cond b (x.entries g) (w.authority g)) f ∙ e.entered)) ]
+    early_settling w x raised has k e =
+        elim (bool_cases (x.part (m.hash g))) [
+          | inl t ↦ here t (has t)
+          | inr f ↦ inl
+              (stays (ap (λ b. cond b (x.entries g) (w.authority g)) f ∙ e.entered))
+        ]
       where
         higher : w.level (m.hash g) ≤ where_true x.part (λ h. w.seen x.silo) w.level (m.hash g)
         higher =
             on_bool (λ b. w.level (m.hash g) ≤ cond b (w.seen x.silo) (w.level (m.hash g))) (x.part (m.hash g))
             (λ t. let below : w.level (m.hash g) < w.seen x.silo = raised (m.hash g) t in omega arith) (λ f. omega arith)
 
-        stays : where_true (λ g. x.part (m.hash g)) x.entries w.authority g ≡ Some a → Early m g a u w.now w.seen w.held w.requests w.offers w.reports (where_true x.part (λ h. w.seen x.silo) w.level) (where_true (λ g. x.part (m.hash g)) x.entries w.authority)
-        stays is = early_rise m g a u w w.seen (where_true x.part (λ h. w.seen x.silo) w.level) (where_true (λ g. x.part (m.hash g)) x.entries w.authority) (λ s. omega arith) higher is e
+        stays : where_true (λ g. x.part (m.hash g)) x.entries w.authority g ≡ Some a
+            → Early m g a u w.now w.seen w.held w.requests w.offers w.reports (where_true x.part (λ h. w.seen x.silo) w.level)
+            (where_true (λ g. x.part (m.hash g)) x.entries w.authority)
+        stays is =
+            early_rise m g a u w w.seen (where_true x.part (λ h. w.seen x.silo) w.level)
+            (where_true (λ g. x.part (m.hash g)) x.entries w.authority) (λ s. omega arith) higher is e
 
         here :
             x.part (m.hash g) ≡ true → (x.entries g ≡ Some a) ⊎ (u ≤ w.seen x.silo)
-            → Early m g a u w.now w.seen w.held w.requests w.offers w.reports (where_true x.part (λ h. w.seen x.silo) w.level) (where_true (λ g. x.part (m.hash g)) x.entries w.authority)
+            → Early m g a u w.now w.seen w.held w.requests w.offers w.reports (where_true x.part (λ h. w.seen x.silo) w.level)
+            (where_true (λ g. x.part (m.hash g)) x.entries w.authority)
             ⊎ Late m g u w.now w.seen w.held w.replies (where_true x.part (λ h. w.seen x.silo) w.level)
         here t (inl is) = inl (stays (ap (λ b. cond b (x.entries g) (w.authority g)) t ∙ is))
         here t (inr low) =
@@ -151,20 +182,24 @@ module _ (m : Setting) (g : Grain) (a : ActivationId) (u : ℕ) where
             (subst (λ n. u ≤ n) (sym (ap (λ b. cond b (w.seen x.silo) (w.level (m.hash g))) t)) low)
             (λ y z q c. inl (q, c)))
 
-    early_install : (w : World) (x : Settling) (snapshot : Snapshot) → MayInstall m w x snapshot → Kept m w → EarlyOf m g a u w → Since (after m w (Install x snapshot))
+    early_install : (w : World) (x : Settling) (snapshot : Snapshot) → MayInstall m w x snapshot → Kept m w → EarlyOf m g a u w
+        → Since (after m w (Install x snapshot))
     early_install w x snapshot may k e =
-        early_settling w x (λ h t. let at : w.level h ≡ snapshot.sealed_at = install_level m w x snapshot may k.placed h t in omega (arith, may.same_version)) has k e
+        early_settling w x (λ h t. let at : w.level h ≡ snapshot.sealed_at = install_level m w x snapshot may k.placed h t in
+        omega (arith, may.same_version)) has k e
       where
         has : x.part (m.hash g) ≡ true → (x.entries g ≡ Some a) ⊎ (u ≤ w.seen x.silo)
         has t = elim (bool_cases (m.alive (suc snapshot.sealed_at) a.silo)) [
           | inl live ↦
               inl (may.entries g t
-              ∙ k.backed.entries.sealed snapshot g may.sent (may.covered (m.hash g) t) (install_level m w x snapshot may k.placed (m.hash g) t)
+              ∙ k.backed.entries.sealed snapshot g may.sent (may.covered (m.hash g) t)
+              (install_level m w x snapshot may k.placed (m.hash g) t)
               ∙ surviving_stays m (suc snapshot.sealed_at) (w.authority g) a e.entered live)
           | inr dead ↦ inr (subst (λ n. u ≤ n) may.same_version (dead_later (suc snapshot.sealed_at) dead))
         ]
 
-    early_recover : (w : World) (x : Settling) (told : Silo → Report) → MayRecover m w x told → Kept m w → EarlyOf m g a u w → Since (after m w (Recover x told))
+    early_recover : (w : World) (x : Settling) (told : Silo → Report) → MayRecover m w x told → Kept m w → EarlyOf m g a u w
+        → Since (after m w (Recover x told))
     early_recover w x told may k e = early_settling w x (recover_below m w x told may k.placed) has k e
       where
         -- an entry is the authority
@@ -190,7 +225,8 @@ module _ (m : Setting) (g : Grain) (a : ActivationId) (u : ℕ) where
             elim (bool_cases (m.alive (w.seen x.silo) a.silo)) [
               | inl live ↦
                   (let below : w.level (m.hash g) < w.seen x.silo = recover_below m w x told may k.placed (m.hash g) t in
-                  by_member t (m.member_until_death (w.level (m.hash g)) (w.seen x.silo) a.silo (omega arith) (k.backed.entries.on_member g a e.entered) live))
+                  by_member t (m.member_until_death (w.level (m.hash g)) (w.seen x.silo) a.silo (omega arith)
+                  (k.backed.entries.on_member g a e.entered) live))
               | inr dead ↦ inr (dead_later (w.seen x.silo) dead)
             ]
 
@@ -198,7 +234,7 @@ module _ (m : Setting) (g : Grain) (a : ActivationId) (u : ℕ) where
     early_after w New_view may k e = inl (early_view m g a u w e)
     early_after w (See x) may k e = early_sight w x may k e
     early_after w (Start s h previous) may k e = inl (early_start m g a u w s h previous may e)
-    early_after w (Close s h c) may k e = inl (early_close m g a u w s h c may e)
+    early_after w (Close s h x) may k e = inl (early_close m g a u w s h x may e)
     early_after w (Offer_away s h c) may k e = inl (early_offer m g a u w s h c may e)
     early_after w (Renew s h x purpose) may k e = inl (early_renew m g a u w s h x purpose may e)
     early_after w (Find s) may k e = inl e
@@ -215,10 +251,12 @@ module _ (m : Setting) (g : Grain) (a : ActivationId) (u : ℕ) where
 
     pub since_run : (actions : List Action) (w : World) → AllAllowed m actions w → Kept m w → Since w → Since (run m actions w)
     since_run [] w may k since = since
-    since_run (action ∷ rest) w may k since = since_run rest (after m w action) may.1 (kept_after m w action may.0 k) (since_after w action may.0 k since)
+    since_run (action ∷ rest) w may k since =
+        since_run rest (after m w action) may.1 (kept_after m w action may.0 k) (since_after w action may.0 k since)
 
     -- ---- what follows
-    pub firm_no_lower : (w : World) → Kept m w → Since w → (s : Silo) (c : ℕ) → m.alive w.now s ≡ true → w.held s g ≡ Some (Firm c) → u ≤ w.seen s
+    pub firm_no_lower : (w : World) → Kept m w → Since w → (s : Silo) (c : ℕ) → m.alive w.now s ≡ true → w.held s g ≡ Some (Firm c)
+        → u ≤ w.seen s
     firm_no_lower w k (inl e) s c live firm =
         let is : activation_on s c ≡ a = (let n = k.backed.confirmed.firm s g c live firm in let t = e.entered in cc) in
         its_silo m g a u w s c live is e

@@ -18,10 +18,12 @@ use Rattle.directory_protocol.proofs.SpentAfter.{answered_purpose}
 
 -- the grain's hash was settled at version u or later, and only replies of such a version make an activation of the grain firm
 pub record Late
-    (m : Setting) (g : Grain) (u : ℕ) (now : ℕ) (seen : Silo → ℕ) (held : Silo → Grain → Option Held) (replies : List Reply) (level : ℕ → ℕ) : Type 0 where
+    (m : Setting) (g : Grain) (u : ℕ) (now : ℕ) (seen : Silo → ℕ) (held : Silo → Grain → Option Held) (replies : List Reply)
+    (level : ℕ → ℕ) : Type 0 where
   pub settled : u ≤ level (m.hash g)
   pub confirming :
-      (y : Reply) (x : Held) → Sent y replies → y.answer ≡ Registered → m.alive now y.receiver ≡ true → Counts seen held y g x → u ≤ y.version
+      (y : Reply) (x : Held) → Sent y replies → y.answer ≡ Registered → m.alive now y.receiver ≡ true → Counts seen held y g x
+      → u ≤ y.version
   pub firm : (s : Silo) (c : ℕ) → m.alive now s ≡ true → held s g ≡ Some (Firm c) → u ≤ seen s
 
 module _ (m : Setting) (g : Grain) (u : ℕ) where
@@ -40,7 +42,8 @@ module _ (m : Setting) (g : Grain) (u : ℕ) where
   late_sight w x may k l =
       record {
         settled = on_bool (λ b. u ≤ cond b x.version (w.level (m.hash g))) (x.kept (m.hash g))
-            (λ t. let at : w.level (m.hash g) ≡ w.seen x.silo = sight_level m w x may k.placed (m.hash g) t in omega (arith, l.settled, may.newer)) (λ f. l.settled);
+            (λ t. let at : w.level (m.hash g) ≡ w.seen x.silo = sight_level m w x may k.placed (m.hash g) t in
+            omega (arith, l.settled, may.newer)) (λ f. l.settled);
         confirming = λ y z q e live c. l.confirming y z q e live (counts_seen m w x may k.asked.numbers y g z q c);
         firm = λ s c live e. let before : u ≤ w.seen s = l.firm s c live e in
             let later : w.seen s ≤ put x.silo x.version w.seen s = (later_sight m w x may).no_less s in
@@ -84,7 +87,8 @@ module _ (m : Setting) (g : Grain) (u : ℕ) where
       record {
         settled = l.settled;
         confirming = λ y z q.
-            sent_all (λ y. y.answer ≡ Registered → m.alive w.now y.receiver ≡ true → Counts w.seen w.held y g z → u ≤ y.version) (replied x) w.replies
+            sent_all (λ y. y.answer ≡ Registered → m.alive w.now y.receiver ≡ true → Counts w.seen w.held y g z → u ≤ y.version) (replied x)
+            w.replies
             (λ e live c.
             let purpose = answered_purpose x.request.purpose (named x.request) x.request.previous (w.table x.server x.request.grain) x.answer x.entry may.answered in
             let number : outstanding x.request.purpose z ≡ Some x.request.number = subst (λ p. outstanding p z ≡ Some x.request.number) purpose c.same_number in
@@ -97,7 +101,8 @@ module _ (m : Setting) (g : Grain) (u : ℕ) where
         firm = l.firm;
       }
 
-  late_settling : (w : World) (x : Settling) → ((h : ℕ) → x.part h ≡ true → w.level h < w.seen x.silo) → LateOf w → Late m g u w.now w.seen w.held w.replies (where_true x.part (λ h. w.seen x.silo) w.level)
+  late_settling : (w : World) (x : Settling) → ((h : ℕ) → x.part h ≡ true → w.level h < w.seen x.silo) → LateOf w
+      → Late m g u w.now w.seen w.held w.replies (where_true x.part (λ h. w.seen x.silo) w.level)
   late_settling w x raised l =
       record {
         settled = on_bool (λ b. u ≤ cond b (w.seen x.silo) (w.level (m.hash g))) (x.part (m.hash g))
@@ -110,16 +115,21 @@ module _ (m : Setting) (g : Grain) (u : ℕ) where
   late_after w New_view may k l = late_view w l
   late_after w (See x) may k l = late_sight w x may k l
   late_after w (Start s h previous) may k l =
-      late_open w s h (Asking (w.next_count s) (w.next_number s) previous) k (λ c e. cc) (asking_number (w.next_count s) (w.next_number s) previous) l
-  late_after w (Close s h c) may k l = late_open w s h (Closing c (w.next_number s)) k (λ d e. cc) (closing_number c (w.next_number s)) l
-  late_after w (Offer_away s h c) may k l = late_open w s h (Closing c (w.next_number s)) k (λ d e. cc) (closing_number c (w.next_number s)) l
+      late_open w s h (Asking (w.next_count s) (w.next_number s) previous) k (λ c e. cc)
+      (asking_number (w.next_count s) (w.next_number s) previous) l
+  late_after w (Close s h x) may k l =
+      late_open w s h (Closing (count_of x) (w.next_number s)) k (λ d e. cc) (closing_number (count_of x) (w.next_number s)) l
+  late_after w (Offer_away s h c) may k l =
+      late_open w s h (Closing c (w.next_number s)) k (λ d e. cc) (closing_number c (w.next_number s)) l
   late_after w (Renew s h x purpose) may k l =
-      late_open w s h (renumbered (w.next_number s) x) k (renumbered_open (w.next_number s) x purpose (may.outstanding).0 (may.outstanding).1) (renumbered_number (w.next_number s) x) l
+      late_open w s h (renumbered (w.next_number s) x) k
+      (renumbered_open (w.next_number s) x purpose (may.outstanding).0 (may.outstanding).1) (renumbered_number (w.next_number s) x) l
   late_after w (Find s) may k l = l
   late_after w (Serve x) may k l = late_served w x may k l
   late_after w (Confirm y h x) may k l =
       late_turn w y.receiver h (Some (Firm (count_of x))) k
-      (λ z purpose i e o. let same : Firm (count_of x) ≡ z = cc in absurd (firm_number (count_of x) purpose i (ap (outstanding purpose) same ∙ o)))
+      (λ z purpose i e o. let same : Firm (count_of x) ≡ z = cc in
+      absurd (firm_number (count_of x) purpose i (ap (outstanding purpose) same ∙ o)))
       (λ c is live e.
       let counts : Counts w.seen w.held y g x = subst (λ h. Counts w.seen w.held y h x) is may.accepted.counts in
       let low : u ≤ y.version = l.confirming y x may.accepted.sent may.answer live counts in

@@ -23,7 +23,8 @@ use Rattle.directory_rules.specs.declared.held.Phase.TheVariants as phase
 use Rattle.directory_rules.specs.Host.{held_of}
 use Rattle.directory_rules.specs.Settings.{Settings, AreSettings}
 use Rattle.directory_rules.specs.Event.{Event, IsEvent}
-use Rattle.directory_rules.specs.World.{World, first_world}
+use Rattle.directory_rules.specs.State.{World}
+use Rattle.directory_rules.specs.World.{first_world}
 use Rattle.directory_rules.specs.Happens.{node_of, happens}
 use Rattle.directory_rules.specs.Run.{run}
 use Rattle.directory_rules.specs.Laws.{is_live}
@@ -44,7 +45,8 @@ use Rattle.deployment_headline.proofs.TokensKept.{since_run, firm_no_lower}
 use Rattle.deployment_headline.proofs.TokensRuns.{LeadsTo, Passes, result_passes, after_append, facts_by, and_one, leads_run}
 
 -- ---- what is firm in the rule's world is so in the protocol's
-firm_phase : (its : Phase) (count : ℕ) (previous : Option ActivationId) (c : ℕ) → Some (life_by its count) ≡ Some (Is_firm c) → Some (held_in its count previous) ≡ Some (protocol.Firm c)
+firm_phase : (its : Phase) (count : ℕ) (previous : Option ActivationId) (c : ℕ) → Some (life_by its count) ≡ Some (Is_firm c)
+    → Some (held_in its count previous) ≡ Some (protocol.Firm c)
 firm_phase (phase.Asking number) count previous c is = absurd (cc is)
 firm_phase phase.Firm count previous c is = let same : count ≡ c = cc is in ap (λ n. Some (protocol.Firm n)) same
 firm_phase (phase.Closing number) count previous c is = absurd (cc is)
@@ -58,7 +60,8 @@ record IsFirmThere (m : Setting) (w : protocol.World) (grain : Grain) (a : Activ
   held : w.held a.silo grain ≡ Some (protocol.Firm a.count)
   saw : w.seen a.silo ≡ version
 
-module _ (m : Setting) (f : World) (setting : IsSettingOf m f) (facts : WorldFacts m.hash f) (w : protocol.World) (reached : IsReached m w) (shown : Shown m f w) (grain : Grain) (a : ActivationId) (version : ℕ) (firm : IsFirm f grain a version) where
+module _ (m : Setting) (f : World) (setting : IsSettingOf m f) (facts : WorldFacts m.hash f) (w : protocol.World) (reached : IsReached m w)
+    (shown : Shown m f w) (grain : Grain) (a : ActivationId) (version : ℕ) (firm : IsFirm f grain a version) where
   here : Here m f w a.silo firm.node
   here = record { setting = setting; facts = facts; there = firm.there; reached = reached; shown = shown }
 
@@ -72,7 +75,8 @@ module _ (m : Setting) (f : World) (setting : IsSettingOf m f) (facts : WorldFac
 
   -- and its silo a member of the current view
   member_now : m.member w.now a.silo ≡ true
-  member_now = ap (λ v. m.member v a.silo) shown.now ∙ setting.member f.views.version a.silo (omega arith) ∙ live_now m f w a.silo firm.node here
+  member_now =
+      ap (λ v. m.member v a.silo) shown.now ∙ setting.member f.views.version a.silo (omega arith) ∙ live_now m f w a.silo firm.node here
 
 kept_of : (m : Setting) (w : protocol.World) → IsReached m w → Kept m w
 kept_of m w reached = holds_where_reached Kept kept_reached m w reached
@@ -92,7 +96,8 @@ Since m grain a u w = kept.Since m grain (activation_on a.silo a.count) u w
 
 -- nobody has a grain firm later having seen less than u
 low_later :
-    (m : Setting) (w : protocol.World) (actions : List Action) → acting.AllAllowed m actions w → Kept m w → Kept m (acting.run m actions w) → (grain : Grain) (a b : ActivationId) (u v : ℕ)
+    (m : Setting) (w : protocol.World) (actions : List Action) → acting.AllAllowed m actions w → Kept m w → Kept m (acting.run m actions w)
+    → (grain : Grain) (a b : ActivationId) (u v : ℕ)
     → ((v : ℕ) → m.alive v a.silo ≡ false → u ≤ v) → Since m grain a u w → IsFirmThere m (acting.run m actions w) grain b v → u ≤ v
 low_later m w actions allowed k j grain a b u v late since y =
     let then : Since m grain a u (acting.run m actions w) = since_run m grain (activation_on a.silo a.count) u late actions w allowed k since in
@@ -100,7 +105,8 @@ low_later m w actions allowed k j grain a b u v late since y =
     subst (λ n. u ≤ n) y.saw low
 
 no_lower :
-    (m : Setting) (w : protocol.World) (actions : List Action) → acting.AllAllowed m actions w → Kept m w → Kept m (acting.run m actions w) → (grain : Grain) (a b : ActivationId) (u v : ℕ)
+    (m : Setting) (w : protocol.World) (actions : List Action) → acting.AllAllowed m actions w → Kept m w → Kept m (acting.run m actions w)
+    → (grain : Grain) (a b : ActivationId) (u v : ℕ)
     → IsFirmThere m w grain a u → IsFirmThere m (acting.run m actions w) grain b v → u ≤ v
 no_lower m w actions allowed k j grain a b u v x y =
     let known : w.seen a.silo ≤ w.now = k.placed.structure.known a.silo in
@@ -110,23 +116,31 @@ no_lower m w actions allowed k j grain a b u v x y =
 
 -- the silo of one dies while that is firm
 above :
-    (m : Setting) (w : protocol.World) (actions : List Action) → acting.AllAllowed m actions (acting.after m w New_view) → Kept m w → Kept m (acting.after m w New_view)
-    → Kept m (acting.run m actions (acting.after m w New_view)) → (grain : Grain) (a b : ActivationId) (u v : ℕ) → IsFirmThere m w grain a u → m.alive (suc w.now) a.silo ≡ false
+    (m : Setting) (w : protocol.World) (actions : List Action) → acting.AllAllowed m actions (acting.after m w New_view) → Kept m w
+    → Kept m (acting.after m w New_view)
+    → Kept m (acting.run m actions (acting.after m w New_view)) → (grain : Grain) (a b : ActivationId) (u v : ℕ) → IsFirmThere m w grain a u
+    → m.alive (suc w.now) a.silo ≡ false
     → IsFirmThere m (acting.run m actions (acting.after m w New_view)) grain b v → (u < suc w.now) × (suc w.now ≤ v)
 above m w actions allowed k next j grain a b u v x dies y =
     let known : w.seen a.silo ≤ w.now = k.placed.structure.known a.silo in
     let saw : w.seen a.silo ≡ u = x.saw in
     let early : Since m grain a (suc w.now) (acting.after m w New_view) =
-    inl (early_firm m (acting.after m w New_view) a.silo grain a.count (suc w.now) next (k.backed.confirmed.firm a.silo grain a.count x.alive x.held) x.held (λ live. not_both live dies)) in
-    (omega arith, low_later m (acting.after m w New_view) actions allowed next j grain a b (suc w.now) v (dead_later m a.silo w.now (suc w.now) x.alive (omega arith)) early y)
+    inl (early_firm m (acting.after m w New_view) a.silo grain a.count (suc w.now) next
+    (k.backed.confirmed.firm a.silo grain a.count x.alive x.held) x.held (λ live. not_both live dies)) in (
+      omega arith,
+      low_later m (acting.after m w New_view) actions allowed next j grain a b (suc w.now) v
+          (dead_later m a.silo w.now (suc w.now) x.alive (omega arith)) early y,
+    )
 
 -- ---- two moments of the rule
 module _ (settings : Settings) (are : AreSettings settings) (m : Setting) where
-  its_facts : (events : List Event) → All IsEvent events → (f : World) → world_by settings events ≡ f → IsSettingOf m f → WorldFacts m.hash f
+  its_facts : (events : List Event) → All IsEvent events → (f : World) → world_by settings events ≡ f → IsSettingOf m f
+      → WorldFacts m.hash f
   its_facts events all f same is = subst (WorldFacts m.hash) same (facts_by settings are m events all (subst (IsSettingOf m) (sym same) is))
 
   falls :
-      (before more : List Event) → All IsEvent before → All IsEvent more → IsSettingOf m (run (world_by settings before) more).world → (grain : Grain) (a b : ActivationId) (u v : ℕ)
+      (before more : List Event) → All IsEvent before → All IsEvent more → IsSettingOf m (run (world_by settings before) more).world
+      → (grain : Grain) (a b : ActivationId) (u v : ℕ)
       → IsFirm (world_by settings before) grain a u → IsFirm (run (world_by settings before) more).world grain b v → u ≤ v
   falls before more all rest is grain a b u v firm later =
       let f = world_by settings before in
@@ -137,7 +151,8 @@ module _ (settings : Settings) (are : AreSettings settings) (m : Setting) where
       let facts = its_facts before all f refl setting in
       let last_facts = its_facts (before ++ more) (All-append IsEvent before more all rest) last (after_append (first_world settings) before more) is in
       let reached : IsReached m (acting.run m leads.actions carried.world) = reached_run m carried.world leads.actions carried.reached leads.allowed in
-      no_lower m carried.world leads.actions leads.allowed (kept_of m carried.world carried.reached) (kept_of m (acting.run m leads.actions carried.world) reached) grain a b u v
+      no_lower m carried.world leads.actions leads.allowed (kept_of m carried.world carried.reached)
+      (kept_of m (acting.run m leads.actions carried.world) reached) grain a b u v
       (firm_there m f setting facts carried.world carried.reached carried.shown grain a u firm)
       (firm_there m last is last_facts (acting.run m leads.actions carried.world) reached leads.shown grain b v later)
 
@@ -147,7 +162,8 @@ module _ (settings : Settings) (are : AreSettings settings) (m : Setting) where
     dies : m.alive (suc w.now) silo ≡ false
 
   death :
-      (w : protocol.World) (f later : World) (silo : Silo) → WorldFacts m.hash f → WorldFacts m.hash later → IsSettingOf m later → Shown m f w → Passes m w f later → is_some (node_of f silo) ≡ true
+      (w : protocol.World) (f later : World) (silo : Silo) → WorldFacts m.hash f → WorldFacts m.hash later → IsSettingOf m later
+      → Shown m f w → Passes m w f later → is_some (node_of f silo) ≡ true
       → node_of later silo ≡ None → m.member w.now silo ≡ true → Death w f later silo
   death w f later silo facts then is shown passes there gone member = by passes.how
     where
@@ -164,14 +180,17 @@ module _ (settings : Settings) (are : AreSettings settings) (m : Setting) where
             shown = next;
             dies = elim (bool_cases (m.alive (suc w.now) silo)) [
               | inl live ↦
-                  absurd (true≢false (sym (m.member_until_death w.now (suc w.now) silo (omega arith) member live) ∙ ap (λ v. m.member v silo) next.now ∙ is.member later.views.version silo (omega arith) ∙ dead))
+                  absurd (true≢false (sym (m.member_until_death w.now (suc w.now) silo (omega arith) member live)
+                  ∙ ap (λ v. m.member v silo) next.now ∙ is.member later.views.version silo (omega arith) ∙ dead))
               | inr gone ↦ gone
             ];
           }
 
   pass :
-      (before more : List Event) (event : Event) → All IsEvent before → IsEvent event → All IsEvent more → IsSettingOf m (run (world_by settings (before ++ event ∷ [])) more).world
-      → (grain : Grain) (a b : ActivationId) (u v : ℕ) → IsFirm (world_by settings before) grain a u → node_of (world_by settings (before ++ event ∷ [])) a.silo ≡ None
+      (before more : List Event) (event : Event) → All IsEvent before → IsEvent event → All IsEvent more
+      → IsSettingOf m (run (world_by settings (before ++ event ∷ [])) more).world
+      → (grain : Grain) (a b : ActivationId) (u v : ℕ) → IsFirm (world_by settings before) grain a u
+      → node_of (world_by settings (before ++ event ∷ [])) a.silo ≡ None
       → IsFirm (run (world_by settings (before ++ event ∷ [])) more).world grain b v
       → (u < (world_by settings (before ++ event ∷ [])).views.version) × ((world_by settings (before ++ event ∷ [])).views.version ≤ v)
   pass before more event all one rest is grain a b u v firm gone later =
@@ -194,7 +213,8 @@ module _ (settings : Settings) (are : AreSettings settings) (m : Setting) where
       let leads : LeadsTo m (acting.after m w New_view) last = leads_run settings are m now more named rest is (record { world = acting.after m w New_view; reached = reached; shown = dies.shown }) in
       let ends : IsReached m (acting.run m leads.actions (acting.after m w New_view)) = reached_run m (acting.after m w New_view) leads.actions reached leads.allowed in
       let both =
-      above m w leads.actions leads.allowed (kept_of m w carried.reached) (kept_of m (acting.after m w New_view) reached) (kept_of m (acting.run m leads.actions (acting.after m w New_view)) ends) grain a b u v
+      above m w leads.actions leads.allowed (kept_of m w carried.reached) (kept_of m (acting.after m w New_view) reached)
+      (kept_of m (acting.run m leads.actions (acting.after m w New_view)) ends) grain a b u v
       (firm_there m f setting facts w carried.reached carried.shown grain a u firm) dies.dies
       (firm_there m last is last_facts (acting.run m leads.actions (acting.after m w New_view)) ends leads.shown grain b v later) in
       subst (λ n. (u < n) × (n ≤ v)) dies.shown.now both
@@ -213,7 +233,8 @@ never_fall settings are before more grain a b u v named firm later =
     let same = after_append (first_world settings) before more in
     let last = world_by settings (before ++ more) in
     let whole = (facts_hold settings (before ++ more) are named).peopled.whole in
-    falls settings are (setting_of last whole) before more (first_ones Event IsEvent before more named) (last_ones Event IsEvent before more named)
+    falls settings are (setting_of last whole) before more (first_ones Event IsEvent before more named)
+    (last_ones Event IsEvent before more named)
     (subst (IsSettingOf (setting_of last whole)) same (is_setting_of last whole)) grain a b u v firm
     (subst (λ f. IsFirm f grain b v) same later)
 
@@ -224,6 +245,7 @@ pass_deaths settings are before more event grain a b u v named firm gone later =
     let last = world_by settings (before ++ event ∷ more) in
     let whole = (facts_hold settings (before ++ event ∷ more) are named).peopled.whole in
     let rest = last_ones Event IsEvent before (event ∷ more) named in
-    pass settings are (setting_of last whole) before more event (first_ones Event IsEvent before (event ∷ more) named) (All-head IsEvent event more rest) (All-tail IsEvent event more rest)
+    pass settings are (setting_of last whole) before more event (first_ones Event IsEvent before (event ∷ more) named)
+    (All-head IsEvent event more rest) (All-tail IsEvent event more rest)
     (subst (IsSettingOf (setting_of last whole)) same (is_setting_of last whole)) grain a b u v firm gone
     (subst (λ f. IsFirm f grain b v) same later)

@@ -9,13 +9,12 @@ use Rattle.directory_protocol.specs.World as protocol
 use Rattle.directory_protocol.specs.Actions.{Action, New_view}
 use Rattle.directory_protocol.specs.Effects as acting
 use Rattle.directory_protocol.proofs.Runs.{run_append, allowed_append, reached_run}
-use Rattle.directory_rules.specs.Letter.{Letter}
+use Rattle.directory_rules.specs.State.{Letter, Node, World, Accepted}
 use Rattle.directory_rules.specs.Settings.{Settings, AreSettings}
-use Rattle.directory_rules.specs.Node.{Node}
 use Rattle.directory_rules.specs.Step.{Stepped}
 use Rattle.directory_rules.specs.Event.{Event, IsEvent}
 use Rattle.directory_rules.specs.Input.{Input, Receives, step, sight_of}
-use Rattle.directory_rules.specs.World.{World, Accepted, membership_of}
+use Rattle.directory_rules.specs.World.{membership_of}
 use Rattle.directory_rules.specs.Mail.{letter_of, with_delivered, with_lost}
 use Rattle.directory_rules.specs.Happens as rule
 use Rattle.directory_rules.specs.Run.{run, world_after}
@@ -40,7 +39,8 @@ pub record LeadsTo (m : Setting) (w : protocol.World) (f : World) : Type 0 where
 pub leads_nowhere : (m : Setting) (w : protocol.World) (f : World) → Shown m f w → LeadsTo m w f
 leads_nowhere m w f shown = record { actions = []; allowed = tt; shown = shown }
 
-leads_on : (m : Setting) (w : protocol.World) (f later : World) → (l : LeadsTo m w f) → LeadsTo m (acting.run m l.actions w) later → LeadsTo m w later
+leads_on : (m : Setting) (w : protocol.World) (f later : World) → (l : LeadsTo m w f) → LeadsTo m (acting.run m l.actions w) later
+    → LeadsTo m w later
 leads_on m w f later l then =
     record {
       actions = l.actions ++ then.actions;
@@ -63,7 +63,8 @@ module _ (m : Setting) (f : World) (setting : IsSettingOf m f) (facts : WorldFac
   next_view : (later : World) → Shown m later (acting.after m w New_view) → Passes m w f later
   next_view later shown = record { leads = record { actions = New_view ∷ []; allowed = (tt, tt); shown = shown }; how = inr refl }
 
-  stepping : (silo : Silo) (node : Node) (input : Input) (stepped : Stepped) → rule.node_of f silo ≡ Some node → step node input ≡ Ok stepped → Brings m f w silo input → Passes m w f (with_step f silo stepped)
+  stepping : (silo : Silo) (node : Node) (input : Input) (stepped : Stepped) → rule.node_of f silo ≡ Some node
+      → step node input ≡ Ok stepped → Brings m f w silo input → Passes m w f (with_step f silo stepped)
   stepping silo node input stepped there is brings =
       let moves = all_move m f w silo node (here silo node there) input stepped is brings in
       record {
@@ -76,7 +77,8 @@ module _ (m : Setting) (f : World) (setting : IsSettingOf m f) (facts : WorldFac
       }
 
   delivering :
-      (number : ℕ) (letter : Letter) (node : Node) (stepped : Stepped) → letter_of f number ≡ Some letter → rule.node_of f letter.to ≡ Some node → step node (Receives letter) ≡ Ok stepped
+      (number : ℕ) (letter : Letter) (node : Node) (stepped : Stepped) → letter_of f number ≡ Some letter
+      → rule.node_of f letter.to ≡ Some node → step node (Receives letter) ≡ Ok stepped
       → Passes m w f (with_step (with_delivered f number letter) letter.to stepped)
   delivering number letter node stepped found there is =
       let shown = letter_shown m f w number letter carried.shown found in
@@ -86,7 +88,9 @@ module _ (m : Setting) (f : World) (setting : IsSettingOf m f) (facts : WorldFac
         leads = record {
           actions = moves.actions;
           allowed = moves.allowed;
-          shown = shown_step m f (with_delivered f number letter) w letter.to node stepped (here letter.to node there) refl refl (mail_delivered m f w number letter carried.shown shown) moves;
+          shown =
+              shown_step m f (with_delivered f number letter) w letter.to node stepped (here letter.to node there) refl refl
+              (mail_delivered m f w number letter carried.shown shown) moves;
         };
         how = inl refl;
       }
@@ -99,7 +103,12 @@ module _ (m : Setting) (f : World) (setting : IsSettingOf m f) (facts : WorldFac
     sees = λ silo version node stepped there sight is. stepping silo node (sight_of (membership_of f) version) stepped there is sight;
     does = λ silo input node stepped own there is. stepping silo node input stepped there is (own_brings m f w silo input own);
     delivers = λ number letter node stepped found there is. delivering number letter node stepped found there is;
-    loses = λ number. record { leads = leads_nowhere m w (rule.counted (with_lost f number)) (shown_lost m f w number carried.shown); how = inl refl };
+    loses =
+        λ number. record {
+          leads = leads_nowhere m w (rule.counted (with_lost f number)) (shown_lost m f w number carried.shown);
+          how = inl
+              refl;
+        };
   }) event
 
   -- whether it is accepted or not
@@ -114,16 +123,19 @@ after_append world [] ys = refl
 after_append world (event ∷ xs) ys = after_append (world_after (rule.happens world event) world) xs ys
 
 module _ (settings : Settings) (are : AreSettings settings) (m : Setting) where
-  pub facts_by : (events : List Event) → All IsEvent events → IsSettingOf m (world_by settings events) → WorldFacts m.hash (world_by settings events)
+  pub facts_by : (events : List Event) → All IsEvent events → IsSettingOf m (world_by settings events)
+      → WorldFacts m.hash (world_by settings events)
   facts_by events all is =
-      subst (λ hash. WorldFacts hash (world_by settings events)) (sym (is.hash ∙ ap (λ (s : Settings). hash_grain s.hashing) (settings_stay settings events)))
+      subst (λ hash. WorldFacts hash (world_by settings events))
+      (sym (is.hash ∙ ap (λ (s : Settings). hash_grain s.hashing) (settings_stay settings events)))
       (facts_hold settings events are all)
 
   pub and_one : (before : List Event) (event : Event) → All IsEvent before → IsEvent event → All IsEvent (before ++ event ∷ [])
   and_one before event all is = All-append IsEvent before (event ∷ []) all (All-cons IsEvent event [] is (All-nil IsEvent))
 
   pub leads_run :
-      (before rest : List Event) → All IsEvent before → All IsEvent rest → IsSettingOf m (run (world_by settings before) rest).world → (carried : Carried m (world_by settings before))
+      (before rest : List Event) → All IsEvent before → All IsEvent rest → IsSettingOf m (run (world_by settings before) rest).world
+      → (carried : Carried m (world_by settings before))
       → LeadsTo m carried.world (run (world_by settings before) rest).world
   unfolding run
   leads_run before [] all more is carried = leads_nowhere m carried.world (world_by settings before) carried.shown
@@ -140,4 +152,5 @@ module _ (settings : Settings) (are : AreSettings settings) (m : Setting) where
       } in
       let later = leads_run next rest (and_one before event all (All-head IsEvent event rest more)) (All-tail IsEvent event rest more)
       (subst (λ world. IsSettingOf m (run world rest).world) (sym one) is) then in
-      subst (λ world. LeadsTo m carried.world (run world rest).world) one (leads_on m carried.world (world_by settings next) (run (world_by settings next) rest).world passes.leads later)
+      subst (λ world. LeadsTo m carried.world (run world rest).world) one
+      (leads_on m carried.world (world_by settings next) (run (world_by settings next) rest).world passes.leads later)

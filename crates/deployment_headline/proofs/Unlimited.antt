@@ -10,8 +10,7 @@ use Rattle.silo_address.specs.declared.ActivationId.{ActivationId}
 use Rattle.silo_address.specs.declared.Entry.{Entry}
 use Rattle.directory_rules.specs.declared.held.Held.{Held}
 use Rattle.directory_rules.specs.Host.{held_of}
-use Rattle.directory_rules.specs.Node.{Node}
-use Rattle.directory_rules.specs.World.{Posted, World}
+use Rattle.directory_rules.specs.State.{Node, Posted, World}
 use Rattle.directory_rules.specs.Happens.{node_of}
 use Rattle.directory_rules.specs.Settled.{HasNode, IsSettledAt, IsHeld, IsFirmOn, AreComplete, IsRightTable, IsRightOnLive}
 use Rattle.directory_rules.specs.Headline.{Headline, IsSettledSomewhere}
@@ -37,14 +36,26 @@ module _ (g : World) (events letters accepted : ℕ) (mail : List (ℕ × Posted
       by None is some = absurd (cc (some))
       by (Some its) is some = let same : R its ≡ node = cc (some) in (its, is, same)
 
-  settled_in : (version hash : ℕ) (silo : Silo) (node : Node) → IsSettledAt g version hash silo node → IsSettledAt f version hash silo (R node)
-  settled_in version hash silo node at = record { live = has silo node at.live; seen = at.seen; owner = at.owner; piece = at.piece; found = at.found; settled = at.settled }
+  settled_in : (version hash : ℕ) (silo : Silo) (node : Node) → IsSettledAt g version hash silo node
+      → IsSettledAt f version hash silo (R node)
+  settled_in version hash silo node at =
+      record { live = has silo node at.live; seen = at.seen; owner = at.owner; piece = at.piece; found = at.found; settled = at.settled }
 
-  settled_out : (version hash : ℕ) (silo : Silo) (node : Node) → IsSettledAt f version hash silo node → (its : Node) × IsSettledAt g version hash silo its
+  settled_out : (version hash : ℕ) (silo : Silo) (node : Node) → IsSettledAt f version hash silo node
+      → (its : Node) × IsSettledAt g version hash silo its
   settled_out version hash silo node at =
       let its = had silo node at.live in
-      let there : IsSettledAt f version hash silo (R its.0) = subst (IsSettledAt f version hash silo) (sym its.2) at in
-      (its.0, record { live = its.1; seen = there.seen; owner = there.owner; piece = there.piece; found = there.found; settled = there.settled })
+      let there : IsSettledAt f version hash silo (R its.0) = subst (IsSettledAt f version hash silo) (sym its.2) at in (
+        its.0,
+        record {
+          live = its.1;
+          seen = there.seen;
+          owner = there.owner;
+          piece = there.piece;
+          found = there.found;
+          settled = there.settled;
+        },
+      )
 
   firm_in : (grain : Grain) (silo : Silo) (held : Held) → IsFirmOn g grain silo held → IsFirmOn f grain silo held
   firm_in grain silo held is = record { node = R is.node; live = has silo is.node is.live; found = is.found; firm = is.firm }
@@ -52,7 +63,14 @@ module _ (g : World) (events letters accepted : ℕ) (mail : List (ℕ × Posted
   held_out : (grain : Grain) (activation : ActivationId) → IsHeld f grain activation → IsHeld g grain activation
   held_out grain activation is =
       let its = had activation.silo is.node is.live in
-      record { node = its.0; live = its.1; held = is.held; found = ap (λ (n : Node). held_of n.host grain) its.2 ∙ is.found; count = is.count }
+      record {
+        node = its.0;
+        live = its.1;
+        held = is.held;
+        found = ap (λ (n : Node). held_of n.host grain) its.2
+            ∙ is.found;
+        count = is.count;
+      }
 
   complete_out : (hash : ℕ) (entries : List Entry) → AreComplete f hash entries → AreComplete g hash entries
   complete_out hash entries are grain silo held hashed firm = are grain silo held hashed (firm_in grain silo held firm)
@@ -60,14 +78,18 @@ module _ (g : World) (events letters accepted : ℕ) (mail : List (ℕ × Posted
   table_out : (hash : ℕ) (entries : List Entry) → IsRightTable f hash entries → IsRightTable g hash entries
   table_out hash entries is = record {
     complete = complete_out hash entries is.complete;
-    held = All-weaker (λ e. IsHeld f e.grain e.activation) (λ e. IsHeld g e.grain e.activation) (λ e its. held_out e.grain e.activation its) entries is.held;
+    held =
+        All-weaker (λ e. IsHeld f e.grain e.activation) (λ e. IsHeld g e.grain e.activation) (λ e its. held_out e.grain e.activation its)
+        entries is.held;
     one_a_grain = is.one_a_grain;
   }
 
   live_out : (hash : ℕ) (entries : List Entry) → IsRightOnLive f hash entries → IsRightOnLive g hash entries
   live_out hash entries is = record {
     complete = complete_out hash entries is.complete;
-    held = All-weaker (λ e. (node : Node) → HasNode f e.activation.silo node → IsHeld f e.grain e.activation) (λ e. (node : Node) → HasNode g e.activation.silo node → IsHeld g e.grain e.activation)
+    held =
+        All-weaker (λ e. (node : Node) → HasNode f e.activation.silo node → IsHeld f e.grain e.activation)
+        (λ e. (node : Node) → HasNode g e.activation.silo node → IsHeld g e.grain e.activation)
         (λ e its node there. held_out e.grain e.activation (its (R node) (has e.activation.silo node there))) entries is.held;
     one_a_grain = is.one_a_grain;
   }
@@ -80,9 +102,12 @@ module _ (g : World) (events letters accepted : ℕ) (mail : List (ℕ × Posted
     rings = λ silo node there. h.rings silo (R node) (has silo node there);
     settled = λ hash silo node at. table_out hash _ (h.settled hash silo (R node) (settled_in g.views.version hash silo node at));
     earlier = λ version hash silo node at. live_out hash _ (h.earlier version hash silo (R node) (settled_in version hash silo node at));
-    unsettled = λ silo node request there current nowhere. h.unsettled silo (R node) request (has silo node there) current (λ some. nowhere (nowhere_in g.views.version request.hash some));
+    unsettled =
+        λ silo node request there current nowhere. h.unsettled silo (R node) request (has silo node there) current
+        (λ some. nowhere (nowhere_in g.views.version request.hash some));
     pieces = λ silo node request piece there found not. h.pieces silo (R node) request piece (has silo node there) found not;
     no_two_firm = λ grain s t x y one other. h.no_two_firm grain s t x y (firm_in grain s x one) (firm_in grain t y other);
     none_firm_twice = λ silo node there. h.none_firm_twice silo (R node) (has silo node there);
-    one_settles = λ v u hash s t x y one other. h.one_settles v u hash s t (R x) (R y) (settled_in v hash s x one) (settled_in u hash t y other);
+    one_settles =
+        λ v u hash s t x y one other. h.one_settles v u hash s t (R x) (R y) (settled_in v hash s x one) (settled_in u hash t y other);
   }

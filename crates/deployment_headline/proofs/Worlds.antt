@@ -10,13 +10,11 @@ use Rattle.std.specs.Map.{lookup}
 use Rattle.std.specs.BTreeMap.{is_at, insert_entry}
 use Rattle.std.proofs.lemmas.Bool.{lt-ltb, le-leb}
 use Rattle.silo_address.specs.Silo.{Silo, silo_cmp}
-use Rattle.directory_rules.specs.Letter.{Letter}
-use Rattle.directory_rules.specs.Node.{Node}
+use Rattle.directory_rules.specs.State.{Letter, Node, Posted, World, Accepted}
 use Rattle.directory_rules.specs.Event.{Event, IsEvent}
 use Rattle.directory_rules.specs.declared.outcome.Happening.{Happening}
 use Rattle.directory_rules.specs.declared.outcome.Outcome.{Outcome}
 use Rattle.directory_rules.specs.Step.{Stepped}
-use Rattle.directory_rules.specs.World.{Posted, World, Accepted}
 use Rattle.directory_rules.specs.Mail.{letter_of, with_sent, has_room_for, numbered, span_of, fresh_letter}
 use Rattle.directory_rules.specs.Happens as rule
 use Rattle.directory_rules.specs.Run.{run}
@@ -47,12 +45,15 @@ make d accepted mail = record {
 abbrev pub HasWritten : Deployment → List (ℕ × Posted) → Type 0
 HasWritten d mail = over its_letter mail ≡ enumerate_from 1 d.written
 
-pub node_there : (d : Deployment) (accepted : ℕ) (mail : List (ℕ × Posted)) (silo : Silo) → rule.node_of (make d accepted mail) silo ≡ option_map its_node (process_of d silo)
+pub node_there : (d : Deployment) (accepted : ℕ) (mail : List (ℕ × Posted)) (silo : Silo)
+    → rule.node_of (make d accepted mail) silo ≡ option_map its_node (process_of d silo)
 node_there d accepted mail silo = lookup-over its_node (is_at (silo_cmp silo)) d.processes
 
-pub letter_there : (d : Deployment) (accepted : ℕ) (mail : List (ℕ × Posted)) → HasWritten d mail → (index : ℕ) → letter_of (make d accepted mail) (1 + index) ≡ slice_get d.written index
+pub letter_there : (d : Deployment) (accepted : ℕ) (mail : List (ℕ × Posted)) → HasWritten d mail → (index : ℕ)
+    → letter_of (make d accepted mail) (1 + index) ≡ slice_get d.written index
 letter_there d accepted mail has index =
-    sym (lookup-over its_letter (is_at (nat_cmp (1 + index))) mail) ∙ ap (λ l. lookup (is_at (nat_cmp (1 + index))) l) has ∙ lookup-enumerate 1 index d.written
+    sym (lookup-over its_letter (is_at (nat_cmp (1 + index))) mail) ∙ ap (λ l. lookup (is_at (nat_cmp (1 + index))) l) has
+    ∙ lookup-enumerate 1 index d.written
 
 -- ---- moving
 -- one event makes that world of this one
@@ -75,7 +76,8 @@ pub record Moves (d next : Deployment) (accepted : ℕ) (mail : List (ℕ × Pos
   pub how : (make d accepted mail ≡ make next count letters) ⊎ IsOneEvent (make d accepted mail) (make next count letters)
 
 -- no event
-pub stays : (d next : Deployment) (accepted : ℕ) (mail : List (ℕ × Posted)) → HasWritten d mail → make d accepted mail ≡ make next accepted mail → d.written ≡ next.written → Moves d next accepted mail
+pub stays : (d next : Deployment) (accepted : ℕ) (mail : List (ℕ × Posted)) → HasWritten d mail
+    → make d accepted mail ≡ make next accepted mail → d.written ≡ next.written → Moves d next accepted mail
 unfolding run
 stays d next accepted mail has is written = record {
   events = [];
@@ -88,13 +90,16 @@ stays d next accepted mail has is written = record {
   how = inl is;
 }
 
-happens_is : (world : World) (event : Event) → world.accepted < world.settings.events → rule.happens world event ≡ rule.attempted world event
+happens_is : (world : World) (event : Event) → world.accepted < world.settings.events
+    → rule.happens world event ≡ rule.attempted world event
 unfolding rule.happens
 happens_is world event room = ap (λ b. cond b (rule.attempted world event) (Err 908)) (lt-ltb world.accepted world.settings.events room)
 
 -- one event
-pub goes : (d next : Deployment) (accepted : ℕ) (mail letters : List (ℕ × Posted)) (event : Event) (outcome : Outcome) (after : World) → IsEvent event → accepted < d.settings.events
-    → rule.attempted (make d accepted mail) event ≡ Ok (record { outcome = outcome; world = after }) → after ≡ make next (accepted + 1) letters → HasWritten next letters → Moves d next accepted mail
+pub goes : (d next : Deployment) (accepted : ℕ) (mail letters : List (ℕ × Posted)) (event : Event) (outcome : Outcome) (after : World)
+    → IsEvent event → accepted < d.settings.events
+    → rule.attempted (make d accepted mail) event ≡ Ok (record { outcome = outcome; world = after })
+    → after ≡ make next (accepted + 1) letters → HasWritten next letters → Moves d next accepted mail
 goes d next accepted mail letters event outcome after named room is same has = record {
   events = event ∷ [];
   named = All-cons IsEvent event [] named (All-nil IsEvent);
@@ -102,7 +107,9 @@ goes d next accepted mail letters event outcome after named room is same has = r
   letters = letters;
   few = omega arith;
   has = has;
-  is = accepted_run (make d accepted mail) event (record { outcome = outcome; world = after }) (happens_is (make d accepted mail) event room ∙ is) ∙ same;
+  is =
+      accepted_run (make d accepted mail) event (record { outcome = outcome; world = after })
+      (happens_is (make d accepted mail) event room ∙ is) ∙ same;
   how = inr (record {
     event = event;
     named = named;
@@ -113,17 +120,28 @@ goes d next accepted mail letters event outcome after named room is same has = r
 }
 
 -- ---- a silo's step
-room_for : (world : World) (letters : List Letter) → world.sent + length letters ≤ world.settings.letters → has_room_for world letters ≡ true
+room_for : (world : World) (letters : List Letter) → world.sent + length letters ≤ world.settings.letters
+    → has_room_for world letters ≡ true
 room_for world [] room = refl
 room_for world (letter ∷ letters) room = le-leb (world.sent + length (letter ∷ letters)) world.settings.letters room
 
-taken_is : (world : World) (silo : Silo) (happening : Happening) (stepped : Stepped) → world.sent + length stepped.letters ≤ world.settings.letters
-    → rule.taken world silo happening stepped ≡ Ok (record { outcome = record { happening = happening; sent = span_of world stepped.letters }; world = rule.counted (with_sent (rule.with_node world silo stepped.node) stepped.letters) })
+taken_is : (world : World) (silo : Silo) (happening : Happening) (stepped : Stepped)
+    → world.sent + length stepped.letters ≤ world.settings.letters
+    → rule.taken world silo happening stepped ≡ Ok (record {
+      outcome =
+          record { happening = happening; sent = span_of world stepped.letters };
+      world = rule.counted
+          (with_sent (rule.with_node world silo stepped.node) stepped.letters);
+    })
 taken_is world silo happening stepped room =
-    ap (λ b. cond (not b) (Err 909) (Ok (record { outcome = record { happening = happening; sent = span_of world stepped.letters }; world = rule.counted (with_sent (rule.with_node world silo stepped.node) stepped.letters) })))
+    ap (λ b. cond (not b) (Err 909) (Ok (record {
+      outcome = record { happening = happening; sent = span_of world stepped.letters };
+      world = rule.counted (with_sent (rule.with_node world silo stepped.node) stepped.letters);
+    })))
     (room_for world stepped.letters room)
 
-numbers : (n : ℕ) (letters : List Letter) → over its_letter (map (λ e. (e.0, fresh_letter e.1)) (enumerate_from n letters)) ≡ enumerate_from n letters
+numbers : (n : ℕ) (letters : List Letter) → over its_letter (map (λ e. (e.0, fresh_letter e.1)) (enumerate_from n letters)) ≡ enumerate_from
+    n letters
 numbers n [] = refl
 numbers n (letter ∷ letters) = ap (λ l. (n, letter) ∷ l) (numbers (n + 1) letters)
 
@@ -134,15 +152,20 @@ stepped_to d silo s stepped = record d {
   written = d.written ++ stepped.letters;
 }
 
-pub steps : (d : Deployment) (accepted : ℕ) (mail put : List (ℕ × Posted)) (event : Event) (silo : Silo) (s : SiloValue) (happening : Happening) (stepped : Stepped) → IsEvent event
+pub steps : (d : Deployment) (accepted : ℕ) (mail put : List (ℕ × Posted)) (event : Event) (silo : Silo) (s : SiloValue)
+    (happening : Happening) (stepped : Stepped) → IsEvent event
     → accepted < d.settings.events → length (d.written ++ stepped.letters) ≤ d.settings.letters → HasWritten d put
-    → rule.attempted (make d accepted mail) event ≡ rule.taken (make d accepted put) silo happening stepped → Moves d (stepped_to d silo s stepped) accepted mail
+    → rule.attempted (make d accepted mail) event ≡ rule.taken (make d accepted put) silo happening stepped
+    → Moves d (stepped_to d silo s stepped) accepted mail
 steps d accepted mail put event silo s happening stepped named room space has is =
     let longer = length-append d.written stepped.letters in
     goes d (stepped_to d silo s stepped) accepted mail (put ++ numbered (make d accepted put) stepped.letters) event _ _ named room
     (is ∙ taken_is (make d accepted put) silo happening stepped (subst (λ n. n ≤ d.settings.letters) longer space))
-    (ap (λ nodes. record (make d (accepted + 1) (put ++ numbered (make d accepted put) stepped.letters)) { nodes = nodes; sent = length d.written + length stepped.letters }) (insert-over its_node silo_cmp d.processes silo (record s { node = stepped.node }))
-    ∙ ap (λ n. record (make (stepped_to d silo s stepped) (accepted + 1) (put ++ numbered (make d accepted put) stepped.letters)) { sent = n }) (sym longer))
+    (ap (λ nodes. record (make d (accepted + 1) (put ++ numbered (make d accepted put) stepped.letters))
+    { nodes = nodes; sent = length d.written + length stepped.letters })
+    (insert-over its_node silo_cmp d.processes silo (record s { node = stepped.node }))
+    ∙ ap (λ n. record (make (stepped_to d silo s stepped) (accepted + 1) (put ++ numbered (make d accepted put) stepped.letters))
+    { sent = n }) (sym longer))
     (map-append (λ e. (e.0, its_letter e.1)) put (numbered (make d accepted put) stepped.letters)
     ∙ ap (λ l. l ++ over its_letter (numbered (make d accepted put) stepped.letters)) has
     ∙ ap (λ l. enumerate_from 1 d.written ++ l) (numbers (length d.written + 1) stepped.letters)

@@ -3,7 +3,7 @@
 use Rattle.std.specs.Prelude.{◌≡◌, ℕ, ◌+◌, List, ◌++◌, Some, Ok, Err, slice_get}
 use Rattle.silo_address.specs.Silo.{Silo}
 use Rattle.directory_rules.specs.Input.{Does}
-use Rattle.directory_rules.specs.Letter.{Letter}
+use Rattle.directory_rules.specs.State.{Letter}
 use Rattle.directory_rules.specs.declared.own_step.OwnStep.{OwnStep}
 use Rattle.directory_rules.specs.Step.{Stepped}
 use Rattle.directory_rules.specs.Membership.{Change, Join, Membership, changed}
@@ -19,7 +19,7 @@ pub record TakesItsSteps (d : Deployment) (silo : Silo) (s : SiloValue) : Type 0
   pub tells : (index : ℕ) (change : Change) → slice_get d.changes index ≡ Some change → after d (Tell silo index) ≡ heard (told s.node.settings s.membership (index + 1) change) d silo s
   -- `see`
   pub sees_so : (version : ℕ) → after d (See silo version) ≡ took (sees s version) d silo s
-  -- `wake`, `close`, `find`, `forget`, `nudge` and `offer`
+  -- `wake`, `close`, `cancel`, `find`, `forget`, `nudge`, `nudge_grain`, `nudge_ranges` and `offer`
   pub asks : (step : OwnStep) → after d (Do silo step) ≡ took (does s (Does step)) d silo s
   -- `receive`: any letter that was written
   pub receives_so : (index : ℕ) (letter : Letter) → slice_get d.written index ≡ Some letter → after d (Receive silo index) ≡ took (receives s letter) d silo s

@@ -1,7 +1,7 @@
 -- The limits on events and letters are the world's. A deployment has none, though its settings name them.
 use Rattle.std.specs.Prelude.{ℕ, map}
 use Rattle.directory_rules.specs.Settings.{Settings}
-use Rattle.directory_rules.specs.Node.{Node}
+use Rattle.directory_rules.specs.State.{Node}
 use Rattle.silo_rules.specs.SiloValue.{SiloValue}
 use Rattle.deployment_headline.specs.Deployment.{Deployment}
 

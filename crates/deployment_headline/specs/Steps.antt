@@ -7,7 +7,7 @@ use Rattle.silo_address.specs.Silo.{Silo, silo_cmp, IsSilo}
 use Rattle.membership_view.specs.Changes.{occupant}
 use Rattle.ring_range.specs.Range.{circle}
 use Rattle.directory_rules.specs.Settings.{Settings}
-use Rattle.directory_rules.specs.Letter.{Letter}
+use Rattle.directory_rules.specs.State.{Letter}
 use Rattle.directory_rules.specs.Step.{Stepped}
 use Rattle.directory_rules.specs.declared.own_step.OwnStep.{OwnStep}
 use Rattle.directory_rules.specs.OwnStep.{IsOwnStep}

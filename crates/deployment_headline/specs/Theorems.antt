@@ -7,9 +7,8 @@ use Rattle.directory_rules.specs.declared.held.Held.{Held}
 use Rattle.directory_rules.specs.declared.held.Phase.TheVariants.{Firm}
 use Rattle.directory_rules.specs.Host.{held_of}
 use Rattle.directory_rules.specs.Settings.{Settings, AreSettings}
-use Rattle.directory_rules.specs.Node.{Node}
+use Rattle.directory_rules.specs.State.{Node, World}
 use Rattle.directory_rules.specs.Event.{Event, IsEvent}
-use Rattle.directory_rules.specs.World.{World}
 use Rattle.directory_rules.specs.Run.{run_from_start}
 use Rattle.directory_rules.specs.Headline.{Headline}
 use Rattle.directory_rules.specs.PlainMachine.{PlainStep, IsPlainStep, plain_of}

@@ -4,9 +4,8 @@ use Rattle.std.specs.Prelude.{◌≡◌, ◌⊎◌, ℕ, ◌<◌, ◌≤◌, Lis
 use Rattle.silo_address.specs.Grain.{Grain}
 use Rattle.silo_address.specs.declared.ActivationId.{ActivationId}
 use Rattle.directory_rules.specs.Settings.{Settings, AreSettings}
-use Rattle.directory_rules.specs.Node.{Node}
+use Rattle.directory_rules.specs.State.{Node, World}
 use Rattle.directory_rules.specs.Event.{Event, IsEvent}
-use Rattle.directory_rules.specs.World.{World}
 use Rattle.directory_rules.specs.Happens.{node_of}
 use Rattle.directory_rules.specs.Run.{run_from_start}
 use Rattle.directory_rules.specs.PlainMachine.{Life, Is_firm, Is_closing, life_on}
@@ -33,7 +32,7 @@ pub record BecomesFirm (H : Type 0) (after : List H → World) (before : List H)
   pub not_before : (seen : ℕ) → ¬ (IsFirm (after before) grain a seen)
   pub firm : IsFirm (after (before ++ last ∷ [])) grain a token
 
--- at some moment in between its own silo was closing it
+-- at some moment in between its own silo was closing it; where it was firm before, it was closed or offered, and not given up
 pub record WasClosing (H : Type 0) (after : List H → World) (before between : List H) (grain : Grain) (a : ActivationId) : Type 0 where
   pub first : List H
   pub rest : List H

@@ -5,7 +5,7 @@ use Rattle.silo_address.specs.Silo.{Silo}
 use Rattle.silo_address.specs.Grain.{Grain}
 use Rattle.directory_rules.specs.declared.reply.Reply.TheVariants as reply
 use Rattle.directory_rules.specs.Host.{held_of, is_firm}
-use Rattle.directory_rules.specs.Letter.{Letter, Reply_letter}
+use Rattle.directory_rules.specs.State.{Letter, Reply_letter}
 use Rattle.directory_rules.specs.declared.own_step.OwnStep.TheVariants.{Wake}
 use Rattle.directory_rules.specs.Worked.{silo_a, silo_b, grain_a}
 use Rattle.directory_rules.specs.Membership.{Change, Join, Die}

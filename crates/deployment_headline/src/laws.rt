@@ -70,7 +70,7 @@ pub fn worked_deployment()
 {}
 
 /// Tokens, worked out: the same one after a close, even where the silo died while the earlier activation was closing; and a higher one
-/// where it died while that was firm.
+/// where it died while that was firm. An activation that is given up is firm by no reply, whichever comes first.
 pub fn worked_tokens()
     ensures { WorkedTokens }
 {}

@@ -6,8 +6,7 @@ use Rattle.std.proofs.lemmas.List.Elements.{All-cons, All-head}
 use Rattle.silo_address.specs.Silo.{Silo, silo_eq}
 use Rattle.silo_address.proofs.Same.{Decides-silo}
 use Rattle.ring_range.specs.Range.{Range}
-use Rattle.directory_rules.specs.Letter.{Letter}
-use Rattle.directory_rules.specs.Node.{Node}
+use Rattle.directory_rules.specs.State.{Letter, Node}
 use Rattle.directory_rules.specs.Sent.{gathering_of}
 use Rattle.directory_rules.specs.Snapshot.{page_count}
 use Rattle.directory_rules.proofs.Cases.{on_bool}
@@ -30,7 +29,8 @@ use Rattle.deployment_progress.proofs.Shelves.{together, at_most}
 use Rattle.deployment_progress.proofs.Answered.{IsAnswerFor, query_comes, report_comes, ask_comes, answer_comes}
 
 -- who has a node after a step had one before
-pub was_there : (d : Deployment) (st : Step) (next : Deployment) → Moves d st next → (silo : Silo) (node : Node) → node_at next silo ≡ Some node → (before : Node) × (node_at d silo ≡ Some before)
+pub was_there : (d : Deployment) (st : Step) (next : Deployment) → Moves d st next → (silo : Silo) (node : Node)
+    → node_at next silo ≡ Some node → (before : Node) × (node_at d silo ≡ Some before)
 was_there d st next (inl stays) silo node there = (node, sym (stays.nodes silo) ∙ there)
 was_there d st next (inr moved) silo node there =
     on_bool (λ b. silo_eq silo moved.0 ≡ b → (before : Node) × (node_at d silo ≡ Some before)) (silo_eq silo moved.0)
@@ -38,7 +38,8 @@ was_there d st next (inr moved) silo node there =
     (λ f is. (node, sym (moved.1.beside silo (λ same. let it = (Decides-silo silo moved.0).1 same in cc (it, is))) ∙ there)) refl
 
 -- after steps too
-pub was_there_first : (d : Deployment) → IsAtRest d → (steps : List Step) → IsQuiet steps → (silo : Silo) (node : Node) → node_at (after_all d steps) silo ≡ Some node → (before : Node) × (node_at d silo ≡ Some before)
+pub was_there_first : (d : Deployment) → IsAtRest d → (steps : List Step) → IsQuiet steps → (silo : Silo) (node : Node)
+    → node_at (after_all d steps) silo ≡ Some node → (before : Node) × (node_at d silo ≡ Some before)
 unfolding after_all
 was_there_first d r [] q silo node there = (node, there)
 was_there_first d r (s ∷ steps) q silo node there =
@@ -65,7 +66,12 @@ module _ (d : Deployment) (r : IsAtRest d) (silo : Silo) (index : ℕ) (between 
   last_is = after_append asked between (Receive back (length d.written) ∷ [])
 
   steps_quiet : IsQuiet (Receive silo index ∷ between)
-  steps_quiet = record { named = All-cons IsStep (Receive silo index) between tt q.named; none = All-cons DecidesNone (Receive silo index) between tt q.none }
+  steps_quiet =
+      record {
+        named = All-cons IsStep (Receive silo index) between tt q.named;
+        none = All-cons DecidesNone (Receive silo index) between tt
+            q.none;
+      }
 
   pub last_membership : last.membership ≡ d.membership
   unfolding after_all
@@ -79,7 +85,9 @@ module _ (d : Deployment) (r : IsAtRest d) (silo : Silo) (index : ℕ) (between 
   last_settings = settings_stay asked (its_sound asked asked_rests) between ∙ (keeps d (its_sound d r) (Receive silo index)).settings
 
   -- a query
-  pub query_back : (owner : Silo) (range : Range) (query : Letter) (asked_node after_it : Node) → back ≡ owner → node_at d silo ≡ Some asked_node → slice_get d.written index ≡ Some query → IsQueryFor d.membership.views.version owner range silo query
+  pub query_back : (owner : Silo) (range : Range) (query : Letter) (asked_node after_it : Node) → back ≡ owner
+      → node_at d silo ≡ Some asked_node → slice_get d.written index ≡ Some query
+      → IsQueryFor d.membership.views.version owner range silo query
       → node_at (after last (Receive back (length d.written))) owner ≡ Some after_it → Awaits after_it range silo → ⊥
   query_back owner range query asked_node after_it to there found is at waits =
       let answer = query_comes d r owner silo range index query asked_node there found is in
@@ -91,9 +99,11 @@ module _ (d : Deployment) (r : IsAtRest d) (silo : Silo) (index : ℕ) (between 
       (subst (λ s. IsReportFor s.hashing d.membership.views.version owner range silo answer.0) (sym last_settings) answer.2)) now waits
 
   -- an ask
-  pub ask_back : (pages : ℕ) (owner : Silo) (range : Range) (page : ℕ) (ask : Letter) (giving own after_it : Node) → back ≡ owner → node_at d silo ≡ Some giving → All (λ x. page_count (length x.entries) ≤ pages) giving.shelf → slice_get d.written index ≡ Some ask
+  pub ask_back : (pages : ℕ) (owner : Silo) (range : Range) (page : ℕ) (ask : Letter) (giving own after_it : Node) → back ≡ owner
+      → node_at d silo ≡ Some giving → All (λ x. page_count (length x.entries) ≤ pages) giving.shelf → slice_get d.written index ≡ Some ask
       → IsAskFor d.membership.views.version owner range silo page ask → node_at d owner ≡ Some own → page ≤ (gathering_of own range).next
-      → node_at (after last (Receive back (length d.written))) owner ≡ Some after_it → AwaitsFrom after_it range silo → (page < (gathering_of after_it range).next) × (page < pages)
+      → node_at (after last (Receive back (length d.written))) owner ≡ Some after_it → AwaitsFrom after_it range silo
+      → (page < (gathering_of after_it range).next) × (page < pages)
   ask_back pages owner range page ask giving own after_it to there shelf found is its late at waits =
       let answer = ask_comes d r pages owner silo range page index ask giving there shelf found is in
       let written = stays_written asked asked_rests between q (length d.written) answer.0 answer.1 in
@@ -105,7 +115,8 @@ module _ (d : Deployment) (r : IsAtRest d) (silo : Silo) (index : ℕ) (between 
       let awaited = (one.less.pages range silo (subst (λ (n : Node). AwaitsFrom n range silo) (sym same) waits)).0 in
       let grown = (then.less.pages range silo awaited).1 in
       answer_comes last last_rests pages owner silo range page (length d.written) answer.0 then.node after_it then.there written
-      (subst (λ (m : Membership). IsAnswerFor pages m.views.version owner range silo page answer.0) (sym last_membership) answer.2) (omega (arith, late, grown)) now waits
+      (subst (λ (m : Membership). IsAnswerFor pages m.views.version owner range silo page answer.0) (sym last_membership) answer.2)
+      (omega (arith, late, grown)) now waits
 
 -- ---- the laws
 pub queries_are_answered : QueriesAreAnswered
@@ -135,6 +146,7 @@ asks_are_answered settings steps between are named seen named_between none owner
       written = its.1;
       says = elim its.2.says [ inl missing ↦ inr missing | inr has ↦ inl has.0 ];
       had = λ t u own late after_it waits.
-          (ask_back d r giver index between q owner (together s.node.shelf) owner range page ask s.node t.node u.node refl giving (at_most s.node.shelf) found is (ap (option_map its_node) own) late
+          (ask_back d r giver index between q owner (together s.node.shelf) owner range page ask s.node t.node u.node refl giving
+          (at_most s.node.shelf) found is (ap (option_map its_node) own) late
           (ap (λ x. node_at x owner) (sym (last_is d r giver index between q owner)) ∙ ap (option_map its_node) after_it) waits).0;
     }

@@ -1,14 +1,10 @@
 -- In an exchange each range of the silo gets on.
 use Rattle.std.proofs.Common.{arith, ◌≡◌, ℕ, ◌<◌, List, ◌++◌, refl, sym, ap, ◌∙◌, subst, inl, inr}
 use Rattle.std.specs.Prelude.{slice_get, Contains, Some}
-use Rattle.std.proofs.lemmas.List.Elements.{Contains-append_right}
 use Rattle.silo_address.specs.Silo.{Silo}
 use Rattle.ring_range.specs.Range.{Range}
-use Rattle.directory_rules.specs.Host.{renewed}
-use Rattle.directory_rules.specs.Letter.{Letter, Ask_letter, Query_letter}
-use Rattle.directory_rules.specs.Node.{Node}
-use Rattle.directory_rules.specs.Sent.{letter_to, gathering_of, all_requests, all_wants}
-use Rattle.directory_rules.specs.declared.own_step.OwnStep.TheVariants.{Nudge}
+use Rattle.directory_rules.specs.State.{Letter, Ask_letter, Query_letter, Node}
+use Rattle.directory_rules.specs.Sent.{letter_to, gathering_of, all_wants}
 use Rattle.directory_rules.specs.Step.{Stepped}
 use Rattle.directory_rules.specs.Membership.{Membership}
 use Rattle.progress_rules.specs.Waits.{Recovers, Awaits}
@@ -27,15 +23,15 @@ use Rattle.deployment_progress.proofs.Later.{its_version, its_silo, stepped_on, 
 use Rattle.deployment_progress.proofs.Back.{query_back, ask_back}
 use Rattle.deployment_progress.proofs.Shelves.{AreAtMost, step_at_most, still_at_most}
 use Rattle.deployment_progress.proofs.Awaited.{awaited_there, giver_there, awaits_some}
-use Rattle.deployment_progress.proofs.Nudged.{quiet_after, nudged_rests, nudge_taken, nudged_there, nudged_so, after_nudge}
+use Rattle.deployment_progress.proofs.Nudged.{quiet_after, nudged_rests, nudge_taken, nudged_there, sends_wants, after_nudge}
 use Rattle.deployment_progress.proofs.Letters.{got_right, quiet_before, quiet_between, b_rests, at_ask, at_answer, to_answer, to_end}
 
 module _ (d : Deployment) (r : IsAtRest d) (silo : Silo) (steps : List Step) (q : IsQuiet steps) (x : IsExchange d silo steps) where
-  abbrev n : IsNudged d silo steps
+  abbrev n : IsNudged d silo x.part steps
   n = x.nudge
 
   abbrev d1 : Deployment
-  d1 = after d (Do silo Nudge)
+  d1 = after d (Do silo x.part)
 
   abbrev first : Node
   first = n.process.node
@@ -44,34 +40,33 @@ module _ (d : Deployment) (r : IsAtRest d) (silo : Silo) (steps : List Step) (q 
   node1 = n.nudged.node
 
   abbrev quiet_x : IsQuiet n.rest
-  quiet_x = quiet_after d r silo steps q n
+  quiet_x = quiet_after d r silo x.part steps q n
 
   abbrev r1 : IsAtRest d1
-  r1 = nudged_rests d r silo steps q n
+  r1 = nudged_rests d r silo x.part steps q n
 
   abbrev there1 : node_at d1 silo ≡ Some node1
-  there1 = nudged_there d r silo steps q n
+  there1 = nudged_there d r silo x.part steps q n
 
   pub less1 : WaitsForLess first node1
   less1 =
-      let came = nudge_taken d r silo steps q n in
-      subst (λ (n : Node). WaitsForLess n node1) came.2 (subst (λ (t : Stepped). WaitsForLess came.0.node t.node) came.1 (stepped_on d r silo (Do silo Nudge) d1 came.0).less)
+      let came = nudge_taken d r silo x.part steps q n in
+      subst (λ (n : Node). WaitsForLess n node1) came.2
+      (subst (λ (t : Stepped). WaitsForLess came.0.node t.node) came.1 (stepped_on d r silo (Do silo x.part) d1 came.0).less)
 
   -- what the pieces want is written, and answered
-  wants : (letter : Letter) → Contains (all_wants node1) letter → IsWant letter.body → (index : ℕ) × (slice_get d1.written index ≡ Some letter) × IsAnswered d1 silo n.rest index letter
+  wants : (letter : Letter) → Contains (all_wants node1) letter → IsWant letter.body
+      → (index : ℕ) × (slice_get d1.written index ≡ Some letter) × IsAnswered d1 silo n.rest index letter
   wants letter has want =
-      let its : Node = record first { host = renewed first.host } in
-      let did = nudged_so d r silo steps q n in
-      let came = nudge_taken d r silo steps q n in
-      let in_wants : Contains (all_wants its) letter = subst (λ (t : Stepped). Contains (all_wants t.node) letter) did has in
-      let sent : Contains n.nudged.letters letter = subst (λ (t : Stepped). Contains t.letters letter) (sym did) (Contains-append_right (all_requests its) (all_wants its) letter in_wants) in
+      let came = nudge_taken d r silo x.part steps q n in
+      let sent : Contains n.nudged.letters letter = sends_wants x.part x.wants first n.nudged came.3 letter has in
       let got = got_right d.written n.nudged.letters letter sent in
       let found : slice_get d1.written got.0 ≡ Some letter = ap (λ ls. slice_get ls got.0) (came.0.written ∙ ap (λ (t : Stepped). d.written ++ t.letters) came.1) ∙ got.2 in
       (got.0, found, x.answered got.0 letter got.1 found want)
 
   module _ (last : Node) (at : node_at (after_all d steps) silo ≡ Some last) where
     at1 : node_at (after_all d1 n.rest) silo ≡ Some last
-    at1 = ap (λ y. node_at y silo) (sym (after_nudge d r silo steps q n)) ∙ at
+    at1 = ap (λ y. node_at y silo) (sym (after_nudge d r silo x.part steps q n)) ∙ at
 
     less_to_last : WaitsForLess node1 last
     less_to_last =
@@ -100,18 +95,26 @@ module _ (d : Deployment) (r : IsAtRest d) (silo : Silo) (steps : List Step) (q 
         let other_there = awaited_there d1 r1 silo node1 there1 range other waits in
         let other_then = later_so d1 r1 a.before before other other_there.0 other_there.1 in
         let still : Recovers answers.node range = still_recovers node1 answers.node last range (waits_on node1 asks.node answers.node asks.less (to_answer d1 r1 silo n.rest quiet_x it.0 letter a node1 there1)) to_last waits.recovers recovers in
-        query_back (after_all d1 a.before) rests other it.0 a.between (quiet_between d1 r1 silo n.rest quiet_x it.0 letter a node1 there1) silo silo range letter other_then.node answers.node refl other_then.there
+        query_back (after_all d1 a.before) rests other it.0 a.between (quiet_between d1 r1 silo n.rest quiet_x it.0 letter a node1 there1)
+        silo silo range letter other_then.node answers.node refl other_then.there
         (stays_written d1 r1 a.before before it.0 letter it.1)
         (record {
           from = its_silo d1 r1 silo node1 there1;
           to = refl;
-          version_is = its_version d1 r1 silo node1 there1 ∙ ap (λ (m : Membership). m.views.version) (sym (same_membership d1 r1 a.before before));
+          version_is =
+              its_version d1 r1 silo node1 there1 ∙ ap (λ (m : Membership). m.views.version) (sym (same_membership d1 r1 a.before before));
           body = refl;
         })
         answers.there (to_last.reports range other still waits_last)
       where
-        still_recovers : (one two three : Node) (range : Range) → WaitsForLess one two → WaitsForLess two three → Recovers one range → Recovers three range → Recovers two range
-        still_recovers one two three range a b was is = elim (a.recovers range was) [ inl still ↦ still | inr settled ↦ absurd (not_settled_and_recovers three range (b.settled range settled) is) ]
+        still_recovers : (one two three : Node) (range : Range) → WaitsForLess one two → WaitsForLess two three → Recovers one range
+            → Recovers three range → Recovers two range
+        still_recovers one two three range a b was is =
+            elim (a.recovers range was) [
+              | inl still ↦ still
+              | inr settled ↦ absurd
+                  (not_settled_and_recovers three range (b.settled range settled) is)
+            ]
 
     pub recovers_end : (range : Range) → Recovers first range → HasSettled last range
     recovers_end range was =
@@ -124,7 +127,8 @@ module _ (d : Deployment) (r : IsAtRest d) (silo : Silo) (steps : List Step) (q 
         ]
 
     -- a page more, and it was one of so many
-    pub pages_come : (pages : ℕ) → AreAtMost pages d → (range : Range) (giver : Silo) → AwaitsFrom last range giver → ((gathering_of first range).next < (gathering_of last range).next) × ((gathering_of first range).next < pages)
+    pub pages_come : (pages : ℕ) → AreAtMost pages d → (range : Range) (giver : Silo) → AwaitsFrom last range giver
+        → ((gathering_of first range).next < (gathering_of last range).next) × ((gathering_of first range).next < pages)
     pages_come pages shelves range giver waits_last =
         let was = less_to_last.pages range giver waits_last in
         let letter = letter_to giver node1 (Ask_letter range (gathering_of node1 range).next) in
@@ -137,7 +141,7 @@ module _ (d : Deployment) (r : IsAtRest d) (silo : Silo) (steps : List Step) (q 
         let to_last = to_end d1 r1 silo n.rest quiet_x it.0 letter a node1 there1 last at1 in
         let giving = giver_there d1 r1 silo node1 there1 range giver was.0 in
         let giving_then = later_so d1 r1 a.before before giver giving.0 giving.1 in
-        let shelf = still_at_most pages d1 r1 a.before before (step_at_most pages d r (Do silo Nudge) d1 (quiet_moves d r (Do silo Nudge) tt) shelves) giver giving_then.node giving_then.there in
+        let shelf = still_at_most pages d1 r1 a.before before (step_at_most pages d r (Do silo x.part) d1 (quiet_moves d r (Do silo x.part) tt) shelves) giver giving_then.node giving_then.there in
         let answered = to_last.pages range giver waits_last in
         let asking = (to_answer d1 r1 silo n.rest quiet_x it.0 letter a node1 there1).pages range giver answered.0 in
         let late = (asks.less.pages range giver asking.0).1 in
@@ -146,7 +150,8 @@ module _ (d : Deployment) (r : IsAtRest d) (silo : Silo) (steps : List Step) (q 
         (record {
           from = its_silo d1 r1 silo node1 there1;
           to = refl;
-          version_is = its_version d1 r1 silo node1 there1 ∙ ap (λ (m : Membership). m.views.version) (sym (same_membership d1 r1 a.before before));
+          version_is =
+              its_version d1 r1 silo node1 there1 ∙ ap (λ (m : Membership). m.views.version) (sym (same_membership d1 r1 a.before before));
           body = refl;
         })
         asks.there late answers.there answered.0 in

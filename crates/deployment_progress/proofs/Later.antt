@@ -7,8 +7,7 @@ use Rattle.silo_address.specs.Silo.{Silo, silo_eq}
 use Rattle.silo_address.proofs.Same.{Decides-silo}
 use Rattle.directory_rules.specs.Settings.{Settings, AreSettings}
 use Rattle.directory_rules.specs.Input.{Input, Sees, Does, Receives}
-use Rattle.directory_rules.specs.Letter.{Letter}
-use Rattle.directory_rules.specs.Node.{Node}
+use Rattle.directory_rules.specs.State.{Letter, Node}
 use Rattle.directory_rules.specs.Happens.{node_of}
 use Rattle.directory_rules.specs.World.{current_view}
 use Rattle.directory_rules.proofs.Cases.{on_bool}
@@ -64,37 +63,53 @@ module _ (d : Deployment) (r : IsAtRest d) where
     in_world = w.nodes silo ∙ ap (option_map (node_with_room w.events w.letters)) there
 
     pub its_pieces : HasPieces w.world.settings.hashing node
-    its_pieces = let its = transfers.pieces w.world w.rests silo roomy in_world in record { pieces = its.pieces; gatherings = its.gatherings; recoveries = its.recoveries }
+    its_pieces =
+        let its = transfers.pieces w.world w.rests silo roomy in_world in
+        record { pieces = its.pieces; gatherings = its.gatherings; recoveries = its.recoveries }
 
     facts : all_facts.node w.world.settings w.world.views w.world.places silo roomy
     facts = found_node all_facts w.world silo roomy (rest_facts w.world w.rests) in_world
 
     pub its_recoveries : FitRecoveries node
-    its_recoveries range recovers = let f = facts.0.1 range recovers in record { version = f.version; range_is = f.range_is; some = f.some; members = f.members; apart = f.apart }
+    its_recoveries range recovers =
+        let f = facts.0.1 range recovers in record {
+          version = f.version;
+          range_is = f.range_is;
+          some = f.some;
+          members = f.members;
+          apart = f.apart;
+        }
 
     pub its_version : node.view.version ≡ d.membership.views.version
-    its_version = let its = process_with (process_of d silo) node there in ap (λ (n : Node). n.view.version) (sym its.2) ∙ r.seen silo its.0 its.1
+    its_version =
+        let its = process_with (process_of d silo) node there in ap (λ (n : Node). n.view.version) (sym its.2) ∙ r.seen silo its.0 its.1
 
     pub its_view : node.view ≡ current_view w.world
     its_view = w.rests.seen silo roomy in_world
 
     pub its_settings_are : node.settings ≡ d.settings
-    its_settings_are = let its = process_with (process_of d silo) node there in ap (λ (n : Node). n.settings) (sym its.2) ∙ (its_process d (its_sound d r) silo its.0 its.1).set_up
+    its_settings_are =
+        let its = process_with (process_of d silo) node there in ap (λ (n : Node). n.settings) (sym its.2)
+        ∙ (its_process d (its_sound d r) silo its.0 its.1).set_up
 
     pub its_silo : node.host.silo ≡ silo
-    its_silo = let its = process_with (process_of d silo) node there in ap (λ (n : Node). n.host.silo) (sym its.2) ∙ (its_process d (its_sound d r) silo its.0 its.1).address
+    its_silo =
+        let its = process_with (process_of d silo) node there in ap (λ (n : Node). n.host.silo) (sym its.2)
+        ∙ (its_process d (its_sound d r) silo its.0 its.1).address
 
     -- no page is refused by its digest
     pub never_dropped : (st : Step) (input : Input) → IsBrought d st silo input → IsDropped node input → ⊥
     never_dropped st (Receives letter) brought dropped =
-        drops_none w.world w.rests (1 + brought.1) letter roomy (w.mail brought.1 letter brought.2) (ap (λ q. node_of w.world q) brought.0 ∙ in_world) (roomy_dropped w.events w.letters node (Receives letter) dropped)
+        drops_none w.world w.rests (1 + brought.1) letter roomy (w.mail brought.1 letter brought.2)
+        (ap (λ q. node_of w.world q) brought.0 ∙ in_world) (roomy_dropped w.events w.letters node (Receives letter) dropped)
     never_dropped st (Sees before view places) brought dropped = absurd brought
     never_dropped st (Does step) brought dropped = let is = dropped.is in cc (is)
 
   -- ---- one step
   pub stepped_on : (silo : Silo) (st : Step) (next : Deployment) (m : HasMoved d st next silo) → GoesOn m.node m.stepped.node
   stepped_on silo st next m =
-      goes_on w.world.settings.hashing m.node (its_pieces silo m.node m.there) m.input m.stepped m.is (view_stays d r st m.node silo m.input m.stepped m.brought m.is)
+      goes_on w.world.settings.hashing m.node (its_pieces silo m.node m.there) m.input m.stepped m.is
+      (view_stays d r st m.node silo m.input m.stepped m.brought m.is)
       (never_dropped silo m.node m.there st m.input m.brought)
 
   pub record IsLater (next : Deployment) (silo : Silo) (before : Node) : Type 0 where
@@ -103,8 +118,10 @@ module _ (d : Deployment) (r : IsAtRest d) where
     pub view : node.view ≡ before.view
     pub less : WaitsForLess before node
 
-  pub step_on : (st : Step) (next : Deployment) → Moves d st next → (silo : Silo) (node : Node) → node_at d silo ≡ Some node → IsLater next silo node
-  step_on st next (inl stays) silo node there = record { node = node; there = stays.nodes silo ∙ there; view = refl; less = (same_waits node).less }
+  pub step_on : (st : Step) (next : Deployment) → Moves d st next → (silo : Silo) (node : Node) → node_at d silo ≡ Some node
+      → IsLater next silo node
+  step_on st next (inl stays) silo node there =
+      record { node = node; there = stays.nodes silo ∙ there; view = refl; less = (same_waits node).less }
   step_on st next (inr moved) silo node there =
       on_bool (λ b. silo_eq silo moved.0 ≡ b → IsLater next silo node) (silo_eq silo moved.0)
       (λ t is.
@@ -118,7 +135,13 @@ module _ (d : Deployment) (r : IsAtRest d) where
         view = view_stays d r st moved.1.node moved.0 moved.1.input moved.1.stepped moved.1.brought moved.1.is;
         less = (stepped_on moved.0 st next moved.1).less;
       }))
-      (λ f is. record { node = node; there = moved.1.beside silo (λ same. let it = (Decides-silo silo moved.0).1 same in cc (it, is)) ∙ there; view = refl; less = (same_waits node).less }) refl
+      (λ f is. record {
+        node = node;
+        there = moved.1.beside silo (λ same. let it = (Decides-silo silo moved.0).1 same in cc (it, is))
+            ∙ there;
+        view = refl;
+        less = (same_waits node).less;
+      }) refl
 
 -- ---- lists of steps
 pub after_append : (d : Deployment) (xs ys : List Step) → after_all d (xs ++ ys) ≡ after_all (after_all d xs) ys
@@ -160,9 +183,12 @@ quiet_rest x xs q = record { named = All-tail IsStep x xs q.named; none = All-ta
 pub rests_after : (d : Deployment) → IsAtRest d → (steps : List Step) → IsQuiet steps → IsAtRest (after_all d steps)
 unfolding after_all
 rests_after d r [] q = r
-rests_after d r (s ∷ steps) q = rests_after (after d s) (rests_on d r s (All-head IsStep s steps q.named) (All-head DecidesNone s steps q.none)) steps (quiet_rest s steps q)
+rests_after d r (s ∷ steps) q =
+    rests_after (after d s) (rests_on d r s (All-head IsStep s steps q.named) (All-head DecidesNone s steps q.none)) steps
+    (quiet_rest s steps q)
 
-pub later_so : (d : Deployment) (r : IsAtRest d) (steps : List Step) → IsQuiet steps → (silo : Silo) (node : Node) → node_at d silo ≡ Some node → IsLater d r (after_all d steps) silo node
+pub later_so : (d : Deployment) (r : IsAtRest d) (steps : List Step) → IsQuiet steps → (silo : Silo) (node : Node)
+    → node_at d silo ≡ Some node → IsLater d r (after_all d steps) silo node
 unfolding after_all
 later_so d r [] q silo node there = record { node = node; there = there; view = refl; less = (same_waits node).less }
 later_so d r (s ∷ steps) q silo node there =
@@ -171,16 +197,20 @@ later_so d r (s ∷ steps) q silo node there =
     let rest = later_so (after d s) (rests_on d r s (All-head IsStep s steps q.named) none) steps (quiet_rest s steps q) silo one.node one.there in
     record { node = rest.node; there = rest.there; view = rest.view ∙ one.view; less = waits_on node one.node rest.node one.less rest.less }
 
-pub step_writes : (d : Deployment) (st : Step) (next : Deployment) → Moves d st next → (k : ℕ) (letter : Letter) → slice_get d.written k ≡ Some letter → slice_get next.written k ≡ Some letter
+pub step_writes : (d : Deployment) (st : Step) (next : Deployment) → Moves d st next → (k : ℕ) (letter : Letter)
+    → slice_get d.written k ≡ Some letter → slice_get next.written k ≡ Some letter
 step_writes d st next (inl stays) k letter found = ap (λ ls. slice_get ls k) stays.written ∙ found
-step_writes d st next (inr moved) k letter found = ap (λ ls. slice_get ls k) moved.1.written ∙ got_left d.written moved.1.stepped.letters k letter found
+step_writes d st next (inr moved) k letter found =
+    ap (λ ls. slice_get ls k) moved.1.written ∙ got_left d.written moved.1.stepped.letters k letter found
 
-pub stays_written : (d : Deployment) (r : IsAtRest d) (steps : List Step) → IsQuiet steps → (k : ℕ) (letter : Letter) → slice_get d.written k ≡ Some letter → slice_get (after_all d steps).written k ≡ Some letter
+pub stays_written : (d : Deployment) (r : IsAtRest d) (steps : List Step) → IsQuiet steps → (k : ℕ) (letter : Letter)
+    → slice_get d.written k ≡ Some letter → slice_get (after_all d steps).written k ≡ Some letter
 unfolding after_all
 stays_written d r [] q k letter found = found
 stays_written d r (s ∷ steps) q k letter found =
     let none = All-head DecidesNone s steps q.none in
-    stays_written (after d s) (rests_on d r s (All-head IsStep s steps q.named) none) steps (quiet_rest s steps q) k letter (step_writes d s (after d s) (quiet_moves d r s none) k letter found)
+    stays_written (after d s) (rests_on d r s (All-head IsStep s steps q.named) none) steps (quiet_rest s steps q) k letter
+    (step_writes d s (after d s) (quiet_moves d r s none) k letter found)
 
 step_decides_none : (d : Deployment) (st : Step) (next : Deployment) → Moves d st next → next.membership ≡ d.membership
 step_decides_none d st next (inl stays) = stays.membership
@@ -191,11 +221,14 @@ unfolding after_all
 same_membership d r [] q = refl
 same_membership d r (s ∷ steps) q =
     let none = All-head DecidesNone s steps q.none in
-    same_membership (after d s) (rests_on d r s (All-head IsStep s steps q.named) none) steps (quiet_rest s steps q) ∙ step_decides_none d s (after d s) (quiet_moves d r s none)
+    same_membership (after d s) (rests_on d r s (All-head IsStep s steps q.named) none) steps (quiet_rest s steps q)
+    ∙ step_decides_none d s (after d s) (quiet_moves d r s none)
 
 -- ---- the law
-pub starts_at_rest : (settings : Settings) (steps : List Step) → AreSettings settings → All IsStep steps → HaveAllSeen (deployed settings steps) → IsAtRest (deployed settings steps)
-starts_at_rest settings steps are named seen = record { settings = settings; steps = steps; are = are; named = named; is = refl; seen = seen }
+pub starts_at_rest : (settings : Settings) (steps : List Step) → AreSettings settings → All IsStep steps
+    → HaveAllSeen (deployed settings steps) → IsAtRest (deployed settings steps)
+starts_at_rest settings steps are named seen =
+    record { settings = settings; steps = steps; are = are; named = named; is = refl; seen = seen }
 
 pub silos_wait_for_less : SilosWaitForLess
 silos_wait_for_less settings steps later are named seen named_later none silo s there =

@@ -18,17 +18,13 @@ use Rattle.directory_rules.specs.declared.act.Request.{Request}
 use Rattle.directory_rules.specs.declared.piece_state.PieceState.{PieceState}
 use Rattle.directory_rules.specs.declared.piece_state.PieceState.TheVariants as state
 use Rattle.directory_rules.specs.Answer.{answered}
-use Rattle.directory_rules.specs.Gatherings.{Gathering, Wants_page, new_gathering, gathered}
+use Rattle.directory_rules.specs.State.{Gathering, Letter, Node, Piece, Page, Table}
+use Rattle.directory_rules.specs.Gatherings.{Wants_page, new_gathering, gathered}
 use Rattle.directory_rules.specs.Input.{Input, step}
-use Rattle.directory_rules.specs.Letter.{Letter}
-use Rattle.directory_rules.specs.Node.{Node}
-use Rattle.directory_rules.specs.Piece.{Piece}
 use Rattle.directory_rules.specs.Recovery.{new_recovery}
 use Rattle.directory_rules.specs.Sent.{gathering_of, recovery_of}
 use Rattle.directory_rules.specs.Sight.{is_settled}
-use Rattle.directory_rules.specs.Snapshot.{Page}
 use Rattle.directory_rules.specs.Step.{Stepped}
-use Rattle.directory_rules.specs.Table.{Table}
 use Rattle.directory_rules.specs.Transfer.{piece_at, has_range, is_awaiting_from, is_recovering, with_gathering, with_recovery, with_settled, turned_to_recovery}
 use Rattle.directory_rules.proofs.Cases.{on_bool}
 use Rattle.directory_facts.specs.Pieces.{HasPieces, IsPiece}
@@ -50,11 +46,18 @@ GoesOnWith node input stepped = stepped.node.view ≡ node.view → (IsDropped n
 
 module _ (hashing : Hashing) (node : Node) (has : HasPieces hashing node) where
   -- nothing moves
-  still : (after : Node) → after.holding.pieces ≡ node.holding.pieces → ((range : Range) → gathering_of after range ≡ gathering_of node range) → ((range : Range) → recovery_of after range ≡ recovery_of node range) → GoesOn node after
+  still : (after : Node) → after.holding.pieces ≡ node.holding.pieces
+      → ((range : Range) → gathering_of after range ≡ gathering_of node range)
+      → ((range : Range) → recovery_of after range ≡ recovery_of node range) → GoesOn node after
   still after pieces gatherings recoveries =
       let at : (range : Range) → piece_at after range ≡ piece_at node range = λ range. ap (λ (ps : List (ℕ × Piece)). lookup (is_at (nat_cmp range.start)) ps) pieces in
-      same_states node after (λ range giver waits. (ap (λ (o : Option Piece). has_range (is_awaiting_from giver) range o) (sym (at range)) ∙ waits, inl (gatherings range)))
-      (λ range silo was waits. awaited_still node after range silo (at range) (recoveries range) waits) (λ test range. ap (λ (o : Option Piece). has_range test range o) (at range))
+      same_states node after (λ range giver waits. (
+        ap (λ (o : Option Piece). has_range (is_awaiting_from giver) range o) (sym (at range))
+            ∙ waits,
+        inl (gatherings range),
+      ))
+      (λ range silo was waits. awaited_still node after range silo (at range) (recoveries range) waits)
+      (λ test range. ap (λ (o : Option Piece). has_range test range o) (at range))
 
   answers : (request : Request) → GoesOn node (record node { holding = (answered node.holding request).holding })
   answers request =
@@ -64,42 +67,54 @@ module _ (hashing : Hashing) (node : Node) (has : HasPieces hashing node) where
       let same : (test : PieceState → Bool) (range : Range) → has_range test range (piece_at after range) ≡ has_range test range (piece_at node range) =
       λ test range.
       let key = is_at (nat_cmp range.start) in
-      by_outline test range key (answered node.holding request).holding.pieces ∙ ap (outlined test range key) leaves.outline ∙ sym (by_outline test range key node.holding.pieces) in
+      by_outline test range key (answered node.holding request).holding.pieces ∙ ap (outlined test range key) leaves.outline
+      ∙ sym (by_outline test range key node.holding.pieces) in
       same_states node after (λ range giver waits. (sym (same (is_awaiting_from giver) range) ∙ waits, inl refl))
       (λ range silo was waits. record { recovers = sym (same is_recovering range) ∙ waits.recovers; among = waits.among }) same
 
   -- a page is taken
-  gathers : (letter : Letter) (page : Page) (gathering : Gathering) → IsPageTaken node letter page → gathered (gathering_of node page.range) page ≡ Wants_page gathering → GoesOn node (with_gathering node gathering)
+  gathers : (letter : Letter) (page : Page) (gathering : Gathering) → IsPageTaken node letter page
+      → gathered (gathering_of node page.range) page ≡ Wants_page gathering → GoesOn node (with_gathering node gathering)
   gathers letter page gathering taken is =
       let so : GatheredSo (gathering_of node page.range) page (Wants_page gathering) = subst (GatheredSo (gathering_of node page.range) page) is (gathered_so (gathering_of node page.range) page) in
       let start : gathering.range.start ≡ page.range.start = ap (λ (r : Range). r.start) (wanted_range hashing node has page gathering is) in
       let put : gathering_of (with_gathering node gathering) page.range ≡ gathering =
-      ap (λ k. unwrap_or (lookup (is_at (nat_cmp page.range.start)) (insert_entry nat_cmp node.gatherings k gathering)) (new_gathering node.view.version page.range)) start
-      ∙ ap (λ o. unwrap_or o (new_gathering node.view.version page.range)) (found_put nat_cmp nat_cmp_total exact_unsigned page.range.start gathering node.gatherings) in
+      ap (λ k. unwrap_or (lookup (is_at (nat_cmp page.range.start)) (insert_entry nat_cmp node.gatherings k gathering))
+      (new_gathering node.view.version page.range)) start
+      ∙ ap (λ o. unwrap_or o (new_gathering node.view.version page.range))
+      (found_put nat_cmp nat_cmp_total exact_unsigned page.range.start gathering node.gatherings) in
       let next : (gathering_of (with_gathering node gathering) page.range).next ≡ (gathering_of node page.range).next + 1 = ap (λ (g : Gathering). g.next) (put ∙ so.1) in
       same_states node (with_gathering node gathering)
       (λ range giver waits. (
         waits,
         elim (gathers_so hashing node has letter page gathering taken start range giver waits) [
           | inl same ↦ inl same
-          | inr it ↦ inr (subst (λ (r : Range). (gathering_of node r).next < (gathering_of (with_gathering node gathering) r).next) it.0 (omega (arith, next)))
+          | inr it ↦ inr (subst (λ (r : Range). (gathering_of node r).next < (gathering_of (with_gathering node gathering) r).next) it.0
+              (omega (arith, next)))
         ],
       ))
       (λ range silo was waits. record { recovers = waits.recovers; among = waits.among }) (λ test range. refl)
 
   -- a piece is settled
-  settles : (range : Range) (piece : Piece) (table : Table) → piece_at node range ≡ Some piece → piece.range ≡ range → GoesOn node (with_settled node range table)
+  settles : (range : Range) (piece : Piece) (table : Table) → piece_at node range ≡ Some piece → piece.range ≡ range
+      → GoesOn node (with_settled node range table)
   settles range piece table found same =
-      one_moves node (with_settled node range table) (λ other giver waits. let was = settling hashing node has node.view range table other giver waits in (was.0, inl was.1))
-      (λ other silo was waits. settled_awaits node range table other silo waits) range piece.state state.Settled (set_states node (with_settled node range table) range piece state.Settled table found same refl) (λ is. refl) (λ is. refl) (λ giver is. inr refl)
+      one_moves node (with_settled node range table) (λ other giver waits.
+      let was = settling hashing node has node.view range table other giver waits in (was.0, inl was.1))
+      (λ other silo was waits. settled_awaits node range table other silo waits) range piece.state state.Settled
+      (set_states node (with_settled node range table) range piece state.Settled table found same refl) (λ is. refl) (λ is. refl)
+      (λ giver is. inr refl)
       (λ is. absurd (cc (is)))
 
   -- a piece turns to recovery
-  turns : (range : Range) (piece : Piece) (from : Silo) → piece_at node range ≡ Some piece → piece.range ≡ range → piece.state ≡ state.Awaiting from → GoesOn node (turned_to_recovery node range)
+  turns : (range : Range) (piece : Piece) (from : Silo) → piece_at node range ≡ Some piece → piece.range ≡ range
+      → piece.state ≡ state.Awaiting from → GoesOn node (turned_to_recovery node range)
   turns range piece from found same awaiting =
       let after = turned_to_recovery node range in
-      one_moves node after (λ other giver waits. let was = turning hashing node has range other giver waits in (was.0, inl was.1)) reports range piece.state state.Recovering
-      (set_states node after range piece state.Recovering [] found same refl) (λ is. absurd (not_it is_settled refl is)) (λ is. absurd (not_it is_recovering refl is)) (λ giver is. inl refl)
+      one_moves node after (λ other giver waits. let was = turning hashing node has range other giver waits in (was.0, inl was.1)) reports
+      range piece.state state.Recovering
+      (set_states node after range piece state.Recovering [] found same refl) (λ is. absurd (not_it is_settled refl is))
+      (λ is. absurd (not_it is_recovering refl is)) (λ giver is. inl refl)
       (λ is. (from, ap (is_awaiting_from from) awaiting ∙ (Decides-silo from from).1 refl))
     where
       not_it : (test : PieceState → Bool) → test (state.Awaiting from) ≡ false → test piece.state ≡ true → ⊥
@@ -110,14 +125,19 @@ module _ (hashing : Hashing) (node : Node) (has : HasPieces hashing node) where
           let its : has_range is_recovering other (Some piece) ≡ true = ap (λ (o : Option Piece). has_range is_recovering other o) (sym found) ∙ ap (λ k. has_range is_recovering other (lookup (is_at (nat_cmp k)) node.holding.pieces)) (sym start) ∙ was in
           not_it is_recovering refl (both (range_eq piece.range other) (is_recovering piece.state) its).1
 
-      reports : (other : Range) (silo : Silo) → Recovers node other → Awaits (turned_to_recovery node range) other silo → Awaits node other silo
+      reports : (other : Range) (silo : Silo) → Recovers node other → Awaits (turned_to_recovery node range) other silo
+          → Awaits node other silo
       reports other silo was waits =
           on_bool (λ b. (other.start == range.start) ≡ b → Awaits node other silo) (other.start == range.start)
           (λ t it. absurd (recovering_before other (eqb-true other.start range.start it) was))
           (λ f it.
           let apart = eqb-false other.start range.start it in
-          awaited_still node (turned_to_recovery node range) other silo (found_beside_set nat_cmp nat_cmp_total exact_unsigned range.start (record { range = range; state = state.Recovering; entries = [] }) node.holding.pieces other.start apart)
-          (ap (λ o. unwrap_or o (new_recovery node.view other)) (found_beside_put nat_cmp nat_cmp_total exact_unsigned range.start (new_recovery node.view range) node.recoveries other.start apart)) waits) refl
+          awaited_still node (turned_to_recovery node range) other silo
+          (found_beside_set nat_cmp nat_cmp_total exact_unsigned range.start
+          (record { range = range; state = state.Recovering; entries = [] }) node.holding.pieces other.start apart)
+          (ap (λ o. unwrap_or o (new_recovery node.view other))
+          (found_beside_put nat_cmp nat_cmp_total exact_unsigned range.start (new_recovery node.view range) node.recoveries other.start
+          apart)) waits) refl
 
   ways : Ways node (GoesOnWith node)
   ways = record {
@@ -125,11 +145,14 @@ module _ (hashing : Hashing) (node : Node) (has : HasPieces hashing node) where
     sees = λ before view places newer numbers seen never. let version = ap (λ v. v.version) seen in absurd (omega (arith, version, newer));
     wakes = λ grain may seen never. still _ refl (λ range. refl) (λ range. refl);
     closes = λ grain held may seen never. still _ refl (λ range. refl) (λ range. refl);
+    cancels = λ grain held may seen never. still _ refl (λ range. refl) (λ range. refl);
     offers = λ grain held to may active other seen never. still _ refl (λ range. refl) (λ range. refl);
     uses_hint = λ grain activation hint seen never. still _ refl (λ range. refl) (λ range. refl);
     finds = λ grain room numbers seen never. still _ refl (λ range. refl) (λ range. refl);
     forgets = λ grain activation hint seen never. still _ refl (λ range. refl) (λ range. refl);
     nudges = λ numbers seen never. still _ refl (λ range. refl) (λ range. refl);
+    nudges_grain = λ grain numbers seen never. still _ refl (λ range. refl) (λ range. refl);
+    nudges_ranges = λ seen never. still node refl (λ range. refl) (λ range. refl);
     answers = λ letter request body sender version seen never. answers request;
     confirms = λ letter number entry e is there seen never. still _ refl (λ range. refl) (λ range. refl);
     yields = λ letter number entry e is there seen never. still _ refl (λ range. refl) (λ range. refl);
@@ -145,10 +168,13 @@ module _ (hashing : Hashing) (node : Node) (has : HasPieces hashing node) where
     reports = λ letter range body now seen never. still node refl (λ range. refl) (λ range. refl);
     gathers = λ letter page gathering taken is seen never. gathers letter page gathering taken is;
     installs = λ letter page entries taken is seen never. settles page.range taken.piece _ taken.has.found taken.has.same;
-    drops = λ letter page left taken is seen never. absurd (never (record { letter = letter; page = page; is = refl; taken = taken; left = left; refused = is }));
+    drops =
+        λ letter page left taken is seen never. absurd (never
+        (record { letter = letter; page = page; is = refl; taken = taken; left = left; refused = is }));
     turns = λ letter range piece body its awaits seen never. turns range piece letter.from its.found its.same awaits;
     collects = λ letter report recovery taken is seen never.
-        same_states node (with_recovery node recovery) (λ range giver waits. (waits, inl refl)) (λ range silo was waits. collected_awaits node letter report recovery taken is range silo waits) (λ test range. refl);
+        same_states node (with_recovery node recovery) (λ range giver waits. (waits, inl refl))
+        (λ range silo was waits. collected_awaits node letter report recovery taken is range silo waits) (λ test range. refl);
     completes = λ letter report table taken is seen never. settles report.range taken.piece _ taken.has.found taken.has.same;
     takes_over = λ letter entry body now may seen never. still _ refl (λ range. refl) (λ range. refl);
   }
@@ -170,11 +196,18 @@ waits_on one two three a b = record {
         | inl still ↦ b.awaits range giver still
         | inr less ↦ inr (elim less [ inl recovers ↦ b.recovers range recovers | inr settled ↦ inr (b.settled range settled) ])
       ];
-  recovered = λ range is. elim (b.recovered range is) [ inl before ↦ a.recovered range before | inr awaited ↦ inr (awaited.0, (a.pages range awaited.0 awaited.1).0) ];
+  recovered =
+      λ range is. elim (b.recovered range is) [
+        | inl before ↦ a.recovered range before
+        | inr awaited ↦ inr
+            (awaited.0, (a.pages range awaited.0 awaited.1).0)
+      ];
   reports = λ range silo was waits.
       elim (a.recovers range was) [
         | inl still ↦ a.reports range silo was (b.reports range silo still waits)
         | inr settled ↦ absurd (not_settled_and_recovers three range (b.settled range settled) waits.recovers)
       ];
-  pages = λ range giver waits. let before = b.pages range giver waits in let first = a.pages range giver before.0 in (first.0, let less = before.1 in let more = first.1 in omega (arith, less, more));
+  pages =
+      λ range giver waits. let before = b.pages range giver waits in let first = a.pages range giver before.0 in
+      (first.0, let less = before.1 in let more = first.1 in omega (arith, less, more));
 }

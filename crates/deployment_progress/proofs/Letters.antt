@@ -3,8 +3,7 @@ use Rattle.std.proofs.Common.{arith, ◌≡◌, ℕ, zero, suc, ◌<◌, ◌≤�
 use Rattle.std.specs.Prelude.{slice_get, Contains, Some}
 use Rattle.std.specs.List.{slice_index_or}
 use Rattle.silo_address.specs.Silo.{Silo}
-use Rattle.directory_rules.specs.Letter.{Letter}
-use Rattle.directory_rules.specs.Node.{Node}
+use Rattle.directory_rules.specs.State.{Letter, Node}
 use Rattle.deployment_headline.specs.Deployment.{Deployment}
 use Rattle.deployment_headline.specs.Steps.{Step, Receive, after, after_all}
 use Rattle.deployment_progress.specs.Exchanges.{IsAnswered}
@@ -26,7 +25,8 @@ got_right [] ys x has = (has.0, omega arith, got_in ys has.0 x has.1 has.2)
 got_right (y ∷ xs) ys x has = let rest = got_right xs ys x has in let low = rest.1 in (suc rest.0, omega (arith, low), rest.2)
 
 -- ---- a letter that is answered
-module _ (d : Deployment) (r : IsAtRest d) (silo : Silo) (steps : List Step) (q : IsQuiet steps) (index : ℕ) (letter : Letter) (a : IsAnswered d silo steps index letter) (node : Node) (there : node_at d silo ≡ Some node) where
+module _ (d : Deployment) (r : IsAtRest d) (silo : Silo) (steps : List Step) (q : IsQuiet steps) (index : ℕ) (letter : Letter)
+    (a : IsAnswered d silo steps index letter) (node : Node) (there : node_at d silo ≡ Some node) where
   abbrev b : Deployment
   b = after_all d a.before
 
@@ -37,7 +37,9 @@ module _ (d : Deployment) (r : IsAtRest d) (silo : Silo) (steps : List Step) (q 
   quiet_all = subst IsQuiet a.is q
 
   quiet_later : IsQuiet (a.between ++ (back ∷ a.rest))
-  quiet_later = quiet_rest (Receive letter.to index) (a.between ++ (back ∷ a.rest)) (quiet_last a.before (Receive letter.to index ∷ (a.between ++ (back ∷ a.rest))) quiet_all)
+  quiet_later =
+      quiet_rest (Receive letter.to index) (a.between ++ (back ∷ a.rest))
+      (quiet_last a.before (Receive letter.to index ∷ (a.between ++ (back ∷ a.rest))) quiet_all)
 
   pub quiet_before : IsQuiet a.before
   quiet_before = quiet_first a.before (Receive letter.to index ∷ (a.between ++ (back ∷ a.rest))) quiet_all
@@ -78,7 +80,9 @@ module _ (d : Deployment) (r : IsAtRest d) (silo : Silo) (steps : List Step) (q 
 
   pub end_is : after_all d steps ≡ after_all next a.rest
   unfolding after_all
-  end_is = ap (after_all d) a.is ∙ after_append d a.before (Receive letter.to index ∷ (a.between ++ (back ∷ a.rest))) ∙ after_append (after b (Receive letter.to index)) a.between (back ∷ a.rest)
+  end_is =
+      ap (after_all d) a.is ∙ after_append d a.before (Receive letter.to index ∷ (a.between ++ (back ∷ a.rest)))
+      ∙ after_append (after b (Receive letter.to index)) a.between (back ∷ a.rest)
 
   pub to_end : (last : Node) → node_at (after_all d steps) silo ≡ Some last → WaitsForLess at_answer.node last
   to_end last at =

@@ -18,5 +18,6 @@ pub mod Served
 pub mod Numbers
 pub mod Ended
 pub mod Owners
+pub mod Parts
 pub mod Worked
 pub mod WorkedRequest

@@ -1,41 +1,52 @@
--- A nudge that isn't refused, and the steps after it.
-use Rattle.std.proofs.Common.{◌≡◌, sym, ap, subst, ◌∙◌, ℕ, List, ◌∷◌, length}
-use Rattle.std.specs.Prelude.{Bool, true, false, cond, not, Some, Result, Ok, Err}
+-- A nudge that isn't refused, of all that a silo waits for or of a part, and the steps after it.
+use Rattle.std.proofs.Common.{◌≡◌, ◌≤◌, sym, ap, subst, ◌∙◌, ℕ, List, ◌∷◌, length}
+use Rattle.std.specs.Prelude.{Bool, true, false, cond, not, Contains, Some, Result, Ok, Err}
 use Rattle.std.specs.Option.{option_map}
-use Rattle.std.proofs.lemmas.List.Elements.{All-head}
+use Rattle.std.proofs.lemmas.List.Elements.{All-head, All-contains, Contains-append_right}
 use Rattle.silo_address.specs.Silo.{Silo}
-use Rattle.directory_rules.specs.Host.{outstanding, has_numbers, renewed}
+use Rattle.directory_rules.specs.declared.act.Act.{Act}
+use Rattle.directory_rules.specs.Host.{outstanding, requests_about, has_numbers, renewed, renewed_about}
 use Rattle.directory_rules.specs.Input.{Does, step}
-use Rattle.directory_rules.specs.Node.{Node}
-use Rattle.directory_rules.specs.declared.own_step.OwnStep.TheVariants.{Nudge}
-use Rattle.directory_rules.specs.Step.{Stepped, having_nudged}
+use Rattle.directory_rules.specs.Laws.{AreNumbered}
+use Rattle.directory_rules.specs.State.{Letter, Node}
+use Rattle.directory_rules.specs.Sent.{all_requests, all_wants}
+use Rattle.directory_rules.specs.declared.own_step.OwnStep.{OwnStep}
+use Rattle.directory_rules.specs.declared.own_step.OwnStep.TheVariants.{Nudge, NudgeGrain, NudgeRanges}
+use Rattle.directory_rules.specs.Step.{Stepped, having_nudged, having_nudged_grain, nudge_ranges}
+use Rattle.progress_rules.specs.Owed.{Owes}
+use Rattle.progress_rules.proofs.FindsSorted.{outstanding_has}
+use Rattle.progress_rules.proofs.NudgedAgain.{IsRenewed, renewed_from}
+use Rattle.progress_rules.proofs.Parts.{grain_nudge_is, renewed_about_from}
 use Rattle.progress_rules.proofs.Rounds.{nudge_is}
 use Rattle.deployment_headline.specs.Deployment.{Deployment}
 use Rattle.deployment_headline.specs.Steps.{Step, Do, IsStep, after, after_all, deployed}
 use Rattle.deployment_headline.proofs.Worlds.{its_node}
-use Rattle.deployment_progress.specs.Exchanges.{IsNudged, NudgesAreTaken}
+use Rattle.deployment_progress.specs.Exchanges.{IsNudge, SendsWants, IsNudged, NudgesAreTaken}
+use Rattle.deployment_progress.specs.Requests.{Renews}
 use Rattle.deployment_progress.proofs.Rest.{node_at, IsAtRest}
 use Rattle.deployment_progress.proofs.Quiet.{HasMoved, does_is, nudge_comes, rests_on}
 use Rattle.deployment_progress.proofs.Later.{IsQuiet, quiet_rest, starts_at_rest}
 
-module _ (d : Deployment) (r : IsAtRest d) (silo : Silo) (steps : List Step) (q : IsQuiet steps) (n : IsNudged d silo steps) where
+module _ (d : Deployment) (r : IsAtRest d) (silo : Silo) (part : OwnStep) (steps : List Step) (q : IsQuiet steps)
+    (n : IsNudged d silo part steps) where
   abbrev nudged_to : Deployment
-  nudged_to = after d (Do silo Nudge)
+  nudged_to = after d (Do silo part)
 
   abbrev first : Node
   first = n.process.node
 
-  quiet_all : IsQuiet (Do silo Nudge ∷ n.rest)
+  quiet_all : IsQuiet (Do silo part ∷ n.rest)
   quiet_all = subst IsQuiet n.begins q
 
   pub quiet_after : IsQuiet n.rest
-  quiet_after = quiet_rest (Do silo Nudge) n.rest quiet_all
+  quiet_after = quiet_rest (Do silo part) n.rest quiet_all
 
   pub nudged_rests : IsAtRest nudged_to
-  nudged_rests = rests_on d r (Do silo Nudge) (All-head IsStep (Do silo Nudge) n.rest quiet_all.named) tt
+  nudged_rests = rests_on d r (Do silo part) (All-head IsStep (Do silo part) n.rest quiet_all.named) tt
 
-  pub nudge_taken : (m : HasMoved d (Do silo Nudge) nudged_to silo) × (m.stepped ≡ n.nudged) × (m.node ≡ first) × (step first (Does Nudge) ≡ Ok n.nudged)
-  nudge_taken = nudge_comes d r silo n.process n.nudged n.there n.is_nudged
+  pub nudge_taken : (m : HasMoved d (Do silo part) nudged_to silo) × (m.stepped ≡ n.nudged) × (m.node ≡ first) ×
+      (step first (Does part) ≡ Ok n.nudged)
+  nudge_taken = nudge_comes d r silo part n.process n.nudged n.there n.is_nudged
 
   pub first_there : node_at d silo ≡ Some first
   first_there = ap (option_map its_node) n.there
@@ -43,21 +54,54 @@ module _ (d : Deployment) (r : IsAtRest d) (silo : Silo) (steps : List Step) (q 
   pub nudged_there : node_at nudged_to silo ≡ Some n.nudged.node
   nudged_there = nudge_taken.0.put ∙ ap (λ (t : Stepped). Some t.node) nudge_taken.1
 
-  -- what it sends
-  pub nudged_so : n.nudged ≡ having_nudged (record first { host = renewed first.host })
-  nudged_so = nudge_is first n.nudged nudge_taken.3
-
   pub after_nudge : after_all d steps ≡ after_all nudged_to n.rest
   unfolding after_all
   after_nudge = ap (after_all d) n.begins
 
+-- ---- what it sends, and what it renews
+-- what the pieces want goes out
+pub sends_wants : (part : OwnStep) → SendsWants part → (first : Node) (nudged : Stepped) → step first (Does part) ≡ Ok nudged
+    → (letter : Letter) → Contains (all_wants nudged.node) letter → Contains nudged.letters letter
+sends_wants Nudge wants first nudged is letter has =
+    let its : Node = record first { host = renewed first.host } in
+    let did : nudged ≡ having_nudged its = nudge_is first nudged is in
+    let in_wants : Contains (all_wants its) letter = subst (λ (t : Stepped). Contains (all_wants t.node) letter) did has in
+    subst (λ (t : Stepped). Contains t.letters letter) (sym did) (Contains-append_right (all_requests its) (all_wants its) letter in_wants)
+sends_wants NudgeRanges wants first nudged is letter has =
+    let did : nudge_ranges first ≡ nudged = cc is in
+    subst (λ (t : Stepped). Contains t.letters letter) did (subst (λ (t : Stepped). Contains (all_wants t.node) letter) (sym did) has)
+sends_wants other wants first nudged is letter has = absurd wants
+
+-- each request that is renewed has a number that was free before
+pub renewed_free : (part : OwnStep) (e : ℕ × Act) → Renews part e → (first : Node) (nudged : Stepped) → step first (Does part) ≡ Ok nudged
+    → AreNumbered nudged.node.host → Owes nudged.node.host e → first.host.next_number ≤ e.0
+renewed_free Nudge e renews first nudged is numbered owes =
+    let did : nudged ≡ having_nudged (record first { host = renewed first.host }) = nudge_is first nudged is in
+    let then : AreNumbered (renewed first.host) = subst (λ (t : Stepped). AreNumbered t.node.host) did numbered in
+    (All-contains (IsRenewed first.host) (outstanding (renewed first.host)) e (renewed_from first.host)
+    (outstanding_has (renewed first.host) then e (subst (λ (t : Stepped). Owes t.node.host e) did owes))).0
+renewed_free (NudgeGrain grain) e renews first nudged is numbered owes =
+    let did : having_nudged_grain (record first { host = renewed_about grain first.host }) grain ≡ nudged = grain_nudge_is first grain nudged is in
+    renewed_about_from first.host grain e (subst (λ (t : Stepped). Owes t.node.host e) (sym did) owes) renews
+renewed_free other e renews first nudged is numbered owes = absurd renews
+
 -- ---- when it is refused
-refused_so : (b : Bool) (stepped : Stepped) (number : ℕ) → cond {A = Result Stepped ℕ} (not b) (Err 805) (Ok stepped) ≡ Err number → number ≡ 805
+refused_so : (b : Bool) (stepped : Stepped) (number : ℕ) → cond {A = Result Stepped ℕ} (not b) (Err 805) (Ok stepped) ≡ Err number
+    → number ≡ 805
 refused_so true stepped number is = absurd (cc (is))
 refused_so false stepped number is = cc (is)
 
+refused_by : (part : OwnStep) → IsNudge part → (node : Node) (number : ℕ) → step node (Does part) ≡ Err number → number ≡ 805
+refused_by Nudge nudge node number is =
+    refused_so (has_numbers node.settings node.host (length (outstanding node.host)))
+    (having_nudged (record node { host = renewed node.host })) number is
+refused_by (NudgeGrain grain) nudge node number is =
+    refused_so (has_numbers node.settings node.host (length (requests_about grain node.host)))
+    (having_nudged_grain (record node { host = renewed_about grain node.host }) grain) number is
+refused_by NudgeRanges nudge node number is = absurd (cc is)
+refused_by other nudge node number is = absurd nudge
+
 pub nudges_are_taken : NudgesAreTaken
-nudges_are_taken settings steps later are named seen named_later none silo s number there is =
+nudges_are_taken settings steps later are named seen named_later none silo part s number nudge there is =
     let d = deployed settings steps in
-    let taken : step s.node (Does Nudge) ≡ Err number = sym (does_is d (starts_at_rest settings steps are named seen) silo s there (Does Nudge)) ∙ is in
-    refused_so (has_numbers s.node.settings s.node.host (length (outstanding s.node.host))) (having_nudged (record s.node { host = renewed s.node.host })) number taken
+    refused_by part nudge s.node number (sym (does_is d (starts_at_rest settings steps are named seen) silo s there (Does part)) ∙ is)

@@ -15,10 +15,10 @@ use Rattle.directory_rules.specs.declared.act.Act.{Act}
 use Rattle.directory_rules.specs.declared.piece_state.PieceState.TheVariants as state
 use Rattle.directory_rules.specs.Answer.{piece_with}
 use Rattle.directory_rules.specs.Laws.{is_live}
-use Rattle.directory_rules.specs.Node.{Node}
-use Rattle.directory_rules.specs.Piece.{Piece}
-use Rattle.directory_rules.specs.Sent.{grain_of, hash_of, owner_by}
-use Rattle.directory_rules.specs.declared.own_step.OwnStep.TheVariants.{Nudge}
+use Rattle.directory_rules.specs.State.{Node, Piece}
+use Rattle.directory_rules.specs.Sent.{hash_of, owner_by}
+use Rattle.directory_rules.specs.Host.{grain_of}
+use Rattle.directory_rules.specs.declared.own_step.OwnStep.{OwnStep}
 use Rattle.directory_rules.specs.World.{current_ring}
 use Rattle.directory_facts.proofs.Entries.{found_so}
 use Rattle.directory_facts.proofs.Hashes.{grains_have_hashes}
@@ -64,7 +64,8 @@ settled_awaits_not node all range giver awaits =
 abbrev pub AreAllSettled : Deployment → Type 0
 AreAllSettled d = (silo : Silo) (node : Node) → node_at d silo ≡ Some node → All IsSettledPiece node.holding.pieces
 
-pub still_settled : (d : Deployment) (r : IsAtRest d) (steps : List Step) → IsQuiet steps → AreAllSettled d → AreAllSettled (after_all d steps)
+pub still_settled : (d : Deployment) (r : IsAtRest d) (steps : List Step) → IsQuiet steps → AreAllSettled d
+    → AreAllSettled (after_all d steps)
 still_settled d r steps q all silo node there =
     let was = was_there_first d r steps q silo node there in
     let before = all silo was.0 was.1 in
@@ -74,7 +75,11 @@ still_settled d r steps q all silo node there =
     let less : WaitsForLess was.0 node = subst (WaitsForLess was.0) same later.less in
     let end = rests_after d r steps q in
     settled_unless_waiting (w (after_all d steps) end).world.settings.hashing node (its_pieces (after_all d steps) end silo node there)
-    (λ range recovers. elim (less.recovered range recovers) [ inl recovered ↦ settled_waits_not was.0 before range recovered | inr awaited ↦ settled_awaits_not was.0 before range awaited.0 awaited.1 ])
+    (λ range recovers. elim (less.recovered range recovers) [
+      | inl recovered ↦ settled_waits_not was.0 before range recovered
+      | inr awaited ↦ settled_awaits_not was.0 before range awaited.0
+          awaited.1
+    ])
     (λ range giver awaits. settled_awaits_not was.0 before range giver (less.pages range giver awaits).0)
 
 -- ---- the owner of a hash
@@ -84,10 +89,14 @@ ring_in d = sorted_ring (view_at d.membership.views d.membership.views.version) 
 
 module _ (d : Deployment) (r : IsAtRest d) where
   same_ring : current_ring (w d r).world ≡ ring_in d
-  same_ring = ap (λ (v : ViewsValue). sorted_ring (view_at v v.version) (w d r).world.places) (w d r).views ∙ ap (λ (p : PlacesValue). sorted_ring (view_at d.membership.views d.membership.views.version) p) (w d r).places
+  same_ring =
+      ap (λ (v : ViewsValue). sorted_ring (view_at v v.version) (w d r).world.places) (w d r).views
+      ∙ ap (λ (p : PlacesValue). sorted_ring (view_at d.membership.views d.membership.views.version) p) (w d r).places
 
   pub its_ring : (silo : Silo) (node : Node) → node_at d silo ≡ Some node → node.ring.points ≡ ring_in d
-  its_ring silo node there = ring_is (w d r).world (w d r).rests silo (node_with_room (w d r).events (w d r).letters node) (in_world d r silo node there) ∙ same_ring
+  its_ring silo node there =
+      ring_is (w d r).world (w d r).rests silo (node_with_room (w d r).events (w d r).letters node) (in_world d r silo node there)
+      ∙ same_ring
 
   -- it is there, and serves
   pub record Serves (hash : ℕ) (owner : Silo) : Type 0 where
@@ -97,7 +106,8 @@ module _ (d : Deployment) (r : IsAtRest d) where
     pub found : piece_with hash node.holding.pieces ≡ Some piece
     pub settled : piece.state ≡ state.Settled
 
-  pub owner_serves : (silo : Silo) (node : Node) → node_at d silo ≡ Some node → (hash : ℕ) → hash < circle → (owner : Silo) → owner_silo (ring_in d) hash ≡ Some owner → AreAllSettled d → Serves hash owner
+  pub owner_serves : (silo : Silo) (node : Node) → node_at d silo ≡ Some node → (hash : ℕ) → hash < circle → (owner : Silo)
+      → owner_silo (ring_in d) hash ≡ Some owner → AreAllSettled d → Serves hash owner
   owner_serves silo node there hash below owner owns all =
       let its = w d r in
       let c = rest_carried its.world its.rests in
@@ -108,7 +118,8 @@ module _ (d : Deployment) (r : IsAtRest d) where
       record { node = own.0; there = own.1; piece = piece.0; found = piece.1; settled = piece.2 }
 
 -- ---- so a letter that comes in its turn is served
-module _ (d : Deployment) (r : IsAtRest d) (silo : Silo) (steps : List Step) (q : IsQuiet steps) (node : Node) (there : node_at d silo ≡ Some node) (e : ℕ × Act) (turn : IsAnsweredInTurn d silo node steps e)
+module _ (d : Deployment) (r : IsAtRest d) (silo : Silo) (steps : List Step) (q : IsQuiet steps) (node : Node)
+    (there : node_at d silo ≡ Some node) (e : ℕ × Act) (turn : IsAnsweredInTurn d silo node steps e)
     (owns : owner_by node (hash_of node e.1) ≡ Some turn.owner) (all : AreAllSettled d) where
   pub is_served : IsServed d silo node steps e
   is_served =
@@ -131,19 +142,23 @@ module _ (d : Deployment) (r : IsAtRest d) (silo : Silo) (steps : List Step) (q 
       }
 
 all_at_first : (d : Deployment) → HaveAllSettled d → AreAllSettled d
-all_at_first d all silo node there = let its = process_with (process_of d silo) node there in subst (λ (n : Node). All IsSettledPiece n.holding.pieces) its.2 (all silo its.0 its.1)
+all_at_first d all silo node there =
+    let its = process_with (process_of d silo) node there in
+    subst (λ (n : Node). All IsSettledPiece n.holding.pieces) its.2 (all silo its.0 its.1)
 
-settled_then : (d : Deployment) (r : IsAtRest d) (silo : Silo) → IsQuiet (Do silo Nudge ∷ []) → AreAllSettled d → AreAllSettled (after d (Do silo Nudge))
+settled_then : (d : Deployment) (r : IsAtRest d) (silo : Silo) (part : OwnStep) → IsQuiet (Do silo part ∷ []) → AreAllSettled d
+    → AreAllSettled (after d (Do silo part))
 unfolding after_all
-settled_then d r silo nudge all = still_settled d r (Do silo Nudge ∷ []) nudge all
+settled_then d r silo part nudge all = still_settled d r (Do silo part ∷ []) nudge all
 
 pub settled_requests_end : SettledRequestsEnd
-settled_requests_end settings steps later are named seen named_later none silo n t all turns =
+settled_requests_end settings steps later are named seen named_later none silo part n t all turns =
     let d = deployed settings steps in
     let r = starts_at_rest settings steps are named seen in
     let q : IsQuiet later = record { named = named_later; none = none } in
-    let nudge : IsQuiet (Do silo Nudge ∷ []) = quiet_first (Do silo Nudge ∷ []) n.rest (subst IsQuiet n.begins q) in
-    old_requests_end settings steps later are named seen named_later none silo n t
-    (λ e owes.
-    let turn = turns e owes in
-    is_served (after d (Do silo Nudge)) (nudged_rests d r silo later q n) silo n.rest (quiet_after d r silo later q n) n.nudged.node (nudged_there d r silo later q n) e turn.0 turn.1 (settled_then d r silo nudge (all_at_first d all)))
+    let nudge : IsQuiet (Do silo part ∷ []) = quiet_first (Do silo part ∷ []) n.rest (subst IsQuiet n.begins q) in
+    old_requests_end settings steps later are named seen named_later none silo part n t
+    (λ e renews owes.
+    let turn = turns e renews owes in
+    is_served (after d (Do silo part)) (nudged_rests d r silo part later q n) silo n.rest (quiet_after d r silo part later q n)
+    n.nudged.node (nudged_there d r silo part later q n) e turn.0 turn.1 (settled_then d r silo part nudge (all_at_first d all)))

@@ -7,9 +7,7 @@ use Rattle.std.specs.BTreeMap.{is_at}
 use Rattle.silo_address.specs.Silo.{Silo, silo_cmp}
 use Rattle.membership_view.specs.Views.{ViewsValue}
 use Rattle.directory_rules.specs.Settings.{Settings, AreSettings}
-use Rattle.directory_rules.specs.Letter.{Letter}
-use Rattle.directory_rules.specs.Node.{Node}
-use Rattle.directory_rules.specs.World.{World}
+use Rattle.directory_rules.specs.State.{Letter, Node, World}
 use Rattle.directory_rules.specs.Mail.{letter_of}
 use Rattle.directory_rules.specs.Happens.{node_of}
 use Rattle.directory_rules.specs.Laws.{ArePeopled}
@@ -37,7 +35,8 @@ abbrev pub node_at : Deployment → Silo → Option Node
 node_at d silo = option_map its_node (process_of d silo)
 
 -- a node is that of a process
-pub process_with : (o : Option SiloValue) (node : Node) → option_map its_node o ≡ Some node → (s : SiloValue) × (o ≡ Some s) × (s.node ≡ node)
+pub process_with : (o : Option SiloValue) (node : Node) → option_map its_node o ≡ Some node
+    → (s : SiloValue) × (o ≡ Some s) × (s.node ≡ node)
 process_with None node is = absurd (cc (is))
 process_with (Some s) node is = let same : s.node ≡ node = cc (is) in (s, refl, same)
 
@@ -55,7 +54,8 @@ pub record HasWorld (d : Deployment) : Type 0 where
   pub nodes : (silo : Silo) → node_of world silo ≡ option_map (node_with_room events letters) (node_at d silo)
   pub mail : (index : ℕ) (letter : Letter) → slice_get d.written index ≡ Some letter → letter_of world (1 + index) ≡ Some letter
 
-roomy_settings : (its : Settings) (events letters : ℕ) → AreSettings its → 1 ≤ events → 1 ≤ letters → AreSettings (with_room events letters its)
+roomy_settings : (its : Settings) (events letters : ℕ) → AreSettings its → 1 ≤ events → 1 ≤ letters
+    → AreSettings (with_room events letters its)
 roomy_settings its events letters are some any = record {
   points_above = are.points_above;
   points_within = are.points_within;
@@ -74,11 +74,13 @@ roomy_settings its events letters are some any = record {
   last_within = are.last_within;
 }
 
-with_same : (e l : ℕ) (o : Option SiloValue) → option_map its_node (option_map (process_with_room e l) o) ≡ option_map (node_with_room e l) (option_map its_node o)
+with_same : (e l : ℕ) (o : Option SiloValue) → option_map its_node (option_map (process_with_room e l) o) ≡ option_map (node_with_room e l)
+    (option_map its_node o)
 with_same e l None = refl
 with_same e l (Some s) = refl
 
-module _ (settings : Settings) (steps : List Step) (are : AreSettings settings) (named : All IsStep steps) (seen : HaveAllSeen (deployed settings steps)) where
+module _ (settings : Settings) (steps : List Step) (are : AreSettings settings) (named : All IsStep steps)
+    (seen : HaveAllSeen (deployed settings steps)) where
   abbrev d : Deployment
   d = deployed settings steps
 
@@ -103,12 +105,14 @@ module _ (settings : Settings) (steps : List Step) (are : AreSettings settings) 
   same_nodes : (silo : Silo) → node_of w silo ≡ option_map (node_with_room e l) (node_at d silo)
   same_nodes silo =
       ap (λ x. node_of x silo) all.is ∙ node_there (deployment_with_room e l d) all.count all.letters silo
-      ∙ ap (option_map its_node) (lookup-over (process_with_room e l) (is_at (silo_cmp silo)) d.processes) ∙ with_same e l (process_of d silo)
+      ∙ ap (option_map its_node) (lookup-over (process_with_room e l) (is_at (silo_cmp silo)) d.processes)
+      ∙ with_same e l (process_of d silo)
 
   have_seen : HaveSeen w
   have_seen silo node there = by (process_of d silo) refl (sym (same_nodes silo) ∙ there)
     where
-      by : (o : Option SiloValue) → process_of d silo ≡ o → option_map (node_with_room e l) (option_map its_node o) ≡ Some node → node.view.version ≡ w.views.version
+      by : (o : Option SiloValue) → process_of d silo ≡ o → option_map (node_with_room e l) (option_map its_node o) ≡ Some node
+          → node.view.version ≡ w.views.version
       by None at is = absurd (cc (is))
       by (Some s) at is =
           let same : node_with_room e l s.node ≡ node = cc (is) in
@@ -126,7 +130,9 @@ module _ (settings : Settings) (steps : List Step) (are : AreSettings settings) 
     places = ap (λ (x : World). x.places) all.is;
     settings = ap (λ (x : World). x.settings) all.is;
     nodes = same_nodes;
-    mail = λ index letter found. ap (λ x. letter_of x (1 + index)) all.is ∙ letter_there (deployment_with_room e l d) all.count all.letters all.has index ∙ found;
+    mail =
+        λ index letter found. ap (λ x. letter_of x (1 + index)) all.is
+        ∙ letter_there (deployment_with_room e l d) all.count all.letters all.has index ∙ found;
   }
 
 -- ---- at rest
@@ -149,7 +155,11 @@ module _ (d : Deployment) (r : IsAtRest d) where
   its_sound = subst Sound (sym r.is) (sound_after (first_deployment r.settings) sound_first_so r.steps)
 
   pub its_settings : AreSettings d.settings
-  its_settings = subst (λ (x : Deployment). AreSettings x.settings) (sym r.is) (subst AreSettings (sym (settings_stay (first_deployment r.settings) sound_first_so r.steps)) r.are)
+  its_settings =
+      subst (λ (x : Deployment). AreSettings x.settings) (sym r.is)
+      (subst AreSettings (sym (settings_stay (first_deployment r.settings) sound_first_so r.steps)) r.are)
 
   pub its_wholes : (silo : Silo) (s : SiloValue) → process_of d silo ≡ Some s → IsWhole s
-  its_wholes = its_whole d its_settings (subst AreWholes (sym r.is) (wholes_after (first_deployment r.settings) sound_first_so r.are (wholes_first r.settings) r.steps))
+  its_wholes =
+      its_whole d its_settings (subst AreWholes (sym r.is)
+      (wholes_after (first_deployment r.settings) sound_first_so r.are (wholes_first r.settings) r.steps))

@@ -6,8 +6,7 @@ use Rattle.membership_view.specs.View.{ViewValue}
 use Rattle.directory_rules.specs.declared.act.Request.{Request}
 use Rattle.directory_rules.specs.Answer.{last_served}
 use Rattle.directory_rules.specs.Input.{Input, Receives, step}
-use Rattle.directory_rules.specs.Letter.{Letter, Request_letter}
-use Rattle.directory_rules.specs.Node.{Node}
+use Rattle.directory_rules.specs.State.{Letter, Request_letter, Node}
 use Rattle.directory_rules.specs.Step.{Stepped}
 use Rattle.directory_facts.proofs.EachStep.{by_way}
 use Rattle.directory_facts.proofs.Ways.{Ways}
@@ -24,21 +23,32 @@ pub record IsOfRequest (input : Input) (silo : Silo) (number : ℕ) : Type 0 whe
 
 module _ (node : Node) where
   abbrev Serves : Input → Stepped → Type 0
-  Serves input stepped = stepped.node.view ≡ node.view → (silo : Silo) → (last_served silo stepped.node.holding.served ≡ last_served silo node.holding.served) ⊎ IsOfRequest input silo (last_served silo stepped.node.holding.served)
+  Serves input stepped =
+      stepped.node.view ≡ node.view → (silo : Silo) → (last_served silo stepped.node.holding.served ≡ last_served silo node.holding.served)
+      ⊎ IsOfRequest input silo (last_served silo stepped.node.holding.served)
 
   ways : Ways node Serves
   ways = record {
     nothing = λ input its plain seen silo. inl refl;
-    sees = λ before view places newer numbers seen. let version = ap (λ (v : ViewValue). v.version) seen in absurd (omega (arith, version, newer));
+    sees =
+        λ before view places newer numbers seen. let version = ap (λ (v : ViewValue). v.version) seen in
+        absurd (omega (arith, version, newer));
     wakes = λ grain may seen silo. inl refl;
     closes = λ grain held may seen silo. inl refl;
+    cancels = λ grain held may seen silo. inl refl;
     offers = λ grain held to may active other seen silo. inl refl;
     uses_hint = λ grain activation hint seen silo. inl refl;
     finds = λ grain room numbers seen silo. inl refl;
     forgets = λ grain activation hint seen silo. inl refl;
     nudges = λ numbers seen silo. inl refl;
+    nudges_grain = λ grain numbers seen silo. inl refl;
+    nudges_ranges = λ seen silo. inl refl;
     answers = λ letter request body sender version seen silo.
-        elim (served_so node.holding request silo) [ inl same ↦ inl same | inr mine ↦ inr (record { letter = letter; request = request; is = refl; body = body; sender = sym mine.0; number_is = mine.2 }) ];
+        elim (served_so node.holding request silo) [
+          | inl same ↦ inl same
+          | inr mine ↦ inr
+              (record { letter = letter; request = request; is = refl; body = body; sender = sym mine.0; number_is = mine.2 })
+        ];
     confirms = λ letter number entry e is there seen silo. inl refl;
     yields = λ letter number entry e is there seen silo. inl refl;
     removes = λ letter number e is there seen silo. inl refl;

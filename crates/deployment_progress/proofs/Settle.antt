@@ -4,7 +4,7 @@ use Rattle.std.specs.Prelude.{All, flat_map, Some}
 use Rattle.std.specs.Option.{option_map}
 use Rattle.silo_address.specs.Silo.{Silo}
 use Rattle.ring_range.specs.Range.{Range}
-use Rattle.directory_rules.specs.Node.{Node}
+use Rattle.directory_rules.specs.State.{Node}
 use Rattle.directory_rules.specs.Sent.{gathering_of}
 use Rattle.directory_rules.specs.Snapshot.{page_count}
 use Rattle.silo_rules.specs.SiloValue.{SiloValue}
@@ -78,15 +78,20 @@ module _ (silo : Silo) (pages : ℕ) (range : Range) where
     }
 
     same_first : b.are.0.nudge.process.node ≡ b.first
-    same_first = let there = b.there in let its : node_at d silo ≡ Some b.are.0.nudge.process.node = ap (option_map its_node) b.are.0.nudge.there in cc (there, its)
+    same_first =
+        let there = b.there in let its : node_at d silo ≡ Some b.are.0.nudge.process.node = ap (option_map its_node) b.are.0.nudge.there in
+        cc (there, its)
 
     -- the first exchange
     comes : (giver : Silo) → AwaitsFrom mid.node range giver → (next_at b.first < next_at mid.node) × (next_at b.first < pages)
     comes giver waits =
-        subst (λ (n : Node). (next_at n < next_at mid.node) × (next_at n < pages)) same_first (pages_come d b.rests silo steps quiet_steps b.are.0 mid.node mid.there pages b.shelves range giver waits)
+        subst (λ (n : Node). (next_at n < next_at mid.node) × (next_at n < pages)) same_first
+        (pages_come d b.rests silo steps quiet_steps b.are.0 mid.node mid.there pages b.shelves range giver waits)
 
     ends : Recovers b.first range → HasSettled mid.node range
-    ends was = recovers_end d b.rests silo steps quiet_steps b.are.0 mid.node mid.there range (subst (λ (n : Node). Recovers n range) (sym same_first) was)
+    ends was =
+        recovers_end d b.rests silo steps quiet_steps b.are.0 mid.node mid.there range
+        (subst (λ (n : Node). Recovers n range) (sym same_first) was)
 
   to_last : (d : Deployment) (exchanges : List (List Step)) (b : Between d exchanges) → WaitsForLess b.first b.last
   to_last d exchanges b =
@@ -97,7 +102,8 @@ module _ (silo : Silo) (pages : ℕ) (range : Range) where
       subst (WaitsForLess b.first) same e.less
 
   -- what still awaits at the end had a page in each exchange
-  pub awaits_long : (d : Deployment) (steps : List Step) (more : List (List Step)) (b : Between d (steps ∷ more)) (giver : Silo) → AwaitsFrom b.last range giver → next_at b.first + suc (length more) ≤ pages
+  pub awaits_long : (d : Deployment) (steps : List Step) (more : List (List Step)) (b : Between d (steps ∷ more)) (giver : Silo)
+      → AwaitsFrom b.last range giver → next_at b.first + suc (length more) ≤ pages
   awaits_long d steps [] b giver waits =
       let one = comes d steps [] b giver ((to_last (after_all d steps) [] (rest d steps [] b)).pages range giver waits).0 in
       let few = one.1 in
@@ -110,7 +116,8 @@ module _ (silo : Silo) (pages : ℕ) (range : Range) where
       omega (arith, grown, later)
 
   -- what still recovers at the end awaited a snapshot until the last of them, and had a page in each but that
-  long : (d : Deployment) (steps : List Step) (more : List (List Step)) (b : Between d (steps ∷ more)) → Recovers b.last range → (giver : Silo) × AwaitsFrom b.first range giver × (1 ≤ length more → next_at b.first + length more ≤ pages)
+  long : (d : Deployment) (steps : List Step) (more : List (List Step)) (b : Between d (steps ∷ more)) → Recovers b.last range
+      → (giver : Silo) × AwaitsFrom b.first range giver × (1 ≤ length more → next_at b.first + length more ≤ pages)
   long d steps [] b recovers =
       let its = rest d steps [] b in
       let less = to_last (after_all d steps) [] its in
@@ -125,11 +132,13 @@ module _ (silo : Silo) (pages : ℕ) (range : Range) where
       let one = comes d steps (other ∷ more) b later.0 later.1 in
       (later.0, (less.pages range later.0 later.1).0, λ some. by more one.0 one.1 later.2)
     where
-      by : (xs : List (List Step)) → next_at b.first < next_at (mid d steps (other ∷ more) b).node → next_at b.first < pages → (1 ≤ length xs → next_at (mid d steps (other ∷ more) b).node + length xs ≤ pages) → next_at b.first + suc (length xs) ≤ pages
+      by : (xs : List (List Step)) → next_at b.first < next_at (mid d steps (other ∷ more) b).node → next_at b.first < pages
+          → (1 ≤ length xs → next_at (mid d steps (other ∷ more) b).node + length xs ≤ pages) → next_at b.first + suc (length xs) ≤ pages
       by [] grown few so = omega (arith, few)
       by (x ∷ xs) grown few so = let all = so (omega arith) in omega (arith, grown, all)
 
-  pub recovers_long : (d : Deployment) (steps : List Step) (more : List (List Step)) (b : Between d (steps ∷ more)) → Recovers b.last range → (giver : Silo) × AwaitsFrom b.first range giver × (length more ≤ pages)
+  pub recovers_long : (d : Deployment) (steps : List Step) (more : List (List Step)) (b : Between d (steps ∷ more)) → Recovers b.last range
+      → (giver : Silo) × AwaitsFrom b.first range giver × (length more ≤ pages)
   recovers_long d steps more b recovers = let so = long d steps more b recovers in (so.0, so.1, by more so.2)
     where
       by : (more : List (List Step)) → (1 ≤ length more → next_at b.first + length more ≤ pages) → length more ≤ pages
@@ -137,12 +146,14 @@ module _ (silo : Silo) (pages : ℕ) (range : Range) where
       by (x ∷ xs) so = let all = so (omega arith) in omega (arith, all)
 
 -- ---- then all are settled
-all_end : (d : Deployment) (r : IsAtRest d) (silo : Silo) (exchanges : List (List Step)) (pages : ℕ) (last : Node) → IsQuiet (together exchanges) → AreExchanges d silo exchanges → AreAtMost pages d → pages + 2 ≤ length exchanges
+all_end : (d : Deployment) (r : IsAtRest d) (silo : Silo) (exchanges : List (List Step)) (pages : ℕ) (last : Node)
+    → IsQuiet (together exchanges) → AreExchanges d silo exchanges → AreAtMost pages d → pages + 2 ≤ length exchanges
     → node_at (after_all d (together exchanges)) silo ≡ Some last → All IsSettledPiece last.holding.pieces
 all_end d r silo [] pages last q are shelves many at = absurd (omega (arith, many))
 all_end d r silo (steps ∷ more) pages last q are shelves many at =
     let end = rests_after d r (together (steps ∷ more)) q in
-    settled_unless_waiting (w (after_all d (together (steps ∷ more))) end).world.settings.hashing last (its_pieces (after_all d (together (steps ∷ more))) end silo last at)
+    settled_unless_waiting (w (after_all d (together (steps ∷ more))) end).world.settings.hashing last
+    (its_pieces (after_all d (together (steps ∷ more))) end silo last at)
     (λ range recovers. (let few = (recovers_long silo pages range d steps more (b range) recovers).2 in omega (arith, few, many)))
     (λ range giver waits. (let few = awaits_long silo pages range d steps more (b range) giver waits in omega (arith, few, many)))
   where
@@ -164,16 +175,21 @@ shelves_of d pages at_most silo node there =
     let its = process_with (process_of d silo) node there in
     subst (λ (n : Node). All (λ x. page_count (length x.entries) ≤ pages) n.shelf) its.2 (at_most silo its.0 its.1)
 
-settled_so : (d : Deployment) (r : IsAtRest d) (steps : List Step) → IsQuiet steps → (silo : Silo) (pages : ℕ) (last : Node) → HaveAtMost pages d → HasExchanges d silo (pages + 2) steps → node_at (after_all d steps) silo ≡ Some last → All IsSettledPiece last.holding.pieces
+settled_so : (d : Deployment) (r : IsAtRest d) (steps : List Step) → IsQuiet steps → (silo : Silo) (pages : ℕ) (last : Node)
+    → HaveAtMost pages d → HasExchanges d silo (pages + 2) steps → node_at (after_all d steps) silo ≡ Some last
+    → All IsSettledPiece last.holding.pieces
 settled_so d r steps q silo pages last at_most h at =
     let quiet : IsQuiet (h.before ++ together h.exchanges) = subst IsQuiet h.is q in
     let first = quiet_first h.before (together h.exchanges) quiet in
-    all_end (after_all d h.before) (rests_after d r h.before first) silo h.exchanges pages last (quiet_last h.before (together h.exchanges) quiet) h.are (still_at_most pages d r h.before first (shelves_of d pages at_most)) h.enough
+    all_end (after_all d h.before) (rests_after d r h.before first) silo h.exchanges pages last
+    (quiet_last h.before (together h.exchanges) quiet) h.are (still_at_most pages d r h.before first (shelves_of d pages at_most))
+    h.enough
     (ap (λ x. node_at x silo) (sym (ap (after_all d) h.is ∙ after_append d h.before (together h.exchanges))) ∙ at)
 
 pub ranges_settle : RangesSettle
 ranges_settle settings steps later are named seen named_later none silo pages t at_most h at =
-    settled_so (deployed settings steps) (starts_at_rest settings steps are named seen) later (record { named = named_later; none = none }) silo pages t.node at_most h (ap (option_map its_node) at)
+    settled_so (deployed settings steps) (starts_at_rest settings steps are named seen) later (record { named = named_later; none = none })
+    silo pages t.node at_most h (ap (option_map its_node) at)
 
 pub all_ranges_settle : AllRangesSettle
 all_ranges_settle settings steps later are named seen named_later none pages at_most each silo t at =

@@ -12,12 +12,9 @@ use Rattle.silo_address.specs.Silo.{Silo}
 use Rattle.ring_range.specs.Range.{Range, range_eq}
 use Rattle.directory_rules.specs.declared.piece_state.PieceState.{PieceState}
 use Rattle.directory_rules.specs.declared.piece_state.PieceState.TheVariants as state
-use Rattle.directory_rules.specs.Gatherings.{Gathering}
-use Rattle.directory_rules.specs.Node.{Node}
-use Rattle.directory_rules.specs.Piece.{Piece}
+use Rattle.directory_rules.specs.State.{Gathering, Node, Piece, Table}
 use Rattle.directory_rules.specs.Sent.{gathering_of}
 use Rattle.directory_rules.specs.Sight.{is_settled}
-use Rattle.directory_rules.specs.Table.{Table}
 use Rattle.directory_rules.specs.Transfer.{piece_at, has_range, is_awaiting_from, is_recovering}
 use Rattle.directory_rules.proofs.Cases.{on_bool}
 use Rattle.directory_facts.proofs.Lookups.{found_set, found_beside_set}
@@ -31,9 +28,12 @@ abbrev pub IsIn : (PieceState → Bool) → Node → Range → Type 0
 IsIn test node range = has_range test range (piece_at node range) ≡ true
 
 -- ---- a range is in one state
-one_state : (test other : PieceState → Bool) → ((its : PieceState) → test its ≡ true → other its ≡ true → ⊥) → (range : Range) (o : Option Piece) → has_range test range o ≡ true → has_range other range o ≡ true → ⊥
+one_state : (test other : PieceState → Bool) → ((its : PieceState) → test its ≡ true → other its ≡ true → ⊥)
+    → (range : Range) (o : Option Piece) → has_range test range o ≡ true → has_range other range o ≡ true → ⊥
 one_state test other apart range None is too = cc (is)
-one_state test other apart range (Some piece) is too = apart piece.state (both (range_eq piece.range range) (test piece.state) is).1 (both (range_eq piece.range range) (other piece.state) too).1
+one_state test other apart range (Some piece) is too =
+    apart piece.state (both (range_eq piece.range range) (test piece.state) is).1
+    (both (range_eq piece.range range) (other piece.state) too).1
 
 settled_or_recovers : (its : PieceState) → is_settled its ≡ true → is_recovering its ≡ true → ⊥
 settled_or_recovers state.Settled is too = cc (too)
@@ -54,28 +54,39 @@ pub not_settled_and_recovers : (node : Node) (range : Range) → HasSettled node
 not_settled_and_recovers node range = one_state is_settled is_recovering settled_or_recovers range (piece_at node range)
 
 pub not_settled_and_awaits : (node : Node) (range : Range) (giver : Silo) → HasSettled node range → AwaitsFrom node range giver → ⊥
-not_settled_and_awaits node range giver = one_state is_settled (is_awaiting_from giver) (settled_or_awaits giver) range (piece_at node range)
+not_settled_and_awaits node range giver =
+    one_state is_settled (is_awaiting_from giver) (settled_or_awaits giver) range (piece_at node range)
 
 pub not_recovers_and_awaits : (node : Node) (range : Range) (giver : Silo) → Recovers node range → AwaitsFrom node range giver → ⊥
-not_recovers_and_awaits node range giver = one_state is_recovering (is_awaiting_from giver) (recovers_or_awaits giver) range (piece_at node range)
+not_recovers_and_awaits node range giver =
+    one_state is_recovering (is_awaiting_from giver) (recovers_or_awaits giver) range (piece_at node range)
 
 -- ---- what a step makes of the pages had, more exactly: as much is gathered as before, or a page more
 abbrev pub HasPagesSo : Node → Node → Type 0
 HasPagesSo before after = (range : Range) (giver : Silo) → AwaitsFrom after range giver
-    → AwaitsFrom before range giver × ((gathering_of after range ≡ gathering_of before range) ⊎ ((gathering_of before range).next < (gathering_of after range).next))
+    → AwaitsFrom before range giver × ((gathering_of after range ≡ gathering_of before range)
+    ⊎ ((gathering_of before range).next < (gathering_of after range).next))
 
 pub record GoesOn (before after : Node) : Type 0 where
   pub less : WaitsForLess before after
   pub pages : HasPagesSo before after
 
-pages_grow : (before after : Node) → HasPagesSo before after → (range : Range) (giver : Silo) → AwaitsFrom after range giver → AwaitsFrom before range giver × ((gathering_of before range).next ≤ (gathering_of after range).next)
+pages_grow : (before after : Node) → HasPagesSo before after → (range : Range) (giver : Silo) → AwaitsFrom after range giver
+    → AwaitsFrom before range giver × ((gathering_of before range).next ≤ (gathering_of after range).next)
 pages_grow before after so range giver waits =
-    let was = so range giver waits in
-    (was.0, elim was.1 [ inl same ↦ (let next = ap (λ (g : Gathering). g.next) same in omega (arith, next)) | inr more ↦ omega (arith, more) ])
+    let was = so range giver waits in (
+      was.0,
+      elim was.1 [
+        | inl same ↦ (let next = ap (λ (g : Gathering). g.next) same in omega (arith, next))
+        | inr more ↦ omega (arith, more)
+      ],
+    )
 
-module _ (before after : Node) (pages : HasPagesSo before after) (reports : (range : Range) (silo : Silo) → Recovers before range → Awaits after range silo → Awaits before range silo) where
+module _ (before after : Node) (pages : HasPagesSo before after)
+    (reports : (range : Range) (silo : Silo) → Recovers before range → Awaits after range silo → Awaits before range silo) where
   -- where each piece is in the state that it was in
-  pub same_states : ((test : PieceState → Bool) (range : Range) → has_range test range (piece_at after range) ≡ has_range test range (piece_at before range)) → GoesOn before after
+  pub same_states : ((test : PieceState → Bool) (range : Range)
+      → has_range test range (piece_at after range) ≡ has_range test range (piece_at before range)) → GoesOn before after
   same_states same = record {
     less = record {
       settled = λ range is. same is_settled range ∙ is;
@@ -90,21 +101,26 @@ module _ (before after : Node) (pages : HasPagesSo before after) (reports : (ran
 
   -- where one piece is in another
   module _ (its : Range) (old new : PieceState)
-      (states : (range : Range) → ((test : PieceState → Bool) → has_range test range (piece_at after range) ≡ has_range test range (piece_at before range))
-      ⊎ ((test : PieceState → Bool) → (has_range test range (piece_at after range) ≡ (range_eq its range && test new)) × (has_range test range (piece_at before range) ≡ (range_eq its range && test old)))) where
-    pub one_moves : (is_settled old ≡ true → is_settled new ≡ true) → (is_recovering old ≡ true → is_settled new ≡ true) → ((giver : Silo) → is_awaiting_from giver old ≡ true → (is_recovering new ≡ true) ⊎ (is_settled new ≡ true))
+      (states : (range : Range) → ((test : PieceState → Bool)
+      → has_range test range (piece_at after range) ≡ has_range test range (piece_at before range))
+      ⊎ ((test : PieceState → Bool) → (has_range test range (piece_at after range) ≡ (range_eq its range && test new)) ×
+      (has_range test range (piece_at before range) ≡ (range_eq its range && test old)))) where
+    pub one_moves : (is_settled old ≡ true → is_settled new ≡ true) → (is_recovering old ≡ true → is_settled new ≡ true)
+        → ((giver : Silo) → is_awaiting_from giver old ≡ true → (is_recovering new ≡ true) ⊎ (is_settled new ≡ true))
         → (is_recovering new ≡ true → (giver : Silo) × (is_awaiting_from giver old ≡ true)) → GoesOn before after
     one_moves settled recovers awaits recovered = record {
       less = record {
         settled = λ range is.
             elim (states range) [
               | inl same ↦ same is_settled ∙ is
-              | inr at ↦ (let so = both (range_eq its range) (is_settled old) (sym (at is_settled).1 ∙ is) in (at is_settled).0 ∙ both_true (range_eq its range) (is_settled new) so.0 (settled so.1))
+              | inr at ↦ (let so = both (range_eq its range) (is_settled old) (sym (at is_settled).1 ∙ is) in (at is_settled).0
+                  ∙ both_true (range_eq its range) (is_settled new) so.0 (settled so.1))
             ];
         recovers = λ range is.
             elim (states range) [
               | inl same ↦ inl (same is_recovering ∙ is)
-              | inr at ↦ (let so = both (range_eq its range) (is_recovering old) (sym (at is_recovering).1 ∙ is) in inr ((at is_settled).0 ∙ both_true (range_eq its range) (is_settled new) so.0 (recovers so.1)))
+              | inr at ↦ (let so = both (range_eq its range) (is_recovering old) (sym (at is_recovering).1 ∙ is) in
+                  inr ((at is_settled).0 ∙ both_true (range_eq its range) (is_settled new) so.0 (recovers so.1)))
             ];
         awaits = λ range giver is.
             elim (states range) [
@@ -131,13 +147,15 @@ module _ (before after : Node) (pages : HasPagesSo before after) (reports : (ran
     }
 
 -- ---- a piece is set
-module _ (node after : Node) (range : Range) (old : Piece) (new : PieceState) (table : Table) (found : piece_at node range ≡ Some old) (same : old.range ≡ range) where
+module _ (node after : Node) (range : Range) (old : Piece) (new : PieceState) (table : Table) (found : piece_at node range ≡ Some old)
+    (same : old.range ≡ range) where
   abbrev set : Piece
   set = record { range = range; state = new; entries = table }
 
   abbrev States : Range → Type 0
   States other = ((test : PieceState → Bool) → has_range test other (piece_at after other) ≡ has_range test other (piece_at node other))
-      ⊎ ((test : PieceState → Bool) → (has_range test other (piece_at after other) ≡ (range_eq range other && test new)) × (has_range test other (piece_at node other) ≡ (range_eq range other && test old.state)))
+      ⊎ ((test : PieceState → Bool) → (has_range test other (piece_at after other) ≡ (range_eq range other && test new)) ×
+      (has_range test other (piece_at node other) ≡ (range_eq range other && test old.state)))
 
   pub set_states : after.holding.pieces ≡ set_value (is_at (nat_cmp range.start)) node.holding.pieces set → (other : Range) → States other
   set_states is other =
@@ -147,10 +165,13 @@ module _ (node after : Node) (range : Range) (old : Piece) (new : PieceState) (t
       let start = eqb-true other.start range.start it in
       let now : piece_at after other ≡ Some set =
       at ∙ ap (λ k. lookup (is_at (nat_cmp k)) (set_value (is_at (nat_cmp range.start)) node.holding.pieces set)) start
-      ∙ found_set nat_cmp nat_cmp_total exact_unsigned range.start set node.holding.pieces (ap (λ (o : Option Piece). elim o as (λ _. Bool) [ None ↦ false | Some p ↦ true ]) found) in
+      ∙ found_set nat_cmp nat_cmp_total exact_unsigned range.start set node.holding.pieces
+      (ap (λ (o : Option Piece). elim o as (λ _. Bool) [ None ↦ false | Some p ↦ true ]) found) in
       let was : piece_at node other ≡ Some old = ap (λ k. lookup (is_at (nat_cmp k)) node.holding.pieces) start ∙ found in
       inr (λ test. (
         ap (λ (o : Option Piece). has_range test other o) now,
         ap (λ (o : Option Piece). has_range test other o) was ∙ ap (λ (r : Range). range_eq r other && test old.state) same,
       )))
-      (λ f it. inl (λ test. ap (λ (o : Option Piece). has_range test other o) (at ∙ found_beside_set nat_cmp nat_cmp_total exact_unsigned range.start set node.holding.pieces other.start (eqb-false other.start range.start it)))) refl
+      (λ f it. inl (λ test. ap (λ (o : Option Piece). has_range test other o)
+      (at ∙ found_beside_set nat_cmp nat_cmp_total exact_unsigned range.start set node.holding.pieces other.start
+      (eqb-false other.start range.start it)))) refl

@@ -8,7 +8,7 @@ use Rattle.silo_address.proofs.Order.{silo_cmp_exact}
 use Rattle.membership_view.specs.Changes.{occupant}
 use Rattle.directory_rules.specs.Settings.{Settings, AreSettings}
 use Rattle.directory_rules.specs.Input.{Input, Does}
-use Rattle.directory_rules.specs.Letter.{Letter}
+use Rattle.directory_rules.specs.State.{Letter}
 use Rattle.directory_rules.specs.Step.{Stepped}
 use Rattle.directory_facts.proofs.Entries.{all_put, all_removed, found_so}
 use Rattle.directory_rules.specs.Membership.{Change, Join, Leave, Die, Membership, changed}
@@ -42,7 +42,8 @@ module _ (d : Deployment) (are : AreSettings d.settings) (wholes : AreWholes d) 
   processes_whole : (c : Change) → All IsWholeAt (processes_after d c)
   processes_whole (Join silo stated) =
       let old = occupant silo d.membership.views.rows in
-      all_put silo_cmp silo_cmp_exact IsWholeAt silo (first_silo d.settings silo) (without old d.processes) (without_whole old) (stays_whole.first d.settings silo are)
+      all_put silo_cmp silo_cmp_exact IsWholeAt silo (first_silo d.settings silo) (without old d.processes) (without_whole old)
+      (stays_whole.first d.settings silo are)
   processes_whole (Leave silo) = wholes
   processes_whole (Die silo) = without_whole (Some silo)
 
@@ -50,18 +51,22 @@ module _ (d : Deployment) (are : AreSettings d.settings) (wholes : AreWholes d) 
   decided_whole c (Err number) = wholes
   decided_whole c (Ok m) = processes_whole c
 
-  took_whole : (silo : Silo) (s : SiloValue) (r : Result Stepped ℕ) → ((stepped : Stepped) → r ≡ Ok stepped → IsWhole (record s { node = stepped.node })) → AreWholes (took r d silo s)
+  took_whole : (silo : Silo) (s : SiloValue) (r : Result Stepped ℕ)
+      → ((stepped : Stepped) → r ≡ Ok stepped → IsWhole (record s { node = stepped.node })) → AreWholes (took r d silo s)
   took_whole silo s (Err number) so = wholes
   took_whole silo s (Ok stepped) so = put silo (record s { node = stepped.node }) (so stepped refl)
 
-  heard_whole : (silo : Silo) (s : SiloValue) (r : Result Heard ℕ) → ((its : Heard) → r ≡ Ok its → IsWhole (record s { membership = its.membership })) → AreWholes (heard r d silo s)
+  heard_whole : (silo : Silo) (s : SiloValue) (r : Result Heard ℕ)
+      → ((its : Heard) → r ≡ Ok its → IsWhole (record s { membership = its.membership })) → AreWholes (heard r d silo s)
   heard_whole silo s (Err number) so = wholes
   heard_whole silo s (Ok its) so = put silo (record s { membership = its.membership }) (so its refl)
 
-  tells_whole : (silo : Silo) (s : SiloValue) (index : ℕ) (o : Option Change) → process_of d silo ≡ Some s → AreWholes (tells o d silo s index)
+  tells_whole : (silo : Silo) (s : SiloValue) (index : ℕ) (o : Option Change) → process_of d silo ≡ Some s
+      → AreWholes (tells o d silo s index)
   tells_whole silo s index None there = wholes
   tells_whole silo s index (Some c) there =
-      heard_whole silo s (told s.node.settings s.membership (index + 1) c) (λ its is. stays_whole.tells s (index + 1) c its (its_whole silo s there) is)
+      heard_whole silo s (told s.node.settings s.membership (index + 1) c)
+      (λ its is. stays_whole.tells s (index + 1) c its (its_whole silo s there) is)
 
   tells_at_whole : (silo : Silo) (index : ℕ) (o : Option SiloValue) → process_of d silo ≡ o → AreWholes (tells_at o d silo index)
   tells_at_whole silo index None there = wholes
@@ -69,15 +74,19 @@ module _ (d : Deployment) (are : AreSettings d.settings) (wholes : AreWholes d) 
 
   sees_at_whole : (silo : Silo) (version : ℕ) (o : Option SiloValue) → process_of d silo ≡ o → AreWholes (sees_at o d silo version)
   sees_at_whole silo version None there = wholes
-  sees_at_whole silo version (Some s) there = took_whole silo s (sees s version) (λ stepped is. stays_whole.sees_so s version stepped (its_whole silo s there) is)
+  sees_at_whole silo version (Some s) there =
+      took_whole silo s (sees s version) (λ stepped is. stays_whole.sees_so s version stepped (its_whole silo s there) is)
 
-  does_at_whole : (silo : Silo) (input : Input) → IsNoSight input → (o : Option SiloValue) → process_of d silo ≡ o → AreWholes (does_at o d silo input)
+  does_at_whole : (silo : Silo) (input : Input) → IsNoSight input → (o : Option SiloValue) → process_of d silo ≡ o
+      → AreWholes (does_at o d silo input)
   does_at_whole silo input plain None there = wholes
-  does_at_whole silo input plain (Some s) there = took_whole silo s (does s input) (λ stepped is. stays_whole.does_so s input stepped plain (its_whole silo s there) is)
+  does_at_whole silo input plain (Some s) there =
+      took_whole silo s (does s input) (λ stepped is. stays_whole.does_so s input stepped plain (its_whole silo s there) is)
 
   delivers_whole : (silo : Silo) (s : SiloValue) (o : Option Letter) → process_of d silo ≡ Some s → AreWholes (delivers o d silo s)
   delivers_whole silo s None there = wholes
-  delivers_whole silo s (Some letter) there = took_whole silo s (receives s letter) (λ stepped is. stays_whole.receives_so s letter stepped (its_whole silo s there) is)
+  delivers_whole silo s (Some letter) there =
+      took_whole silo s (receives s letter) (λ stepped is. stays_whole.receives_so s letter stepped (its_whole silo s there) is)
 
   receives_at_whole : (silo : Silo) (index : ℕ) (o : Option SiloValue) → process_of d silo ≡ o → AreWholes (receives_at o d silo index)
   receives_at_whole silo index None there = wholes

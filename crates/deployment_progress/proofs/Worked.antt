@@ -12,7 +12,7 @@ use Rattle.directory_rules.specs.declared.held.Phase.TheVariants.{Firm}
 use Rattle.directory_rules.specs.declared.piece_state.PieceState.TheVariants.{Settled, Awaiting}
 use Rattle.directory_rules.specs.Host.{outstanding, has_numbers, renewed}
 use Rattle.directory_rules.specs.Input.{Does, step}
-use Rattle.directory_rules.specs.Letter.{Letter}
+use Rattle.directory_rules.specs.State.{Letter}
 use Rattle.directory_rules.specs.Snapshot.{page_count}
 use Rattle.directory_rules.specs.Step.{Stepped, having_nudged}
 use Rattle.directory_rules.specs.declared.own_step.OwnStep.TheVariants.{Nudge}
@@ -62,8 +62,11 @@ process_there = some_of (process_of worked silo_b) (first_silo worked_settings s
 abbrev pub nudged_of : SiloValue → Stepped
 nudged_of s = having_nudged (record s.node { host = renewed s.node.host })
 
-pub nudged_so : (s : SiloValue) → barred s ≡ None → has_numbers s.node.settings s.node.host (length (outstanding s.node.host)) ≡ true → does s (Does Nudge) ≡ Ok (nudged_of s)
-nudged_so s free numbers = ap (λ o. unless_barred o (step s.node (Does Nudge))) free ∙ ap (λ b. cond {A = Result Stepped ℕ} (not b) (Err 805) (Ok (nudged_of s))) numbers
+pub nudged_so : (s : SiloValue) → barred s ≡ None → has_numbers s.node.settings s.node.host (length (outstanding s.node.host)) ≡ true
+    → does s (Does Nudge) ≡ Ok (nudged_of s)
+nudged_so s free numbers =
+    ap (λ o. unless_barred o (step s.node (Does Nudge))) free
+    ∙ ap (λ b. cond {A = Result Stepped ℕ} (not b) (Err 805) (Ok (nudged_of s))) numbers
 
 process_free : barred process ≡ None
 unfolding process after after_all cut_parts stated_hash digits
@@ -73,7 +76,9 @@ process_numbers : has_numbers process.node.settings process.node.host (length (o
 unfolding process after after_all cut_parts stated_hash digits
 process_numbers = refl
 
-its_answer : (index : ℕ) (letter : Letter) → length worked.written ≤ index → slice_get (after worked (Do silo_b Nudge)).written index ≡ Some letter → IsAnswered (after worked (Do silo_b Nudge)) silo_b (Receive silo_a 5 ∷ Receive silo_b 6 ∷ []) index letter
+its_answer : (index : ℕ) (letter : Letter) → length worked.written ≤ index
+    → slice_get (after worked (Do silo_b Nudge)).written index ≡ Some letter
+    → IsAnswered (after worked (Do silo_b Nudge)) silo_b (Receive silo_a 5 ∷ Receive silo_b 6 ∷ []) index letter
 unfolding after after_all cut_parts stated_hash digits
 its_answer zero letter low found = absurd (omega (low, arith))
 its_answer (suc zero) letter low found = absurd (omega (low, arith))
@@ -89,6 +94,8 @@ its_answer (suc (suc (suc (suc (suc (suc k)))))) letter low found = absurd (cc (
 
 worked_is : IsExchange worked silo_b exchanging
 worked_is = record {
+  part = Nudge;
+  wants = tt;
   nudge = record {
     process = process;
     there = process_there;
@@ -110,8 +117,12 @@ worked_settled = refl
 
 pub worked_exchange : WorkedExchange
 worked_exchange = record {
-  seen = λ silo s there. (found_so (λ (e : Silo × SiloValue). e.1.node.view.version ≡ 2) (is_at (silo_cmp silo)) s worked.processes all_seen there).2 ∙ sym worked_version;
-  few = λ silo s there. (found_so (λ (e : Silo × SiloValue). All (λ x. page_count (length x.entries) ≤ 1) e.1.node.shelf) (is_at (silo_cmp silo)) s worked.processes one_page there).2;
+  seen =
+      λ silo s there. (found_so (λ (e : Silo × SiloValue). e.1.node.view.version ≡ 2) (is_at (silo_cmp silo)) s worked.processes all_seen
+      there).2 ∙ sym worked_version;
+  few =
+      λ silo s there. (found_so (λ (e : Silo × SiloValue). All (λ x. page_count (length x.entries) ≤ 1) e.1.node.shelf)
+      (is_at (silo_cmp silo)) s worked.processes one_page there).2;
   awaits = worked_awaits;
   is = worked_is;
   settled = worked_settled;

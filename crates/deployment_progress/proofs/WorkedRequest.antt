@@ -14,8 +14,7 @@ use Rattle.directory_rules.specs.declared.piece_state.PieceState.TheVariants.{Se
 use Rattle.directory_rules.specs.Answer.{piece_with}
 use Rattle.directory_rules.specs.Host.{outstanding, has_numbers}
 use Rattle.directory_rules.specs.Laws.{requests_of}
-use Rattle.directory_rules.specs.Piece.{Piece}
-use Rattle.directory_rules.specs.Node.{Node}
+use Rattle.directory_rules.specs.State.{Piece, Node}
 use Rattle.directory_rules.specs.Sent.{hash_of}
 use Rattle.directory_rules.specs.declared.own_step.OwnStep.TheVariants.{Nudge}
 use Rattle.directory_rules.specs.Worked.{silo_a, grain_a}
@@ -67,7 +66,7 @@ node = (nudged_of process).node
 abbrev nudged : Deployment
 nudged = after asking (Do silo_a Nudge)
 
-nudge : IsNudged asking silo_a replying
+nudge : IsNudged asking silo_a Nudge replying
 nudge = record {
   process = process;
   there = process_there;
@@ -156,7 +155,9 @@ firm = refl
 pub worked_request : WorkedRequest
 unfolding nudge
 worked_request = record {
-  seen = λ silo s there. (found_so (λ (e : Silo × SiloValue). e.1.node.view.version ≡ 1) (is_at (silo_cmp silo)) s asking.processes all_seen there).2 ∙ sym version_is;
+  seen =
+      λ silo s there. (found_so (λ (e : Silo × SiloValue). e.1.node.view.version ≡ 1) (is_at (silo_cmp silo)) s asking.processes all_seen
+      there).2 ∙ sym version_is;
   asks = asks;
   nudge = nudge;
   served = λ e owes. subst (IsServed nudged silo_a node (Receive silo_a 3 ∷ Receive silo_a 4 ∷ [])) (only_its e owes) served;

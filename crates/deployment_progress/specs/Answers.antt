@@ -2,7 +2,7 @@
 use Rattle.std.specs.Prelude.{◌≡◌, ℕ, ◌<◌, ◌≤◌, ◌⊎◌, List, [], ◌∷◌, ◌++◌, length, Some, slice_get}
 use Rattle.silo_address.specs.Silo.{Silo}
 use Rattle.ring_range.specs.Range.{Range}
-use Rattle.directory_rules.specs.Letter.{Letter}
+use Rattle.directory_rules.specs.State.{Letter}
 use Rattle.directory_rules.specs.Sent.{gathering_of}
 use Rattle.silo_rules.specs.SiloValue.{SiloValue}
 use Rattle.progress_rules.specs.Waits.{Awaits}

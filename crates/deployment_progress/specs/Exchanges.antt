@@ -1,13 +1,14 @@
--- Exchanges: a silo is nudged, each ask and query that it writes then comes to its receiver, and the answer to each comes back.
+-- Exchanges: a silo is nudged, of all that it waits for or of its ranges alone, each ask and query that it writes then comes to its
+-- receiver, and the answer to each comes back.
 use Rattle.std.specs.Prelude.{⊤, ◌≡◌, ℕ, ◌+◌, ◌<◌, ◌≤◌, List, [], ◌∷◌, ◌++◌, All, length, flat_map, Some, Ok, Err, slice_get}
 use Rattle.silo_address.specs.Silo.{Silo, IsSilo}
 use Rattle.ring_range.specs.Range.{Range}
 use Rattle.directory_rules.specs.Input.{Does}
-use Rattle.directory_rules.specs.Letter.{Letter, Body, Request_letter, Reply_letter, Ask_letter, Page_letter, Missing_letter, Done_letter, Query_letter, Report_letter, Behind_letter, Ahead_letter, Offer_letter}
-use Rattle.directory_rules.specs.Node.{Node}
+use Rattle.directory_rules.specs.State.{Letter, Body, Request_letter, Reply_letter, Ask_letter, Page_letter, Missing_letter, Done_letter, Query_letter, Report_letter, Behind_letter, Ahead_letter, Offer_letter, Node}
 use Rattle.directory_rules.specs.Sent.{gathering_of}
 use Rattle.directory_rules.specs.Snapshot.{page_count}
-use Rattle.directory_rules.specs.declared.own_step.OwnStep.TheVariants.{Nudge}
+use Rattle.directory_rules.specs.declared.own_step.OwnStep.{OwnStep}
+use Rattle.directory_rules.specs.declared.own_step.OwnStep.TheVariants.{Nudge, NudgeGrain, NudgeRanges}
 use Rattle.directory_rules.specs.Step.{Stepped}
 use Rattle.silo_rules.specs.SiloValue.{SiloValue}
 use Rattle.silo_rules.specs.Steps.{does}
@@ -42,28 +43,43 @@ IsWant (Behind_letter range) = ⊥
 IsWant (Ahead_letter range) = ⊥
 IsWant (Offer_letter entry) = ⊥
 
--- the steps begin with a nudge of the silo, which isn't refused
-pub record IsNudged (d : Deployment) (silo : Silo) (steps : List Step) : Type 0 where
+-- a nudge: of all that the silo waits for, of one grain, or of its ranges
+abbrev pub IsNudge : OwnStep → Type 0
+IsNudge Nudge = ⊤
+IsNudge (NudgeGrain grain) = ⊤
+IsNudge NudgeRanges = ⊤
+IsNudge other = ⊥
+
+-- one that sends what the silo's ranges want
+abbrev pub SendsWants : OwnStep → Type 0
+SendsWants Nudge = ⊤
+SendsWants NudgeRanges = ⊤
+SendsWants other = ⊥
+
+-- the steps begin with this one of the silo, which isn't refused
+pub record IsNudged (d : Deployment) (silo : Silo) (part : OwnStep) (steps : List Step) : Type 0 where
   pub process : SiloValue
   pub there : process_of d silo ≡ Some process
   pub nudged : Stepped
-  pub is_nudged : does process (Does Nudge) ≡ Ok nudged
+  pub is_nudged : does process (Does part) ≡ Ok nudged
   pub rest : List Step
-  pub begins : steps ≡ Do silo Nudge ∷ rest
+  pub begins : steps ≡ Do silo part ∷ rest
 
 -- in the quiet a nudge is refused only where the silo has no numbers left for its requests
 abbrev pub NudgesAreTaken : Type 0
-NudgesAreTaken = WhileQuiet (λ d later. (silo : Silo) (s : SiloValue) (number : ℕ) → process_of d silo ≡ Some s → does s (Does Nudge) ≡ Err number → number ≡ 805)
+NudgesAreTaken = WhileQuiet (λ d later. (silo : Silo) (part : OwnStep) (s : SiloValue) (number : ℕ) → IsNudge part → process_of d silo ≡ Some s → does s (Does part) ≡ Err number → number ≡ 805)
 
--- the steps begin with such a nudge, and each ask and query that it writes is answered in them
+-- the steps begin with a nudge that sends what the ranges want, and each ask and query that it writes is answered in them
 pub record IsExchange (d : Deployment) (silo : Silo) (steps : List Step) : Type 0 where
-  pub nudge : IsNudged d silo steps
-  pub answered : (index : ℕ) (letter : Letter) → length d.written ≤ index → slice_get (after d (Do silo Nudge)).written index ≡ Some letter → IsWant letter.body → IsAnswered (after d (Do silo Nudge)) silo nudge.rest index letter
+  pub part : OwnStep
+  pub wants : SendsWants part
+  pub nudge : IsNudged d silo part steps
+  pub answered : (index : ℕ) (letter : Letter) → length d.written ≤ index → slice_get (after d (Do silo part)).written index ≡ Some letter → IsWant letter.body → IsAnswered (after d (Do silo part)) silo nudge.rest index letter
 
--- wherever a nudge isn't refused, some steps that decide no change are an exchange
+-- wherever such a nudge isn't refused, some steps that begin with it and decide no change are an exchange
 abbrev pub ExchangesCanBe : Type 0
-ExchangesCanBe = (d : Deployment) (silo : Silo) (s : SiloValue) (nudged : Stepped) → IsSilo silo → process_of d silo ≡ Some s → does s (Does Nudge) ≡ Ok nudged
-    → (steps : List Step) × All IsStep steps × All DecidesNone steps × IsExchange d silo steps
+ExchangesCanBe = (d : Deployment) (silo : Silo) (part : OwnStep) (s : SiloValue) (nudged : Stepped) → SendsWants part → IsSilo silo → process_of d silo ≡ Some s → does s (Does part) ≡ Ok nudged
+    → (steps : List Step) × All IsStep steps × All DecidesNone steps × (x : IsExchange d silo steps) × (x.part ≡ part)
 
 -- from the one node to the other each range gets on: one that recovered is settled, and one that awaits a snapshot still has a page more
 pub record GetsOn (before after : Node) : Type 0 where

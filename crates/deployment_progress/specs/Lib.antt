@@ -3,4 +3,5 @@ pub mod Waits
 pub mod Answers
 pub mod Exchanges
 pub mod Requests
+pub mod Parts
 pub mod Worked

@@ -41,6 +41,6 @@ replying = Do silo_a Nudge ∷ Receive silo_a 3 ∷ Receive silo_a 4 ∷ []
 pub record WorkedRequest : Type 0 where
   pub seen : HaveAllSeen asking
   pub asks : all_told asking ≡ (1, 1, Asking 1 ∷ [], (Settled, 0) ∷ []) ∷ []
-  pub nudge : IsNudged asking silo_a replying
+  pub nudge : IsNudged asking silo_a Nudge replying
   pub served : (e : ℕ × Act) → Owes nudge.nudged.node.host e → IsServed (after asking (Do silo_a Nudge)) silo_a nudge.nudged.node nudge.rest e
   pub firm : all_told (after_all asking replying) ≡ (1, 1, Firm ∷ [], (Settled, 1) ∷ []) ∷ []

@@ -1,7 +1,9 @@
-//! The laws. Each is of a deployment that any steps made, where each process has seen the last change of membership that was decided,
-//! and of whatever steps follow that decide no change: letters that come late, again, in another order, astray, or never.
+//! The laws. Each but that of nudges of a part is of a deployment that any steps made, where each process has seen the last change of
+//! membership that was decided, and of whatever steps follow that decide no change: letters that come late, again, in another order,
+//! astray, or never.
 ghost use Rattle.deployment_progress.specs.Answers.{AsksAreAnswered, QueriesAreAnswered};
 ghost use Rattle.deployment_progress.specs.Exchanges.{AllRangesSettle, ExchangesCanBe, ExchangesGetOn, NudgesAreTaken, RangesSettle};
+ghost use Rattle.deployment_progress.specs.Parts.{GrainNudgesLeaveOthers, RangeNudgesChangeNoProcess};
 ghost use Rattle.deployment_progress.specs.Requests.{OldRequestsEnd, RequestsEnd, SettledRequestsEnd};
 ghost use Rattle.deployment_progress.specs.Waits.{SilosWaitForLess};
 ghost use Rattle.deployment_progress.specs.Worked.{WorkedExchange, WorkedRequest};
@@ -23,17 +25,17 @@ pub fn asks_are_answered()
     ensures { AsksAreAnswered }
 {}
 
-/// A nudge is refused by 805 alone, where a silo has too few numbers left to renew its requests.
+/// A nudge, of a grain and of ranges too, is refused by 805 alone, where a silo has too few numbers left for the requests that it renews.
 pub fn nudges_are_taken()
     ensures { NudgesAreTaken }
 {}
 
-/// Wherever a nudge isn't refused there may be an exchange.
+/// Wherever a nudge of all that a silo waits for isn't refused, or one of its ranges, there may be an exchange that begins with it.
 pub fn exchanges_can_be()
     ensures { ExchangesCanBe }
 {}
 
-/// In an exchange, a nudge of a silo that isn't refused, each of whose asks and queries comes to its receiver and is answered, each
+/// In an exchange, such a nudge, each of whose asks and queries comes to its receiver and is answered, each
 /// range of the silo gets on: one that recovered is settled, and one that awaits a snapshot still has a page more.
 pub fn exchanges_get_on()
     ensures { ExchangesGetOn }
@@ -49,13 +51,14 @@ pub fn all_ranges_settle()
     ensures { AllRangesSettle }
 {}
 
-/// A request that a silo had outstanding when it was nudged is outstanding no more once its letter came to an owner that has its hash
-/// settled, before any request of the silo with a higher number, and the reply came back; a find whatever the order.
+/// A request that a silo had outstanding when it was nudged, or nudged about the grain, is outstanding no more once its letter came to an
+/// owner that has its hash settled, before any request of the silo with a higher number, and the reply came back; a find whatever the
+/// order.
 pub fn requests_end()
     ensures { RequestsEnd }
 {}
 
-/// So where that holds of each of them, the silo waits then for nothing that it had asked when it was nudged.
+/// So where that holds of each of them, the silo waits then for nothing that it had asked when it was nudged, or of that grain.
 pub fn old_requests_end()
     ensures { OldRequestsEnd }
 {}
@@ -64,6 +67,13 @@ pub fn old_requests_end()
 /// reply comes back.
 pub fn settled_requests_end()
     ensures { SettledRequestsEnd }
+{}
+
+/// A nudge of one grain leaves each outstanding request about another grain its number, and a reply to that does what it would have
+/// done. A nudge of the ranges leaves all processes as they were. So it is whenever they come.
+pub fn part_nudges_leave_the_rest()
+    ensures grains { GrainNudgesLeaveOthers }
+    ensures ranges { RangeNudgesChangeNoProcess }
 {}
 
 /// There are such deployments, and exchanges in them: one, worked out.

@@ -77,13 +77,14 @@ fn command<'a>(world: &mut World, name: &[u8], words: impl Iterator<Item = &'a [
 
 fn event<'a>(world: &mut World, name: &[u8], words: impl Iterator<Item = &'a [u8]>) -> Read<Event> {
     Ok(match name {
-        b"wake" | b"close" | b"find" | b"forget" => {
+        b"wake" | b"close" | b"cancel" | b"find" | b"forget" => {
             let [silo, grain] = exactly(words)?;
             let silo = silo_word(world, silo)?;
             let grain = grain_word(world, grain)?;
             match name[0] {
                 b'w' => Event::Wake { silo, grain },
-                b'c' => Event::Close { silo, grain },
+                _ if name == b"close" => Event::Close { silo, grain },
+                b'c' => Event::Cancel { silo, grain },
                 _ if name == b"find" => Event::Find { silo, grain },
                 _ => Event::Forget { silo, grain },
             }
@@ -104,17 +105,28 @@ fn event<'a>(world: &mut World, name: &[u8], words: impl Iterator<Item = &'a [u8
             let letter = number_word(letter)?;
             if name == b"lose" { Event::Lose { letter } } else { Event::Deliver { letter } }
         }
-        b"leave" | b"kill" | b"nudge" => {
+        b"nudge" => nudge(world, words)?,
+        b"leave" | b"kill" => {
             let [silo] = exactly(words)?;
             let silo = silo_word(world, silo)?;
-            match name[0] {
-                b'l' => Event::Leave { silo },
-                b'k' => Event::Kill { silo },
-                _ => Event::Nudge { silo },
-            }
+            if name == b"leave" { Event::Leave { silo } } else { Event::Kill { silo } }
         }
         _ => return Err(921),
     })
+}
+
+/// A silo, and perhaps a grain or `ranges`.
+fn nudge<'a>(world: &mut World, mut words: impl Iterator<Item = &'a [u8]>) -> Read<Event> {
+    let (silo, part) = (words.next().ok_or(922u16)?, words.next());
+    if words.next().is_some() {
+        return Err(922);
+    }
+    let silo = silo_word(world, silo)?;
+    match part {
+        None => Ok(Event::Nudge { silo }),
+        Some(b"ranges") => Ok(Event::NudgeRanges { silo }),
+        Some(grain) => Ok(Event::NudgeGrain { silo, grain: grain_word(world, grain)? }),
+    }
 }
 
 fn silo_word(world: &mut World, word: &[u8]) -> Read<SiloName> {

@@ -48,6 +48,7 @@ impl Output {
             }
             Happening::Started { activation, grain } => self.entry("started ", world, activation, grain),
             Happening::Closing { activation, grain } => self.entry("closing ", world, activation, grain),
+            Happening::Cancelled { activation, grain } => self.entry("cancelled ", world, activation, grain),
             Happening::Offered { activation, grain, to } => {
                 self.entry("offered ", world, activation, grain).word(" to ").silo(world, to)
             }

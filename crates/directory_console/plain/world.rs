@@ -58,10 +58,13 @@ pub enum Event {
     See { silo: SiloName, version: u64 },
     Wake { silo: SiloName, grain: Grain },
     Close { silo: SiloName, grain: Grain },
+    Cancel { silo: SiloName, grain: Grain },
     Offer { silo: SiloName, grain: Grain, to: SiloName },
     Find { silo: SiloName, grain: Grain },
     Forget { silo: SiloName, grain: Grain },
     Nudge { silo: SiloName },
+    NudgeGrain { silo: SiloName, grain: Grain },
+    NudgeRanges { silo: SiloName },
     Deliver { letter: u64 },
     Lose { letter: u64 },
 }
@@ -74,6 +77,7 @@ pub enum Happening {
     Saw { silo: Silo, version: Version, is_next: bool },
     Started { activation: Activation, grain: Grain },
     Closing { activation: Activation, grain: Grain },
+    Cancelled { activation: Activation, grain: Grain },
     Offered { activation: Activation, grain: Grain, to: Silo },
     Cached { activation: Activation, grain: Grain },
     Finding { grain: Grain },
@@ -170,9 +174,12 @@ impl World {
             Event::Wake { silo, grain } => self.does(silo, |node, commons| node.wake(commons, grain)),
             Event::Find { silo, grain } => self.does(silo, |node, commons| node.find(commons, grain)),
             Event::Close { silo, grain } => self.does(silo, |node, commons| node.close(commons, grain)),
+            Event::Cancel { silo, grain } => self.does(silo, |node, commons| node.cancel(commons, grain)),
             Event::Forget { silo, grain } => self.does(silo, |node, _| Ok(node.forget(grain))),
             Event::See { silo, version } => self.does(silo, |node, commons| node.see(commons, version)),
             Event::Nudge { silo } => self.does(silo, |node, commons| node.nudge(commons)),
+            Event::NudgeGrain { silo, grain } => self.does(silo, |node, commons| node.nudge_grain(commons, grain)),
+            Event::NudgeRanges { silo } => self.does(silo, |node, commons| node.nudge_ranges(commons)),
             Event::Offer { silo, grain, to } => {
                 let to = self.silos.silo(to);
                 self.does(silo, |node, commons| node.offer(commons, grain, to))

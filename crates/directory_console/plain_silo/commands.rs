@@ -63,6 +63,20 @@ impl Process {
         Ok(())
     }
 
+    /// An activation that asks is given up; 802 where the grain has none, 808 where it doesn't ask.
+    pub fn cancel(&mut self, grain: &[u8]) -> Step {
+        self.joined()?;
+        let held = self.host.of_grain(grain).ok_or(802u16)?;
+        if held.phase != Phase::Asking {
+            return Err(808);
+        }
+        let (activation, hash) = (held.activation, held.hash);
+        let number = self.host.close(activation);
+        self.out.about("cancelled", activation, grain).word("\n");
+        self.post_request(hash, number, grain, Act::Deregister { activation });
+        Ok(())
+    }
+
     /// The activation closes, but its Deregister isn't sent before the next nudge or sight.
     pub fn offer(&mut self, grain: &[u8], to: Address) -> Step {
         self.joined()?;
@@ -103,16 +117,35 @@ impl Process {
     pub fn nudge(&mut self) -> Step {
         self.joined()?;
         self.host.renew();
-        self.out.word("nudged ").address(self.name).word("\n");
-        self.post_requests();
+        self.tell_nudged();
+        self.post_requests(0);
         self.post_wants();
         Ok(())
     }
 
-    /// Sends every outstanding request to its owner.
-    pub fn post_requests(&mut self) {
+    pub fn nudge_grain(&mut self, grain: &[u8]) -> Step {
+        self.joined()?;
+        let first = self.host.renew_about(grain);
+        self.tell_nudged();
+        self.post_requests(first);
+        Ok(())
+    }
+
+    pub fn nudge_ranges(&mut self) -> Step {
+        self.joined()?;
+        self.tell_nudged();
+        self.post_wants();
+        Ok(())
+    }
+
+    fn tell_nudged(&mut self) {
+        self.out.word("nudged ").address(self.name).word("\n");
+    }
+
+    /// Sends every outstanding request from that number on to its owner.
+    pub fn post_requests(&mut self, first: u64) {
         let Process { host, out, ring, views, name, seen, .. } = self;
-        for (number, request) in host.requests() {
+        for (number, request) in host.requests().filter(|(number, _)| *number >= first) {
             let (grain, hash, act) = match request {
                 Request::Find { grain, hash } => (grain, *hash, Act::Find),
                 Request::Of(count) => {

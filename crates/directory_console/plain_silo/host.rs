@@ -95,11 +95,13 @@ impl Host {
         (activation, self.ask(Request::Of(count)))
     }
 
-    /// A firm activation closes, under the number.
+    /// An activation closes, under the number. What it asked before, if it did, isn't outstanding any more.
     pub fn close(&mut self, activation: Activation) -> u64 {
         if let Some(held) = self.held.get_mut(&activation.count) {
             held.phase = Phase::Closing;
+            held.previous = None;
         }
+        self.requests.retain(|_, request| !matches!(request, Request::Of(count) if *count == activation.count));
         self.ask(Request::Of(activation.count))
     }
 
@@ -158,6 +160,28 @@ impl Host {
         let first = self.next_number;
         self.next_number += requests.len() as u64;
         self.requests = (first..).zip(requests.into_values()).collect();
+    }
+
+    /// Each outstanding request about the grain gets a new number, in the order of the old ones; the first of these.
+    pub fn renew_about(&mut self, grain: &[u8]) -> u64 {
+        let first = self.next_number;
+        for (number, request) in std::mem::take(&mut self.requests) {
+            let about = match &request {
+                Request::Of(count) => &self.held[count].grain,
+                Request::Find { grain, .. } => grain,
+            };
+            if about[..] == *grain {
+                self.ask(request);
+            } else {
+                self.requests.insert(number, request);
+            }
+        }
+        first
+    }
+
+    /// How many finds are outstanding.
+    pub fn finds(&self) -> usize {
+        self.finds
     }
 
     /// The outstanding requests under their numbers, in order.

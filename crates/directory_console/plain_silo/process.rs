@@ -109,10 +109,13 @@ impl Process {
             Asked::See { version } => self.see(version),
             Asked::Wake { grain } => self.wake(grain),
             Asked::Close { grain } => self.close(grain),
+            Asked::Cancel { grain } => self.cancel(grain),
             Asked::Offer { grain, to } => self.offer(grain, to),
             Asked::Find { grain } => self.find(grain),
             Asked::Forget { grain } => self.forget(grain),
             Asked::Nudge => self.nudge(),
+            Asked::NudgeGrain { grain } => self.nudge_grain(grain),
+            Asked::NudgeRanges => self.nudge_ranges(),
             Asked::Ping { word } => {
                 self.out.word("pong ").text(word).word("\n");
                 Ok(())
@@ -123,6 +126,10 @@ impl Process {
             }
             Asked::Place { grain, policy } => {
                 self.tell_place(grain, policy);
+                Ok(())
+            }
+            Asked::Status => {
+                self.tell_figures();
                 Ok(())
             }
             Asked::Show => {

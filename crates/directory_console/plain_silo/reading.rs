@@ -24,14 +24,18 @@ pub enum Asked<'a> {
     See { version: u64 },
     Wake { grain: &'a [u8] },
     Close { grain: &'a [u8] },
+    Cancel { grain: &'a [u8] },
     Offer { grain: &'a [u8], to: Address },
     Find { grain: &'a [u8] },
     Forget { grain: &'a [u8] },
     Nudge,
+    NudgeGrain { grain: &'a [u8] },
+    NudgeRanges,
     Receive(Letter<'a>),
     Ping { word: &'a [u8] },
     Owner { grain: &'a [u8] },
     Place { grain: &'a [u8], policy: Policy },
+    Status,
     Show,
     Dump,
 }
@@ -67,6 +71,7 @@ fn asked<'a>(name: &[u8], words: impl Iterator<Item = &'a [u8]>) -> Read<Asked<'
         b"letter" => Asked::Receive(read_letter(words)?),
         b"wake" => Asked::Wake { grain: only_grain(words)? },
         b"close" => Asked::Close { grain: only_grain(words)? },
+        b"cancel" => Asked::Cancel { grain: only_grain(words)? },
         b"find" => Asked::Find { grain: only_grain(words)? },
         b"forget" => Asked::Forget { grain: only_grain(words)? },
         b"offer" => {
@@ -77,7 +82,8 @@ fn asked<'a>(name: &[u8], words: impl Iterator<Item = &'a [u8]>) -> Read<Asked<'
             let [version] = exactly(words)?;
             Asked::See { version: number_word(version)? }
         }
-        b"nudge" => exactly::<0>(words).map(|_| Asked::Nudge)?,
+        b"nudge" => nudge(words)?,
+        b"status" => exactly::<0>(words).map(|_| Asked::Status)?,
         b"show" => exactly::<0>(words).map(|_| Asked::Show)?,
         b"dump" => exactly::<0>(words).map(|_| Asked::Dump)?,
         b"ping" => {
@@ -99,6 +105,17 @@ fn asked<'a>(name: &[u8], words: impl Iterator<Item = &'a [u8]>) -> Read<Asked<'
         }
         _ => return Err(921),
     })
+}
+
+fn nudge<'a>(words: impl Iterator<Item = &'a [u8]>) -> Read<Asked<'a>> {
+    let mut words = words.peekable();
+    if words.peek().is_none() {
+        return Ok(Asked::Nudge);
+    }
+    match exactly(words)? {
+        [b"ranges"] => Ok(Asked::NudgeRanges),
+        [grain] => Ok(Asked::NudgeGrain { grain: grain_word(grain)? }),
+    }
 }
 
 fn joined<'a>(mut words: impl Iterator<Item = &'a [u8]>) -> Read<Asked<'a>> {

@@ -1,4 +1,4 @@
-//! What `show`, `dump`, `owner` and `place` print.
+//! What `show`, `dump`, `status`, `owner` and `place` print.
 
 use crate::host::Phase;
 use crate::output::Output;
@@ -50,6 +50,25 @@ impl Process {
             };
             out.word("\n");
         }
+    }
+
+    /// How far the silo is, how much it holds and how much waits.
+    pub fn tell_figures(&mut self) {
+        let in_phase = |phase| self.host.in_order().filter(|held| held.phase == phase).count();
+        let unsettled = self.pieces.0.iter().filter(|piece| !matches!(piece.state, State::Settled)).count();
+        let figures = [
+            (" held ", self.host.in_order().len()),
+            (" asking ", in_phase(Phase::Asking)),
+            (" closing ", in_phase(Phase::Closing)),
+            (" finding ", self.host.finds()),
+            (" unsettled ", unsettled),
+            (" kept ", self.shelf.len()),
+        ];
+        self.out.word("status ").number(self.seen).word(" known ").number(self.views.version);
+        for (name, count) in figures {
+            self.out.word(name).count(count);
+        }
+        self.out.word("\n");
     }
 
     /// The point that owns the grain's hash by the view seen: its silo and its index.

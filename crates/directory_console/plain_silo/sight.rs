@@ -38,7 +38,7 @@ impl Process {
         let word = if is_next { " next\n" } else { " skip\n" };
         self.out.address(self.name).word(" sees ").number(version).word(word);
         self.post_wants();
-        self.post_requests();
+        self.post_requests(0);
         Ok(())
     }
 

@@ -12,7 +12,8 @@ pub done_alone : (words : List Text) (old new : Streams) (exit : Exit) → Does 
 done_alone words old new (Threaded ended) does = absurd does
 done_alone words old new other does = does
 
-pub called_alone : {R W : Type 0} (reads : R → Option (List ℕ) → R → Type 0) (writes : W → List ℕ → Option ℕ → W → Type 0) (old new : R × W) (exit : Exit)
+pub called_alone : {R W : Type 0} (reads : R → Option (List ℕ) → R → Type 0) (writes : W → List ℕ → Option ℕ → W → Type 0) (old new : R × W)
+    (exit : Exit)
     → exits.MakesCalls reads writes old new exit → MakesCalls reads writes old new exit
 called_alone reads writes old new (Threaded ended) calls = absurd calls
 called_alone reads writes old new other calls = calls

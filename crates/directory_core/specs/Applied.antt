@@ -1,11 +1,11 @@
 -- An event applied by the code, in the rule's words.
 use Rattle.std.specs.Prelude.{◌≡◌, ℕ, IsOk, Result, Ok, Err}
-use Rattle.directory_rules.specs.World.{World, Accepted}
+use Rattle.directory_rules.specs.State.{World, Accepted}
 use Rattle.directory_rules.specs.PlainMachine.{IsPlainStep, plain_of, plain_step_of}
 use Rattle.directory_rules.specs.declared.Event.{Event}
 use Rattle.directory_rules.specs.declared.Event.TheVariants.{Leave, Kill, See, Do, Lose}
 use Rattle.directory_rules.specs.declared.OwnStep.{OwnStep}
-use Rattle.directory_rules.specs.declared.OwnStep.TheVariants.{Nudge}
+use Rattle.directory_rules.specs.declared.OwnStep.TheVariants.{Nudge, NudgeGrain, NudgeRanges}
 use Rattle.directory_rules.specs.declared.Outcome.{Outcome}
 
 -- accepted, or refused by 909 alone
@@ -21,6 +21,8 @@ IsNever happened = ⊥
 -- ever be sent
 abbrev pub own_excused : OwnStep → Result Accepted ℕ → Type 0
 own_excused Nudge happened = IsOkOrFull happened
+own_excused (NudgeGrain grain) happened = IsOkOrFull happened
+own_excused NudgeRanges happened = IsOkOrFull happened
 own_excused step happened = IsOk happened
 
 -- out of memory is excused where the rule accepts an event for which something is allocated; at a sight and a nudge, whose letters

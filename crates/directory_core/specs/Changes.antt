@@ -4,8 +4,8 @@ use Rattle.std.specs.Map.{remove_entry}
 use Rattle.std.specs.BTreeMap.{is_at}
 use Rattle.silo_address.specs.Silo.{Silo, silo_cmp}
 use Rattle.directory_rules.specs.Membership.{Change, Membership, changed}
-use Rattle.directory_rules.specs.Node.{Node}
-use Rattle.directory_rules.specs.World.{World, membership_of}
+use Rattle.directory_rules.specs.State.{Node, World}
+use Rattle.directory_rules.specs.World.{membership_of}
 use Rattle.directory_rules.specs.Happens.{after_change, counted}
 
 -- by what the change makes of the membership, or its refusal

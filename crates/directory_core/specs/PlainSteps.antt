@@ -1,7 +1,7 @@
 -- Events of a run, seen from outside: steps of the plain machine.
 use Rattle.std.specs.Prelude.{List, [], ◌∷◌, IfOk}
 use Rattle.directory_rules.specs.Event.{Event}
-use Rattle.directory_rules.specs.World.{World}
+use Rattle.directory_rules.specs.State.{World}
 use Rattle.directory_rules.specs.Happens.{happens}
 use Rattle.directory_rules.specs.PlainMachine.{IsPlainStep, plain_of, plain_step_of}
 use Rattle.directory_rules.specs.Run.{world_after}

@@ -2,10 +2,8 @@
 use Rattle.std.specs.Prelude.{ℕ, ◌+◌, ◌==◌, ◌||◌, nat_le, if◌then◌else◌, List, Option, Some, None}
 use Rattle.silo_address.specs.Silo.{Silo}
 use Rattle.directory_rules.specs.declared.OwnStep.{OwnStep}
-use Rattle.directory_rules.specs.declared.OwnStep.TheVariants.{Nudge}
-use Rattle.directory_rules.specs.Letter.{Letter}
-use Rattle.directory_rules.specs.Node.{Node}
-use Rattle.directory_rules.specs.World.{World}
+use Rattle.directory_rules.specs.declared.OwnStep.TheVariants.{Nudge, NudgeGrain, NudgeRanges}
+use Rattle.directory_rules.specs.State.{Letter, Node, World}
 use Rattle.directory_rules.specs.Mail.{with_sent}
 use Rattle.directory_rules.specs.Happens.{with_node, counted}
 
@@ -20,4 +18,6 @@ letters_number world count = if (count == 0) || nat_le (world.sent + count) worl
 -- how many letters a step that lacks memory would send, as is known before they are made; of a nudge it isn't known
 abbrev pub known_count : OwnStep → ℕ
 known_count Nudge = 0
+known_count (NudgeGrain grain) = 0
+known_count NudgeRanges = 0
 known_count step = 1

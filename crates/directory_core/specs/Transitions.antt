@@ -1,7 +1,7 @@
 -- What the silos of a world share: the transition to the version that one of them saw last.
 use Rattle.std.specs.Prelude.{◌≡◌, ◌≢◌, ℕ, ◌+◌, ◌-◌, Option, IfSome}
 use Rattle.membership_view.specs.View.{ViewValue}
-use Rattle.directory_rules.specs.Node.{Node}
+use Rattle.directory_rules.specs.State.{Node}
 use Rattle.membership_view.specs.Views.{ViewsValue, view_at}
 use Rattle.hash_ring.specs.Places.{PlacesValue}
 use Rattle.hash_ring.specs.Ring.{RingValue, ring_of}

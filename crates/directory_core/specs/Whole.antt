@@ -2,7 +2,7 @@
 use Rattle.std.specs.Prelude.{◌≡◌, ℕ, List, All, Result, Ok, Err}
 use Rattle.directory_rules.specs.Settings.{AreSettings}
 use Rattle.directory_rules.specs.Event.{Event, IsEvent}
-use Rattle.directory_rules.specs.World.{World, Accepted}
+use Rattle.directory_rules.specs.State.{World, Accepted}
 use Rattle.directory_rules.specs.Run.{run_from_start}
 
 -- events, the values of which are in range, have made the world from the first one of its settings

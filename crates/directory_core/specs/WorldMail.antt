@@ -1,5 +1,5 @@
 -- The mail of a world, as the crate of the mail has it.
-use Rattle.directory_rules.specs.World.{World}
+use Rattle.directory_rules.specs.State.{World}
 use Rattle.letter_mail.specs.Mail.{MailValue}
 
 abbrev pub mail_of : World → MailValue

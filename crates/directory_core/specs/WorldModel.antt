@@ -1,5 +1,5 @@
 -- How the fields of the code's world are the rule's world.
-use Rattle.directory_rules.specs.World.{World}
+use Rattle.directory_rules.specs.State.{World}
 use Rattle.directory_core.specs.declared.world.World.TheInside.{Inside}
 
 -- the rule's world

@@ -1,9 +1,8 @@
 ghost use Rattle.std.specs.Prelude.{◌≡◌, ◌<◌, ◌+◌, nat_le, true, IfErr, IsOk, IsSome, OnOk, OnErr, Some};
 ghost use Rattle.directory_rules.specs.Happens.{absent_number, counted, deliver, does, lose, node_of, taken};
 ghost use Rattle.directory_rules.specs.Input.{Does};
-ghost use Rattle.directory_rules.specs.Letter.{Letter as LetterValue};
+ghost use Rattle.directory_rules.specs.State.{Letter as LetterValue, Node as NodeValue};
 ghost use Rattle.directory_rules.specs.Mail.{has_room_for, letter_of, span_of, with_delivered, with_lost};
-ghost use Rattle.directory_rules.specs.Node.{Node as NodeValue};
 ghost use Rattle.directory_rules.specs.World.{accepted_as};
 ghost use Rattle.directory_node.specs.Follows.{Follows};
 ghost use Rattle.directory_node.specs.Numbers.{step_refusal_number};
@@ -265,9 +264,10 @@ fn known_count(step: &OwnStep) -> usize
     ensures { result ≡ known_count step.now }
 {
     match step {
-        OwnStep::Nudge => 0,
+        OwnStep::Nudge | OwnStep::NudgeGrain(_) | OwnStep::NudgeRanges => 0,
         OwnStep::Wake(_)
         | OwnStep::Close(_)
+        | OwnStep::Cancel(_)
         | OwnStep::Find(_)
         | OwnStep::Forget(_)
         | OwnStep::Offer { .. } => 1,

@@ -3,7 +3,7 @@ ghost use Rattle.std.specs.Prelude.{◌≡◌, IfOk, IfSome, true};
 ghost use Rattle.std.specs.Option.{option_copied, option_map};
 ghost use Rattle.silo_address.specs.Silo.{Silo};
 ghost use Rattle.hash_ring.specs.Owner.{owner_of};
-ghost use Rattle.directory_rules.specs.Node.{Node as NodeValue};
+ghost use Rattle.directory_rules.specs.State.{Node as NodeValue};
 ghost use Rattle.directory_rules.specs.World.{first_world};
 ghost use Rattle.directory_rules.specs.Headline.{Headline, MovesPlainly};
 ghost use Rattle.directory_rules.specs.Happens.{node_of};
@@ -45,12 +45,11 @@ pub struct World {
 }
 
 impl Model for World {
-    ghost use Rattle.directory_rules.specs.World.{World};
-
-    ghost Value = { World };
-
+    ghost use Rattle.directory_rules.specs.State.{World};
     ghost use Rattle.directory_core.specs.Transitions.{IsWhole};
     ghost use Rattle.directory_core.specs.WorldModel.{world_of};
+
+    ghost Value = { World };
 
     ghost view = { world_of };
 

@@ -18,12 +18,12 @@ use Rattle.directory_rules.specs.declared.act.Act.TheVariants.{Register, Deregis
 use Rattle.directory_rules.specs.declared.reply.Reply.{Reply}
 use Rattle.directory_rules.specs.declared.reply.Reply.TheVariants.{Registered, Taken, Removed, Absent}
 use Rattle.directory_rules.specs.Settings.{page_size}
-use Rattle.directory_rules.specs.Table.{Table, entry_at, with_entry, without_grain, entries_of, table_of}
-use Rattle.directory_rules.specs.Piece.{Piece}
+use Rattle.directory_rules.specs.State.{Table, Piece, Snapshot, Page, Gathering, Report, Recovery}
+use Rattle.directory_rules.specs.Table.{entry_at, with_entry, without_grain, entries_of, table_of}
 use Rattle.directory_rules.specs.Sight.{is_kept, all_entries, kept_entries}
-use Rattle.directory_rules.specs.Snapshot.{Snapshot, Page, digest_of, page_count, page_of, page_from, shelf_answer, is_snapshot, Hands_page, Has_none, Is_behind}
-use Rattle.directory_rules.specs.Gatherings.{Gathering, Gathered, Wants_page, Has_all, Refuses, new_gathering, with_page, is_in_turn, completed, gathered}
-use Rattle.directory_rules.specs.Recovery.{Report, Recovery, Recovered, Awaits_more, Has_union, Rejects, with_reported, with_report, is_among, awaits_still, recovered}
+use Rattle.directory_rules.specs.Snapshot.{digest_of, page_count, page_of, page_from, shelf_answer, is_snapshot, Hands_page, Has_none, Is_behind}
+use Rattle.directory_rules.specs.Gatherings.{Gathered, Wants_page, Has_all, Refuses, new_gathering, with_page, is_in_turn, completed, gathered}
+use Rattle.directory_rules.specs.Recovery.{Recovered, Awaits_more, Has_union, Rejects, with_reported, with_report, is_among, awaits_still, recovered}
 use Rattle.directory_rules.specs.Answer.{Turned, turned, registered_over, deregistered_from, is_previous}
 use Rattle.directory_rules.proofs.Cases.{on_bool}
 use Rattle.directory_facts.specs.Named.{IsNamed, AreNamed}
@@ -45,43 +45,59 @@ put_named table entry named is = all_put grain_cmp grain_cmp_exact (λ (e : Grai
 pub folded_named : (entries : List Entry) (table : Table) → AllNamed entries → AreNamed table → AreNamed (fold with_entry table entries)
 folded_named [] table new named = named
 folded_named (entry ∷ entries) table new named =
-    folded_named entries (with_entry table entry) (All-tail IsNamed entry entries new) (put_named table entry named (All-head IsNamed entry entries new))
+    folded_named entries (with_entry table entry) (All-tail IsNamed entry entries new)
+    (put_named table entry named (All-head IsNamed entry entries new))
 
 -- ---- what a sight keeps
 all_named : (pieces : List (ℕ × Piece)) → All (λ e. AreNamed e.1.entries) pieces → AllNamed (flat_map (λ e. entries_of e.1.entries) pieces)
 all_named [] named = All-nil IsNamed
 all_named (e ∷ es) named =
     All-append IsNamed (entries_of e.1.entries) (flat_map (λ x. entries_of x.1.entries) es)
-    (entries_named e.1.entries (All-head (λ (x : ℕ × Piece). AreNamed x.1.entries) e es named)) (all_named es (All-tail (λ (x : ℕ × Piece). AreNamed x.1.entries) e es named))
+    (entries_named e.1.entries (All-head (λ (x : ℕ × Piece). AreNamed x.1.entries) e es named))
+    (all_named es (All-tail (λ (x : ℕ × Piece). AreNamed x.1.entries) e es named))
 
-pub kept_named : (hashing : Hashing) (view : ViewValue) (pieces : List (ℕ × Piece)) (range : Range) → All (λ e. AreNamed e.1.entries) pieces → AreNamed (kept_entries hashing view pieces range)
+pub kept_named : (hashing : Hashing) (view : ViewValue) (pieces : List (ℕ × Piece)) (range : Range) → All (λ e. AreNamed e.1.entries) pieces
+    → AreNamed (kept_entries hashing view pieces range)
 kept_named hashing view pieces range named =
     All-filter (λ e. is_kept hashing view range e.1) (λ (e : Grain × Entry). IsNamed e.1) (all_entries pieces)
-    (folded_named (flat_map (λ e. entries_of e.1.entries) pieces) [] (all_named pieces named) (All-nil (λ (e : Grain × Entry). IsNamed e.1)))
+    (folded_named (flat_map (λ e. entries_of e.1.entries) pieces) [] (all_named pieces named)
+    (All-nil (λ (e : Grain × Entry). IsNamed e.1)))
 
 -- ---- pages
-found_named : (test : Snapshot → Bool) (shelf : List Snapshot) (snapshot : Snapshot) → All (λ s. AllNamed s.entries) shelf → find test shelf ≡ Some snapshot → AllNamed snapshot.entries
+found_named : (test : Snapshot → Bool) (shelf : List Snapshot) (snapshot : Snapshot) → All (λ s. AllNamed s.entries) shelf
+    → find test shelf ≡ Some snapshot → AllNamed snapshot.entries
 found_named test [] snapshot named found = absurd (cc (found))
-found_named test (s ∷ ss) snapshot named found = by (test s) found (λ later. found_named test ss snapshot (All-tail (λ (x : Snapshot). AllNamed x.entries) s ss named) later)
+found_named test (s ∷ ss) snapshot named found =
+    by (test s) found (λ later. found_named test ss snapshot (All-tail (λ (x : Snapshot). AllNamed x.entries) s ss named) later)
   where
-    by : (b : Bool) → cond b (Some s) (find test ss) ≡ Some snapshot → (find test ss ≡ Some snapshot → AllNamed snapshot.entries) → AllNamed snapshot.entries
-    by true here rest = let same : s ≡ snapshot = cc (here) in subst (λ (x : Snapshot). AllNamed x.entries) same (All-head (λ (x : Snapshot). AllNamed x.entries) s ss named)
+    by : (b : Bool) → cond b (Some s) (find test ss) ≡ Some snapshot → (find test ss ≡ Some snapshot → AllNamed snapshot.entries)
+        → AllNamed snapshot.entries
+    by true here rest =
+        let same : s ≡ snapshot = cc (here) in subst (λ (x : Snapshot). AllNamed x.entries) same
+        (All-head (λ (x : Snapshot). AllNamed x.entries) s ss named)
     by false there rest = rest there
 
-page_named : (found : Option Snapshot) (number : ℕ) (page : Page) → ((snapshot : Snapshot) → found ≡ Some snapshot → AllNamed snapshot.entries) → page_from found number ≡ Hands_page page → AllNamed page.entries
+page_named : (found : Option Snapshot) (number : ℕ) (page : Page)
+    → ((snapshot : Snapshot) → found ≡ Some snapshot → AllNamed snapshot.entries) → page_from found number ≡ Hands_page page
+    → AllNamed page.entries
 page_named None number page each is = absurd (cc (is))
 page_named (Some snapshot) number page each is =
-    on_bool (λ b. cond b (Hands_page (page_of snapshot number)) Has_none ≡ Hands_page page → AllNamed page.entries) (nat_lt number (page_count (length snapshot.entries)))
+    on_bool (λ b. cond b (Hands_page (page_of snapshot number)) Has_none ≡ Hands_page page → AllNamed page.entries)
+    (nat_lt number (page_count (length snapshot.entries)))
     (λ t so. let same : page_of snapshot number ≡ page = cc (so) in
-    subst (λ (p : Page). AllNamed p.entries) same (All-take IsNamed page_size (drop (number * page_size) snapshot.entries) (All-drop IsNamed (number * page_size) snapshot.entries (each snapshot refl))))
+    subst (λ (p : Page). AllNamed p.entries) same (All-take IsNamed page_size (drop (number * page_size) snapshot.entries)
+    (All-drop IsNamed (number * page_size) snapshot.entries (each snapshot refl))))
     (λ f so. absurd (cc (so))) is
 
-pub handed_named : (shelf : List Snapshot) (seen version : ℕ) (range : Range) (asker : Silo) (number : ℕ) (page : Page) → All (λ s. AllNamed s.entries) shelf → shelf_answer shelf seen version range asker number ≡ Hands_page page
+pub handed_named : (shelf : List Snapshot) (seen version : ℕ) (range : Range) (asker : Silo) (number : ℕ) (page : Page)
+    → All (λ s. AllNamed s.entries) shelf → shelf_answer shelf seen version range asker number ≡ Hands_page page
     → AllNamed page.entries
 handed_named shelf seen version range asker number page named is =
-    on_bool (λ b. cond b Is_behind (page_from (find (is_snapshot version range asker) shelf) number) ≡ Hands_page page → AllNamed page.entries) (nat_lt seen version)
+    on_bool (λ b. cond b Is_behind (page_from (find (is_snapshot version range asker) shelf) number) ≡ Hands_page page
+    → AllNamed page.entries) (nat_lt seen version)
     (λ t so. absurd (cc (so)))
-    (λ f so. page_named (find (is_snapshot version range asker) shelf) number page (λ snapshot found. found_named (is_snapshot version range asker) shelf snapshot named found) so) is
+    (λ f so. page_named (find (is_snapshot version range asker) shelf) number page
+    (λ snapshot found. found_named (is_snapshot version range asker) shelf snapshot named found) so) is
 
 -- what comes of a page
 abbrev pub GatheredNamed : Gathered → Type 0
@@ -89,13 +105,19 @@ GatheredNamed (Wants_page gathering) = AllNamed gathering.entries
 GatheredNamed (Has_all entries) = AllNamed entries
 GatheredNamed (Refuses number gathering) = AllNamed gathering.entries
 
-pub gathered_named : (gathering : Gathering) (page : Page) → AllNamed gathering.entries → AllNamed page.entries → GatheredNamed (gathered gathering page)
+pub gathered_named : (gathering : Gathering) (page : Page) → AllNamed gathering.entries → AllNamed page.entries
+    → GatheredNamed (gathered gathering page)
 gathered_named gathering page before more =
     let all = All-append IsNamed gathering.entries page.entries before more in
-    on_bool (λ b. GatheredNamed (cond (not b) (Refuses 703 gathering) (cond (not turn) (Refuses 702 gathering) (cond later (Wants_page (with_page gathering page)) (completed gathering page))))) ((page.version == gathering.version) && range_eq page.range gathering.range)
-    (λ t. on_bool (λ b. GatheredNamed (cond (not b) (Refuses 702 gathering) (cond later (Wants_page (with_page gathering page)) (completed gathering page)))) turn
+    on_bool (λ b. GatheredNamed (cond (not b) (Refuses 703 gathering)
+    (cond (not turn) (Refuses 702 gathering) (cond later (Wants_page (with_page gathering page)) (completed gathering page)))))
+    ((page.version == gathering.version) && range_eq page.range gathering.range)
+    (λ t. on_bool (λ b. GatheredNamed (cond (not b) (Refuses 702 gathering)
+    (cond later (Wants_page (with_page gathering page)) (completed gathering page)))) turn
     (λ u. on_bool (λ b. GatheredNamed (cond b (Wants_page (with_page gathering page)) (completed gathering page))) later (λ v. all)
-    (λ v. on_bool (λ b. GatheredNamed (cond b (Has_all (gathering.entries ++ page.entries)) (Refuses 701 (new_gathering gathering.version gathering.range)))) (pointwise ◌==◌ (digest_of (gathering.entries ++ page.entries)) page.digest)
+    (λ v. on_bool (λ b. GatheredNamed (cond b (Has_all (gathering.entries ++ page.entries))
+    (Refuses 701 (new_gathering gathering.version gathering.range))))
+    (pointwise ◌==◌ (digest_of (gathering.entries ++ page.entries)) page.digest)
     (λ w. all) (λ w. All-nil IsNamed)))
     (λ u. before))
     (λ f. before)
@@ -111,7 +133,8 @@ reported_named : (entries : List Entry) (table : Table) → AllNamed entries →
 reported_named [] table new named = named
 reported_named (entry ∷ entries) table new named =
     reported_named entries (with_reported table entry) (All-tail IsNamed entry entries new)
-    (on_bool (λ b. AreNamed (cond b table (with_entry table entry))) (is_some (entry_at entry.grain table)) (λ t. named) (λ f. put_named table entry named (All-head IsNamed entry entries new)))
+    (on_bool (λ b. AreNamed (cond b table (with_entry table entry))) (is_some (entry_at entry.grain table)) (λ t. named)
+    (λ f. put_named table entry named (All-head IsNamed entry entries new)))
 
 abbrev pub RecoveredNamed : Recovered → Type 0
 RecoveredNamed (Awaits_more recovery) = AreNamed recovery.gathered
@@ -122,12 +145,15 @@ still_named : (silos : List Silo) (recovery : Recovery) → AreNamed recovery.ga
 still_named [] recovery named = named
 still_named (silo ∷ silos) recovery named = named
 
-pub recovered_named : (recovery : Recovery) (report : Report) → AreNamed recovery.gathered → AllNamed report.entries → RecoveredNamed (recovered recovery report)
+pub recovered_named : (recovery : Recovery) (report : Report) → AreNamed recovery.gathered → AllNamed report.entries
+    → RecoveredNamed (recovered recovery report)
 recovered_named recovery report before more =
-    on_bool (λ b. RecoveredNamed (cond (not b) (Rejects 751) (cond (not known) (Rejects 752) (cond done (Rejects 753) taken)))) ((report.version == recovery.version) && range_eq report.range recovery.range)
+    on_bool (λ b. RecoveredNamed (cond (not b) (Rejects 751) (cond (not known) (Rejects 752) (cond done (Rejects 753) taken))))
+    ((report.version == recovery.version) && range_eq report.range recovery.range)
     (λ t. on_bool (λ b. RecoveredNamed (cond (not b) (Rejects 752) (cond done (Rejects 753) taken))) known
     (λ u. on_bool (λ b. RecoveredNamed (cond b (Rejects 753) taken)) done (λ v. tt)
-    (λ v. still_named (with_report recovery report).awaiting (with_report recovery report) (reported_named report.entries recovery.gathered more before)))
+    (λ v. still_named (with_report recovery report).awaiting (with_report recovery report)
+    (reported_named report.entries recovery.gathered more before)))
     (λ u. tt))
     (λ f. tt)
   where
@@ -149,17 +175,23 @@ NamesAct (Find grain) = ⊤
 abbrev turn : Reply → Table → Turned
 turn reply table = record { reply = reply; table = table }
 
-registered_named : (there : Option Entry) (entry : Entry) (previous : Option ActivationId) (table : Table) → AreNamed table → IsNamed entry → AreNamed (registered_over there entry previous table).table
+registered_named : (there : Option Entry) (entry : Entry) (previous : Option ActivationId) (table : Table) → AreNamed table → IsNamed entry
+    → AreNamed (registered_over there entry previous table).table
 registered_named None entry previous table named is = put_named table entry named is
 registered_named (Some there) entry previous table named is =
-    on_bool (λ b. AreNamed (cond b (turn (Registered entry) table) (cond (is_previous previous there) (turn (Registered entry) (with_entry table entry)) (turn (Taken there) table))).table) (activation_eq there.activation entry.activation)
+    on_bool (λ b. AreNamed (cond b (turn (Registered entry) table)
+    (cond (is_previous previous there) (turn (Registered entry) (with_entry table entry)) (turn (Taken there) table))).table)
+    (activation_eq there.activation entry.activation)
     (λ t. named)
-    (λ f. on_bool (λ b. AreNamed (cond b (turn (Registered entry) (with_entry table entry)) (turn (Taken there) table)).table) (is_previous previous there) (λ t. put_named table entry named is) (λ g. named))
+    (λ f. on_bool (λ b. AreNamed (cond b (turn (Registered entry) (with_entry table entry)) (turn (Taken there) table)).table)
+    (is_previous previous there) (λ t. put_named table entry named is) (λ g. named))
 
-deregistered_named : (there : Option Entry) (entry : Entry) (table : Table) → AreNamed table → AreNamed (deregistered_from there entry table).table
+deregistered_named : (there : Option Entry) (entry : Entry) (table : Table) → AreNamed table
+    → AreNamed (deregistered_from there entry table).table
 deregistered_named None entry table named = named
 deregistered_named (Some there) entry table named =
-    on_bool (λ b. AreNamed (cond b (turn Removed (without_grain entry.grain table)) (turn Absent table)).table) (activation_eq there.activation entry.activation)
+    on_bool (λ b. AreNamed (cond b (turn Removed (without_grain entry.grain table)) (turn Absent table)).table)
+    (activation_eq there.activation entry.activation)
     (λ t. all_removed (λ (e : Grain × Entry). IsNamed e.1) (is_at (grain_cmp entry.grain)) table named) (λ f. named)
 
 pub turned_named : (act : Act) (table : Table) → AreNamed table → NamesAct act → AreNamed (turned act table).table

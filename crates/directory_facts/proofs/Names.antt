@@ -5,10 +5,10 @@ use Rattle.std.specs.List.{filter_map, cons_option}
 use Rattle.std.specs.Option.{option_map}
 use Rattle.std.specs.Ordering.{nat_cmp}
 use Rattle.std.specs.BTreeMap.{is_at, insert_entry}
-use Rattle.std.proofs.lemmas.List.Elements.{All-nil, All-cons, All-head, All-tail, All-append, All-map, All-weaker, All-contains, All-contains_itself}
+use Rattle.std.proofs.lemmas.List.Elements.{All-nil, All-cons, All-head, All-tail, All-append, All-filter, All-map, All-weaker, All-contains, All-contains_itself}
 use Rattle.std.proofs.lemmas.Map.Lookups.{exact_unsigned}
 use Rattle.silo_address.specs.Silo.{Silo, IsSilo, silo_cmp}
-use Rattle.silo_address.specs.Grain.{Grain}
+use Rattle.silo_address.specs.Grain.{Grain, grain_eq}
 use Rattle.silo_address.proofs.Order.{silo_cmp_exact}
 use Rattle.membership_view.specs.View.{ViewValue}
 use Rattle.ring_range.specs.Range.{Range}
@@ -29,22 +29,18 @@ use Rattle.directory_rules.specs.declared.held.Phase.TheVariants.{Asking, Firm, 
 use Rattle.directory_rules.specs.declared.piece_state.PieceState.{PieceState}
 use Rattle.directory_rules.specs.declared.piece_state.PieceState.TheVariants as state
 use Rattle.directory_rules.specs.Settings.{Settings, AreSettings}
-use Rattle.directory_rules.specs.Piece.{Piece}
-use Rattle.directory_rules.specs.Snapshot.{Snapshot}
-use Rattle.directory_rules.specs.Gatherings.{Gathering}
-use Rattle.directory_rules.specs.Recovery.{Recovery}
-use Rattle.directory_rules.specs.Host.{Host, entry_of, held_acts, find_acts, act_in, outstanding}
-use Rattle.directory_rules.specs.Letter.{Letter, Body, Request_letter, Reply_letter, Ask_letter, Page_letter, Missing_letter, Done_letter, Query_letter, Report_letter, Behind_letter, Ahead_letter, Offer_letter}
-use Rattle.directory_rules.specs.Node.{Node}
+use Rattle.directory_rules.specs.State.{Piece, Snapshot, Gathering, Recovery, Host, Letter, Body, Request_letter, Reply_letter, Ask_letter, Page_letter, Missing_letter, Done_letter, Query_letter, Report_letter, Behind_letter, Ahead_letter, Offer_letter, Node}
+use Rattle.directory_rules.specs.Host.{entry_of, grain_of, held_acts, find_acts, act_in, outstanding, requests_about}
 use Rattle.directory_rules.specs.Event.{IsEvent}
-use Rattle.directory_rules.specs.Sent.{letter_to, letter_if_owned, owner_by, hash_of, request_of, request_letters, all_requests, recovery_of, wants_by}
+use Rattle.directory_rules.specs.Sent.{letter_to, letter_if_owned, owner_by, hash_of, request_of, request_letters, all_requests, requests_of_grain, recovery_of, wants_by}
 use Rattle.directory_facts.specs.Named.{IsNamed, AreNamed, AwaitsSilo, HasNames}
 use Rattle.directory_facts.proofs.Entries.{same_key, all_put, found_so}
 use Rattle.directory_facts.proofs.Carried.{Facts}
 use Rattle.directory_facts.proofs.NamedTables.{AllNamed, NamesAct}
 
 -- ---- what is carried
-pub record Names (host : Host) (pieces : List (ℕ × Piece)) (shelf : List Snapshot) (gatherings : List (ℕ × Gathering)) (recoveries : List (ℕ × Recovery)) : Type 0 where
+pub record Names (host : Host) (pieces : List (ℕ × Piece)) (shelf : List Snapshot) (gatherings : List (ℕ × Gathering))
+    (recoveries : List (ℕ × Recovery)) : Type 0 where
   pub silo : IsSilo host.silo
   pub held : All (λ e. IsNamed (entry_of host e.0 e.1)) host.held
   pub tables : All (λ e. AreNamed e.1.entries) pieces
@@ -90,18 +86,22 @@ named_facts = record {
 }
 
 -- ---- requests
-act_named : (phase : Phase) (host : Host) (grain : Grain) (held : Held) (acts : List (ℕ × Act)) → IsNamed (entry_of host grain held) → All (λ e. NamesAct e.1) acts → All (λ e. NamesAct e.1) (cons_option (act_in phase host grain held) acts)
+act_named : (phase : Phase) (host : Host) (grain : Grain) (held : Held) (acts : List (ℕ × Act)) → IsNamed (entry_of host grain held)
+    → All (λ e. NamesAct e.1) acts → All (λ e. NamesAct e.1) (cons_option (act_in phase host grain held) acts)
 act_named (Asking number) host grain held acts is all = All-cons (λ e. NamesAct e.1) _ acts is all
 act_named Firm host grain held acts is all = all
 act_named (Closing number) host grain held acts is all = All-cons (λ e. NamesAct e.1) _ acts tt all
 
-held_named : (host : Host) (held : List (Grain × Held)) → All (λ e. IsNamed (entry_of host e.0 e.1)) held → All (λ e. NamesAct e.1) (filter_map (λ e. act_in e.1.phase host e.0 e.1) held)
+held_named : (host : Host) (held : List (Grain × Held)) → All (λ e. IsNamed (entry_of host e.0 e.1)) held
+    → All (λ e. NamesAct e.1) (filter_map (λ e. act_in e.1.phase host e.0 e.1) held)
 held_named host [] all = All-nil (λ (e : ℕ × Act). NamesAct e.1)
 held_named host (e ∷ es) all =
-    act_named e.1.phase host e.0 e.1 (filter_map (λ x. act_in x.1.phase host x.0 x.1) es) (All-head (λ (x : Grain × Held). IsNamed (entry_of host x.0 x.1)) e es all)
+    act_named e.1.phase host e.0 e.1 (filter_map (λ x. act_in x.1.phase host x.0 x.1) es)
+    (All-head (λ (x : Grain × Held). IsNamed (entry_of host x.0 x.1)) e es all)
     (held_named host es (All-tail (λ (x : Grain × Held). IsNamed (entry_of host x.0 x.1)) e es all))
 
-put_named : (more acts : List (ℕ × Act)) → All (λ e. NamesAct e.1) more → All (λ e. NamesAct e.1) acts → All (λ e. NamesAct e.1) (fold (λ all e. insert_entry nat_cmp all e.0 e.1) acts more)
+put_named : (more acts : List (ℕ × Act)) → All (λ e. NamesAct e.1) more → All (λ e. NamesAct e.1) acts
+    → All (λ e. NamesAct e.1) (fold (λ all e. insert_entry nat_cmp all e.0 e.1) acts more)
 put_named [] acts more all = all
 put_named (e ∷ es) acts more all =
     put_named es (insert_entry nat_cmp acts e.0 e.1) (All-tail (λ (x : ℕ × Act). NamesAct x.1) e es more)
@@ -123,23 +123,35 @@ if_owned (Some to) node body says = one_says (letter_to to node body) says
 pub request_says : (node : Node) (number : ℕ) (its : Act) → NamesAct its → All Says (request_letters node number its)
 request_says node number its is = if_owned (owner_by node (hash_of node its)) node (Request_letter (request_of node number its)) is
 
-acts_say : (node : Node) (acts : List (ℕ × Act)) → All (λ e. NamesAct e.1) acts → All Says (flat_map (λ e. request_letters node e.0 e.1) acts)
+acts_say : (node : Node) (acts : List (ℕ × Act)) → All (λ e. NamesAct e.1) acts
+    → All Says (flat_map (λ e. request_letters node e.0 e.1) acts)
 acts_say node [] all = All-nil Says
 acts_say node (e ∷ es) all =
-    All-append Says (request_letters node e.0 e.1) (flat_map (λ x. request_letters node x.0 x.1) es) (request_says node e.0 e.1 (All-head (λ (x : ℕ × Act). NamesAct x.1) e es all))
+    All-append Says (request_letters node e.0 e.1) (flat_map (λ x. request_letters node x.0 x.1) es)
+    (request_says node e.0 e.1 (All-head (λ (x : ℕ × Act). NamesAct x.1) e es all))
     (acts_say node es (All-tail (λ (x : ℕ × Act). NamesAct x.1) e es all))
 
 pub requests_say : (node : Node) → All (λ e. IsNamed (entry_of node.host e.0 e.1)) node.host.held → All Says (all_requests node)
 requests_say node held = acts_say node (outstanding node.host) (outstanding_named node.host held)
 
+pub requests_of_grain_say : (node : Node) (grain : Grain) → All (λ e. IsNamed (entry_of node.host e.0 e.1)) node.host.held
+    → All Says (requests_of_grain node grain)
+requests_of_grain_say node grain held =
+    acts_say node (requests_about grain node.host)
+    (All-filter (λ (e : ℕ × Act). grain_eq (grain_of e.1) grain) (λ (e : ℕ × Act). NamesAct e.1) (outstanding node.host)
+    (outstanding_named node.host held))
+
 wants_say : (its : PieceState) (node : Node) (range : Range) → All Says (wants_by its node range)
 wants_say state.Settled node range = All-nil Says
 wants_say (state.Awaiting from) node range = one_says _ tt
-wants_say state.Recovering node range = All-map Says (λ silo. letter_to silo node (Query_letter range)) (recovery_of node range).awaiting (λ k d below. tt)
+wants_say state.Recovering node range =
+    All-map Says (λ silo. letter_to silo node (Query_letter range)) (recovery_of node range).awaiting (λ k d below. tt)
 
 pub pieces_say : (node : Node) (pieces : List (ℕ × Piece)) → All Says (flat_map (λ e. wants_by e.1.state node e.1.range) pieces)
 pieces_say node [] = All-nil Says
-pieces_say node (e ∷ es) = All-append Says (wants_by e.1.state node e.1.range) (flat_map (λ x. wants_by x.1.state node x.1.range) es) (wants_say e.1.state node e.1.range) (pieces_say node es)
+pieces_say node (e ∷ es) =
+    All-append Says (wants_by e.1.state node e.1.range) (flat_map (λ x. wants_by x.1.state node x.1.range) es)
+    (wants_say e.1.state node e.1.range) (pieces_say node es)
 
 -- ---- rings
 abbrev pub OfSilos : List Point → Type 0
@@ -155,7 +167,8 @@ place_silo places silo silos added = by (places_of places silo) refl added
         let so = found_so (λ (e : Silo × List ℕ). IsSilo e.0) (is_at (silo_cmp silo)) list places.entries silos is in
         subst IsSilo (sym (same_key silo_cmp silo_cmp_exact silo so.0 so.1)) so.2
 
-added_silo : (places : PlacesValue) (p : Point) → All (λ e. IsSilo e.0) places.entries → In p (points_if p.silo (places_of places p.silo)) → IsSilo p.silo
+added_silo : (places : PlacesValue) (p : Point) → All (λ e. IsSilo e.0) places.entries → In p (points_if p.silo (places_of places p.silo))
+    → IsSilo p.silo
 added_silo places p silos there = by (places_of places p.silo) refl there
   where
     by : (found : Option (List ℕ)) → places_of places p.silo ≡ found → In p (points_if p.silo found) → IsSilo p.silo
@@ -166,7 +179,8 @@ pub ring_silos : (view : ViewValue) (places : PlacesValue) → All (λ e. IsSilo
 ring_silos view places silos =
     let points = points_of view places in
     All-weaker (Contains (sorted_ring view places)) (λ (p : Point). IsSilo p.silo)
-    (λ p there. added_silo places p silos (In-from_points_of view places p (In-from_Contains p points ((is_sorted_anew points).same.forth p there))).1)
+    (λ p there. added_silo places p silos (In-from_points_of view places p
+    (In-from_Contains p points ((is_sorted_anew points).same.forth p there))).1)
     (sorted_ring view places) (All-contains_itself (sorted_ring view places))
 
 pub owner_named : (points : List Point) (hash : ℕ) → OfSilos points → (owner : Silo) → owner_silo points hash ≡ Some owner → IsSilo owner

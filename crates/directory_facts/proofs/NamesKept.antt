@@ -26,16 +26,14 @@ use Rattle.directory_rules.specs.declared.held.Held.{Held}
 use Rattle.directory_rules.specs.declared.piece_state.PieceState.TheVariants as state
 use Rattle.directory_rules.specs.declared.reply.Why.{Why}
 use Rattle.directory_rules.specs.Settings.{Settings}
-use Rattle.directory_rules.specs.Table.{Table, table_of, with_entry}
-use Rattle.directory_rules.specs.Piece.{Piece, Holding}
+use Rattle.directory_rules.specs.State.{Table, Piece, Holding, Snapshot, Page, Gathering, Report, Recovery, Host, Letter, Request_letter, Page_letter, Report_letter, Node}
+use Rattle.directory_rules.specs.Table.{table_of, with_entry}
 use Rattle.directory_rules.specs.Sight.{is_next}
-use Rattle.directory_rules.specs.Snapshot.{Snapshot, Page}
-use Rattle.directory_rules.specs.Gatherings.{Gathering, new_gathering, gathered}
-use Rattle.directory_rules.specs.Recovery.{Report, Recovery, new_recovery, recovered}
-use Rattle.directory_rules.specs.Host.{Host, entry_of, held_of, next_held, with_started, with_closing, with_find, without_find, without_held, confirmed, renewed, is_firm}
+use Rattle.directory_rules.specs.Gatherings.{new_gathering, gathered}
+use Rattle.directory_rules.specs.Recovery.{new_recovery, recovered}
+use Rattle.directory_rules.specs.Host.{entry_of, held_of, next_held, with_started, with_closing, with_find, without_find, without_held, confirmed, renewed, renewed_about, is_firm}
 use Rattle.directory_rules.specs.Answer.{piece_with, with_piece, turned, serving_piece, served_by, answered_from, answered}
-use Rattle.directory_rules.specs.Letter.{Letter, Request_letter, Page_letter, Report_letter}
-use Rattle.directory_rules.specs.Node.{Node, new_node}
+use Rattle.directory_rules.specs.Node.{new_node}
 use Rattle.directory_rules.specs.Sent.{all_requests, all_wants, gathering_of, recovery_of, query_letters}
 use Rattle.directory_rules.specs.Step as at
 use Rattle.directory_rules.specs.Transfer as tr
@@ -48,54 +46,71 @@ use Rattle.directory_facts.proofs.Carried.{Facts, Brings, Keeps, Both, KeepsBesi
 use Rattle.directory_facts.proofs.Ways.{MayBegin, Ways}
 use Rattle.directory_facts.proofs.EachStep.{by_way}
 use Rattle.directory_facts.proofs.Owners.{OwnNode, own_facts, own_keep}
-use Rattle.directory_facts.proofs.Counts.{AreOf, closed_are, confirmed_are, less_are, renewed_are}
+use Rattle.directory_facts.proofs.Counts.{AreOf, closed_are, confirmed_are, less_are, renewed_are, renewed_about_are}
 use Rattle.directory_facts.proofs.SeenRings.{seen_facts, seen_keep}
 use Rattle.directory_facts.proofs.Places.{added_is}
 use Rattle.directory_facts.proofs.Served.{serves}
 use Rattle.directory_facts.proofs.Collected.{found_or}
 use Rattle.directory_facts.proofs.PiecesKept.{base_facts}
 use Rattle.directory_facts.proofs.NamedTables.{AllNamed, entries_named, table_named, folded_named, handed_named, GatheredNamed, gathered_named, RecoveredNamed, recovered_named, NamesAct, turned_named}
-use Rattle.directory_facts.proofs.Names.{Names, NamesOf, NamesBody, Says, SharedNames, named_facts, one_says, request_says, requests_say, pieces_say, OfSilos, ring_silos}
+use Rattle.directory_facts.proofs.Names.{Names, NamesOf, NamesBody, Says, SharedNames, named_facts, one_says, request_says, requests_say, requests_of_grain_say, pieces_say, OfSilos, ring_silos}
 use Rattle.directory_facts.proofs.NamedSights.{TablesNamed, AwaitSilos, arcs_from, pieces_named, pieces_await, shelf_named, gatherings_anew, recoveries_anew}
 
 -- ---- requests that are served
-found_table : (hash : ℕ) (pieces : List (ℕ × Piece)) (piece : Piece) → TablesNamed pieces → piece_with hash pieces ≡ Some piece → AreNamed piece.entries
+found_table : (hash : ℕ) (pieces : List (ℕ × Piece)) (piece : Piece) → TablesNamed pieces → piece_with hash pieces ≡ Some piece
+    → AreNamed piece.entries
 found_table hash [] piece named found = absurd (cc (found))
-found_table hash (e ∷ es) piece named found = by (holds e.1.range hash) found (λ later. found_table hash es piece (All-tail (λ (x : ℕ × Piece). AreNamed x.1.entries) e es named) later)
+found_table hash (e ∷ es) piece named found =
+    by (holds e.1.range hash) found (λ later. found_table hash es piece (All-tail (λ (x : ℕ × Piece). AreNamed x.1.entries) e es named)
+    later)
   where
-    by : (b : Bool) → option_map (λ x. x.1) (cond b (Some e) (find (λ x. holds x.1.range hash) es)) ≡ Some piece → (piece_with hash es ≡ Some piece → AreNamed piece.entries) → AreNamed piece.entries
-    by true here rest = let same : e.1 ≡ piece = cc (here) in subst (λ (p : Piece). AreNamed p.entries) same (All-head (λ (x : ℕ × Piece). AreNamed x.1.entries) e es named)
+    by : (b : Bool) → option_map (λ x. x.1) (cond b (Some e) (find (λ x. holds x.1.range hash) es)) ≡ Some piece
+        → (piece_with hash es ≡ Some piece → AreNamed piece.entries) → AreNamed piece.entries
+    by true here rest =
+        let same : e.1 ≡ piece = cc (here) in subst (λ (p : Piece). AreNamed p.entries) same
+        (All-head (λ (x : ℕ × Piece). AreNamed x.1.entries) e es named)
     by false there rest = rest there
 
 -- a piece is changed
-tables_set : (pieces : List (ℕ × Piece)) (piece : Piece) → TablesNamed pieces → AreNamed piece.entries → TablesNamed (with_piece piece pieces)
-tables_set pieces piece named is = all_set (λ (e : ℕ × Piece). AreNamed e.1.entries) (is_at (nat_cmp piece.range.start)) piece pieces (λ key old at so. is) named
+tables_set : (pieces : List (ℕ × Piece)) (piece : Piece) → TablesNamed pieces → AreNamed piece.entries
+    → TablesNamed (with_piece piece pieces)
+tables_set pieces piece named is =
+    all_set (λ (e : ℕ × Piece). AreNamed e.1.entries) (is_at (nat_cmp piece.range.start)) piece pieces (λ key old at so. is) named
 
-awaited_set : (pieces : List (ℕ × Piece)) (piece : Piece) → AwaitSilos pieces → AwaitsSilo piece.state → AwaitSilos (with_piece piece pieces)
-awaited_set pieces piece awaited is = all_set (λ (e : ℕ × Piece). AwaitsSilo e.1.state) (is_at (nat_cmp piece.range.start)) piece pieces (λ key old at so. is) awaited
+awaited_set : (pieces : List (ℕ × Piece)) (piece : Piece) → AwaitSilos pieces → AwaitsSilo piece.state
+    → AwaitSilos (with_piece piece pieces)
+awaited_set pieces piece awaited is =
+    all_set (λ (e : ℕ × Piece). AwaitsSilo e.1.state) (is_at (nat_cmp piece.range.start)) piece pieces (λ key old at so. is) awaited
 
 abbrev BothNamed : List (ℕ × Piece) → Type 0
 BothNamed pieces = TablesNamed pieces × AwaitSilos pieces
 
-served_named : (its : Act) (piece : Piece) (holding : Holding) (request : Request) → BothNamed holding.pieces → AreNamed piece.entries → piece.state ≡ state.Settled → NamesAct its → BothNamed (served_by its piece holding request).holding.pieces
+served_named : (its : Act) (piece : Piece) (holding : Holding) (request : Request) → BothNamed holding.pieces → AreNamed piece.entries
+    → piece.state ≡ state.Settled → NamesAct its → BothNamed (served_by its piece holding request).holding.pieces
 served_named (act.Register entry previous) piece holding request named table settled is = (
-  tables_set holding.pieces (record piece { entries = (turned (act.Register entry previous) piece.entries).table }) named.0 (turned_named (act.Register entry previous) piece.entries table is),
-  awaited_set holding.pieces (record piece { entries = (turned (act.Register entry previous) piece.entries).table }) named.1 (subst AwaitsSilo (sym settled) tt),
+  tables_set holding.pieces (record piece { entries = (turned (act.Register entry previous) piece.entries).table }) named.0
+      (turned_named (act.Register entry previous) piece.entries table is),
+  awaited_set holding.pieces (record piece { entries = (turned (act.Register entry previous) piece.entries).table }) named.1
+      (subst AwaitsSilo (sym settled) tt),
 )
 served_named (act.Deregister entry) piece holding request named table settled is = (
-  tables_set holding.pieces (record piece { entries = (turned (act.Deregister entry) piece.entries).table }) named.0 (turned_named (act.Deregister entry) piece.entries table tt),
-  awaited_set holding.pieces (record piece { entries = (turned (act.Deregister entry) piece.entries).table }) named.1 (subst AwaitsSilo (sym settled) tt),
+  tables_set holding.pieces (record piece { entries = (turned (act.Deregister entry) piece.entries).table }) named.0
+      (turned_named (act.Deregister entry) piece.entries table tt),
+  awaited_set holding.pieces (record piece { entries = (turned (act.Deregister entry) piece.entries).table }) named.1
+      (subst AwaitsSilo (sym settled) tt),
 )
 served_named (act.Find grain) piece holding request named table settled is = named
 
-answered_by : (serving : Result Piece Why) (holding : Holding) (request : Request) → BothNamed holding.pieces → NamesAct request.act → serving_piece holding request ≡ serving → BothNamed (answered_from serving holding request).holding.pieces
+answered_by : (serving : Result Piece Why) (holding : Holding) (request : Request) → BothNamed holding.pieces → NamesAct request.act
+    → serving_piece holding request ≡ serving → BothNamed (answered_from serving holding request).holding.pieces
 answered_by (Ok piece) holding request named is so =
     let its = serves holding request piece so in
     served_named request.act piece holding request named (found_table request.hash holding.pieces piece named.0 its.found) its.settled is
 answered_by (Err why) holding request named is so = named
 
 -- ---- steps
-module _ (settings : Settings) (views : ViewsValue) (places : PlacesValue) (silo : Silo) (node : Node) (own : OwnNode settings silo node) (sees : SeesItsVersion views places node) (shared : SharedNames settings places) (names : NamesOf node) where
+module _ (settings : Settings) (views : ViewsValue) (places : PlacesValue) (silo : Silo) (node : Node) (own : OwnNode settings silo node)
+    (sees : SeesItsVersion views places node) (shared : SharedNames settings places) (names : NamesOf node) where
   abbrev Made : Input → at.Stepped → Type 0
   Made input stepped = Brings named_facts settings views places silo input → NamesOf stepped.node × All Says stepped.letters
 
@@ -119,29 +134,36 @@ module _ (settings : Settings) (views : ViewsValue) (places : PlacesValue) (silo
 
   -- activations that were there
   still : (now : List (Grain × Held)) → AreOf node.host.held now → All (λ e. IsNamed (entry_of node.host e.0 e.1)) now
-  still now are = are (λ grain count. IsNamed (record { grain = grain; activation = record { silo = node.host.silo; count = count } })) names.held
+  still now are =
+      are (λ grain count. IsNamed (record { grain = grain; activation = record { silo = node.host.silo; count = count } })) names.held
 
   -- a new one
-  new_named : (grain : Grain) (previous : Option ActivationId) → MayBegin node grain → IsGrain grain → IsNamed (entry_of node.host grain (next_held node.host previous))
+  new_named : (grain : Grain) (previous : Option ActivationId) → MayBegin node grain → IsGrain grain
+      → IsNamed (entry_of node.host grain (next_held node.host previous))
   new_named grain previous may is =
       let least : node.host.next_count ≤ settings.last_number = subst (λ (s : Settings). node.host.next_count ≤ s.last_number) own.by_settings (leb-true node.host.next_count node.settings.last_number may.count) in
       let most = shared.are.last_within in
       record { grain = is; silo = names.silo; count = omega (arith, least, most) }
 
-  begun : (grain : Grain) (previous : Option ActivationId) → MayBegin node grain → IsGrain grain → NamesOf (at.started node grain previous).node × All Says (at.started node grain previous).letters
+  begun : (grain : Grain) (previous : Option ActivationId) → MayBegin node grain → IsGrain grain
+      → NamesOf (at.started node grain previous).node × All Says (at.started node grain previous).letters
   begun grain previous may is =
       let new = new_named grain previous may is in (
-        host_so (with_started node.host grain previous) names.silo (All-push (λ (e : Grain × Held). IsNamed (entry_of node.host e.0 e.1)) node.host.held (grain, next_held node.host previous) names.held new),
+        host_so (with_started node.host grain previous) names.silo
+            (All-push (λ (e : Grain × Held). IsNamed (entry_of node.host e.0 e.1)) node.host.held (grain, next_held node.host previous)
+            names.held new),
         request_says node node.host.next_number (act.Register (entry_of node.host grain (next_held node.host previous)) previous) new,
       )
 
-  sighted : (next : Bool) (before view : ViewValue) (brought : PlacesValue) → brought ≡ places → NamesOf (at.sight next node before view brought).node × All Says (at.sight next node before view brought).letters
+  sighted : (next : Bool) (before view : ViewValue) (brought : PlacesValue) → brought ≡ places
+      → NamesOf (at.sight next node before view brought).node × All Says (at.sight next node before view brought).letters
   sighted next before view brought same =
       let silos = subst (λ (p : PlacesValue). All (λ e. IsSilo e.0) p.entries) (sym same) shared.silos in
       let old = at.compared_points next node before brought in
       let new = sorted_ring view brought in
       let of_old : OfSilos old =
-      on_bool (λ b. OfSilos (cond b (sorted_ring before brought) node.ring.points)) (next && (node.view.version == 0)) (λ t. ring_silos before brought silos)
+      on_bool (λ b. OfSilos (cond b (sorted_ring before brought) node.ring.points)) (next && (node.view.version == 0))
+      (λ t. ring_silos before brought silos)
       (λ f. subst OfSilos (sym (ap (λ r. r.points) sees.ring_is)) (ring_silos node.view places shared.silos)) in
       let arcs = arcs_of old new in
       let hashing = node.settings.hashing in
@@ -159,18 +181,38 @@ module _ (settings : Settings) (views : ViewsValue) (places : PlacesValue) (silo
         All-append Says (all_wants made) (all_requests made) (pieces_say made made.holding.pieces) (requests_say made held),
       )
 
-  nudged : NamesOf (record node { host = renewed node.host }) × All Says (at.having_nudged (record node { host = renewed node.host })).letters
+  nudged : NamesOf (record node { host = renewed node.host }) × All Says
+      (at.having_nudged (record node { host = renewed node.host })).letters
   nudged =
       let made = record node { host = renewed node.host } in
-      let held = still made.host.held (renewed_are node.host) in
-      (host_so (renewed node.host) names.silo held, All-append Says (all_requests made) (all_wants made) (requests_say made held) (pieces_say made made.holding.pieces))
+      let held = still made.host.held (renewed_are node.host) in (
+        host_so (renewed node.host) names.silo held,
+        All-append Says (all_requests made) (all_wants made) (requests_say made held)
+            (pieces_say made made.holding.pieces),
+      )
+
+  nudged_about : (grain : Grain) → NamesOf (record node { host = renewed_about grain node.host }) × All Says
+      (at.having_nudged_grain (record node { host = renewed_about grain node.host }) grain).letters
+  nudged_about grain =
+      let made = record node { host = renewed_about grain node.host } in
+      let held = still made.host.held (renewed_about_are node.host grain) in
+      (host_so (renewed_about grain node.host) names.silo held, requests_of_grain_say made grain held)
 
   -- ---- letters that come
-  answered_so : (letter : Letter) (request : Request) → letter.body ≡ Request_letter request → Says letter → NamesOf (record node { holding = (answered node.holding request).holding })
+  answered_so : (letter : Letter) (request : Request) → letter.body ≡ Request_letter request → Says letter
+      → NamesOf (record node { holding = (answered node.holding request).holding })
   answered_so letter request body says =
       let its : NamesAct request.act = subst NamesBody body says in
       let pieces = answered_by (serving_piece node.holding request) node.holding request (names.tables, names.awaited) its refl in
-      record { silo = names.silo; held = names.held; tables = pieces.0; awaited = pieces.1; shelved = names.shelved; gathered_so = names.gathered_so; recovered_so = names.recovered_so }
+      record {
+        silo = names.silo;
+        held = names.held;
+        tables = pieces.0;
+        awaited = pieces.1;
+        shelved = names.shelved;
+        gathered_so = names.gathered_so;
+        recovered_so = names.recovered_so;
+      }
 
   reported : (range : Range) → AllNamed (tr.report_of node range).entries
   reported range =
@@ -178,18 +220,23 @@ module _ (settings : Settings) (views : ViewsValue) (places : PlacesValue) (silo
       let entries = map (λ (e : Grain × Held). entry_of node.host e.0 e.1) firm in
       entries_named (fold with_entry [] entries)
       (folded_named entries [] (All-map IsNamed (λ (e : Grain × Held). entry_of node.host e.0 e.1) firm
-      (All-filter (λ (e : Grain × Held). is_firm e.1.phase && holds range (hash_grain node.settings.hashing e.0)) (λ (e : Grain × Held). IsNamed (entry_of node.host e.0 e.1)) node.host.held names.held))
+      (All-filter (λ (e : Grain × Held). is_firm e.1.phase && holds range (hash_grain node.settings.hashing e.0))
+      (λ (e : Grain × Held). IsNamed (entry_of node.host e.0 e.1)) node.host.held names.held))
       (All-nil (λ (e : Grain × Entry). IsNamed e.1)))
 
-  page_so : (letter : Letter) (page : Page) → letter.body ≡ Page_letter page → Says letter → GatheredNamed (gathered (gathering_of node page.range) page)
+  page_so : (letter : Letter) (page : Page) → letter.body ≡ Page_letter page → Says letter
+      → GatheredNamed (gathered (gathering_of node page.range) page)
   page_so letter page body says =
       gathered_named (gathering_of node page.range) page
-      (found_or (λ (g : Gathering). AllNamed g.entries) (is_at (nat_cmp page.range.start)) (new_gathering node.view.version page.range) node.gatherings names.gathered_so (All-nil IsNamed)) (subst NamesBody body says)
+      (found_or (λ (g : Gathering). AllNamed g.entries) (is_at (nat_cmp page.range.start)) (new_gathering node.view.version page.range)
+      node.gatherings names.gathered_so (All-nil IsNamed)) (subst NamesBody body says)
 
-  report_so : (letter : Letter) (report : Report) → letter.body ≡ Report_letter report → Says letter → RecoveredNamed (recovered (recovery_of node report.range) report)
+  report_so : (letter : Letter) (report : Report) → letter.body ≡ Report_letter report → Says letter
+      → RecoveredNamed (recovered (recovery_of node report.range) report)
   report_so letter report body says =
       recovered_named (recovery_of node report.range) report
-      (found_or (λ (r : Recovery). AreNamed r.gathered) (is_at (nat_cmp report.range.start)) (new_recovery node.view report.range) node.recoveries names.recovered_so (All-nil (λ (e : Grain × Entry). IsNamed e.1))) (subst NamesBody body says)
+      (found_or (λ (r : Recovery). AreNamed r.gathered) (is_at (nat_cmp report.range.start)) (new_recovery node.view report.range)
+      node.recoveries names.recovered_so (All-nil (λ (e : Grain × Entry). IsNamed e.1))) (subst NamesBody body says)
 
   gathering_so : (gathering : Gathering) → AllNamed gathering.entries → NamesOf (tr.with_gathering node gathering)
   gathering_so gathering is = record {
@@ -198,7 +245,9 @@ module _ (settings : Settings) (views : ViewsValue) (places : PlacesValue) (silo
     tables = names.tables;
     awaited = names.awaited;
     shelved = names.shelved;
-    gathered_so = all_put nat_cmp exact_unsigned (λ (e : ℕ × Gathering). AllNamed e.1.entries) gathering.range.start gathering node.gatherings names.gathered_so is;
+    gathered_so =
+        all_put nat_cmp exact_unsigned (λ (e : ℕ × Gathering). AllNamed e.1.entries) gathering.range.start gathering node.gatherings
+        names.gathered_so is;
     recovered_so = names.recovered_so;
   }
 
@@ -210,7 +259,9 @@ module _ (settings : Settings) (views : ViewsValue) (places : PlacesValue) (silo
     awaited = names.awaited;
     shelved = names.shelved;
     gathered_so = names.gathered_so;
-    recovered_so = all_put nat_cmp exact_unsigned (λ (e : ℕ × Recovery). AreNamed e.1.gathered) recovery.range.start recovery node.recoveries names.recovered_so is;
+    recovered_so =
+        all_put nat_cmp exact_unsigned (λ (e : ℕ × Recovery). AreNamed e.1.gathered) recovery.range.start recovery node.recoveries
+        names.recovered_so is;
   }
 
   settled_so : (range : Range) (table : Table) → AreNamed table → NamesOf (tr.with_settled node range table)
@@ -221,18 +272,23 @@ module _ (settings : Settings) (views : ViewsValue) (places : PlacesValue) (silo
     awaited = awaited_set node.holding.pieces (record { range = range; state = state.Settled; entries = table }) names.awaited tt;
     shelved = names.shelved;
     gathered_so = all_removed (λ (e : ℕ × Gathering). AllNamed e.1.entries) (is_at (nat_cmp range.start)) node.gatherings names.gathered_so;
-    recovered_so = all_removed (λ (e : ℕ × Recovery). AreNamed e.1.gathered) (is_at (nat_cmp range.start)) node.recoveries names.recovered_so;
+    recovered_so =
+        all_removed (λ (e : ℕ × Recovery). AreNamed e.1.gathered) (is_at (nat_cmp range.start)) node.recoveries names.recovered_so;
   }
 
   turned_so : (range : Range) → NamesOf (tr.turned_to_recovery node range)
   turned_so range = record {
     silo = names.silo;
     held = names.held;
-    tables = tables_set node.holding.pieces (record { range = range; state = state.Recovering; entries = [] }) names.tables (All-nil (λ (e : Grain × Entry). IsNamed e.1));
+    tables =
+        tables_set node.holding.pieces (record { range = range; state = state.Recovering; entries = [] }) names.tables
+        (All-nil (λ (e : Grain × Entry). IsNamed e.1));
     awaited = awaited_set node.holding.pieces (record { range = range; state = state.Recovering; entries = [] }) names.awaited tt;
     shelved = names.shelved;
     gathered_so = all_removed (λ (e : ℕ × Gathering). AllNamed e.1.entries) (is_at (nat_cmp range.start)) node.gatherings names.gathered_so;
-    recovered_so = all_put nat_cmp exact_unsigned (λ (e : ℕ × Recovery). AreNamed e.1.gathered) range.start (new_recovery node.view range) node.recoveries names.recovered_so (All-nil (λ (e : Grain × Entry). IsNamed e.1));
+    recovered_so =
+        all_put nat_cmp exact_unsigned (λ (e : ℕ × Recovery). AreNamed e.1.gathered) range.start (new_recovery node.view range)
+        node.recoveries names.recovered_so (All-nil (λ (e : Grain × Entry). IsNamed e.1));
   }
 
   less_shelf : (test : Snapshot → Bool) → NamesOf (record node { shelf = filter test node.shelf })
@@ -252,9 +308,15 @@ module _ (settings : Settings) (views : ViewsValue) (places : PlacesValue) (silo
   ways : Ways node Made
   ways = record {
     nothing = λ input effect plain brings. (names, none);
-    sees = λ before view brought newer numbers brings. sighted (is_next node.view before view node.host.silo) before view brought brings.is_brought;
+    sees =
+        λ before view brought newer numbers brings. sighted (is_next node.view before view node.host.silo) before view brought
+        brings.is_brought;
     wakes = λ grain may brings. begun grain None may brings.1;
     closes = λ grain held may brings. (
+      host_so (with_closing node.host grain held) names.silo (still _ (closed_are node.host grain held may.found)),
+      request_says node node.host.next_number (act.Deregister (entry_of node.host grain held)) tt,
+    );
+    cancels = λ grain held may brings. (
       host_so (with_closing node.host grain held) names.silo (still _ (closed_are node.host grain held may.found)),
       request_says node node.host.next_number (act.Deregister (entry_of node.host grain held)) tt,
     );
@@ -263,29 +325,72 @@ module _ (settings : Settings) (views : ViewsValue) (places : PlacesValue) (silo
       one_says _ (held_named grain held may.found),
     );
     uses_hint = λ grain activation hint brings. (names, none);
-    finds = λ grain room numbers brings. (host_so (with_find node.host grain) names.silo names.held, request_says node node.host.next_number (act.Find grain) tt);
+    finds =
+        λ grain room numbers brings. (
+          host_so (with_find node.host grain) names.silo names.held,
+          request_says node node.host.next_number
+              (act.Find grain) tt,
+        );
     forgets = λ grain activation hint brings. (names, none);
     nudges = λ numbers brings. nudged;
+    nudges_grain = λ grain numbers brings. nudged_about grain;
+    nudges_ranges = λ brings. (names, pieces_say node node.holding.pieces);
     answers = λ letter request body sender version brings. (answered_so letter request body brings.1, one_says _ tt);
-    confirms = λ letter number entry e is there brings. (host_so (confirmed node.host e.0 e.1) names.silo (still _ (confirmed_are node.host number e there)), none);
-    yields = λ letter number entry e is there brings. (host_so (without_held node.host e.0) names.silo (still _ (less_are node.host e.0)), none);
+    confirms =
+        λ letter number entry e is there brings. (
+          host_so (confirmed node.host e.0 e.1) names.silo
+              (still _ (confirmed_are node.host number e there)),
+          none,
+        );
+    yields =
+        λ letter number entry e is there brings. (host_so (without_held node.host e.0) names.silo (still _ (less_are node.host e.0)), none);
     removes = λ letter number e is there brings. (host_so (without_held node.host e.0) names.silo (still _ (less_are node.host e.0)), none);
     misses = λ letter number e is there brings. (host_so (without_held node.host e.0) names.silo (still _ (less_are node.host e.0)), none);
     learns = λ letter number entry is there brings. (host_so (without_find node.host number) names.silo names.held, none);
     notes = λ letter number is there brings. (host_so (without_find node.host number) names.silo names.held, none);
-    hands = λ letter range number page body is brings. (names, one_says _ (handed_named node.shelf node.view.version letter.version range letter.from number page names.shelved is));
+    hands =
+        λ letter range number page body is brings. (
+          names,
+          one_says _
+              (handed_named node.shelf node.view.version letter.version range letter.from number page names.shelved is),
+        );
     lacks = λ letter range number body is brings. (names, one_says _ tt);
     forgoes = λ letter range body there brings. (less_shelf _, none);
     lags = λ letter range brings. (names, one_says _ tt);
     passed = λ letter range brings. (names, one_says _ tt);
     reports = λ letter range body seen brings. (names, one_says _ (reported range));
-    gathers = λ letter page gathering taken is brings. (gathering_so gathering (subst GatheredNamed is (page_so letter page taken.body brings.1)), one_says _ tt);
-    installs = λ letter page entries taken is brings. (settled_so page.range (table_of entries) (table_named entries (subst GatheredNamed is (page_so letter page taken.body brings.1))), one_says _ tt);
-    drops = λ letter page gathering taken is brings. (gathering_so gathering (subst GatheredNamed is (page_so letter page taken.body brings.1)), none);
+    gathers =
+        λ letter page gathering taken is brings. (
+          gathering_so gathering (subst GatheredNamed is (page_so letter page taken.body brings.1)),
+          one_says _ tt,
+        );
+    installs =
+        λ letter page entries taken is brings. (
+          settled_so page.range (table_of entries)
+              (table_named entries (subst GatheredNamed is (page_so letter page taken.body brings.1))),
+          one_says _ tt,
+        );
+    drops =
+        λ letter page gathering taken is brings. (
+          gathering_so gathering (subst GatheredNamed is (page_so letter page taken.body brings.1)),
+          none,
+        );
     turns = λ letter range piece body has awaits brings. (turned_so range, queries_say range);
-    collects = λ letter report recovery taken is brings. (recovery_so recovery (subst RecoveredNamed is (report_so letter report taken.body brings.1)), none);
-    completes = λ letter report table taken is brings. (settled_so report.range table (subst RecoveredNamed is (report_so letter report taken.body brings.1)), none);
-    takes_over = λ letter entry body seen may brings. let offered : IsNamed entry = subst NamesBody body brings.1 in begun entry.grain (Some entry.activation) may offered.grain;
+    collects =
+        λ letter report recovery taken is brings. (
+          recovery_so recovery
+              (subst RecoveredNamed is (report_so letter report taken.body brings.1)),
+          none,
+        );
+    completes =
+        λ letter report table taken is brings. (
+          settled_so report.range table
+              (subst RecoveredNamed is (report_so letter report taken.body brings.1)),
+          none,
+        );
+    takes_over =
+        λ letter entry body seen may brings. let offered : IsNamed entry = subst NamesBody body brings.1 in
+        begun entry.grain (Some entry.activation) may offered.grain;
   } where
     held_named : (grain : Grain) (held : Held) → held_of node.host grain ≡ Some held → IsNamed (entry_of node.host grain held)
     held_named grain held found =
@@ -303,17 +408,21 @@ new_names settings silo is = record {
   recovered_so = All-nil (λ (e : ℕ × Recovery). AreNamed e.1.gathered);
 }
 
-more_silos : (settings : Settings) (places added : PlacesValue) (silo : Silo) (given : List ℕ) → SharedNames settings places → IsSilo silo → after_add places silo given ≡ Ok added → SharedNames settings added
+more_silos : (settings : Settings) (places added : PlacesValue) (silo : Silo) (given : List ℕ) → SharedNames settings places → IsSilo silo
+    → after_add places silo given ≡ Ok added → SharedNames settings added
 more_silos settings places added silo given shared is placed = record {
   are = shared.are;
   silos = subst (λ (p : PlacesValue). All (λ e. IsSilo e.0) p.entries) (added_is places added silo given placed)
-      (all_put silo_cmp silo_cmp_exact (λ (e : Silo × List ℕ). IsSilo e.0) silo (places_for places.hashing places.points silo given) places.entries shared.silos is);
+      (all_put silo_cmp silo_cmp_exact (λ (e : Silo × List ℕ). IsSilo e.0) silo (places_for places.hashing places.points silo given)
+      places.entries shared.silos is);
 }
 
 named_beside : KeepsBeside base_facts named_facts
 named_beside = record {
   first = λ settings are. record { are = are; silos = All-nil (λ (e : Silo × List ℕ). IsSilo e.0) };
-  joining = λ settings views next places added silo given named base shared viewed placed. (more_silos settings places added silo given shared named.0 placed, new_names settings silo named.0);
+  joining =
+      λ settings views next places added silo given named base shared viewed placed.
+      (more_silos settings places added silo given shared named.0 placed, new_names settings silo named.0);
   joined = λ settings views next places added silo given named base shared viewed placed other node based names. names;
   going = λ settings views next places way goes base shared is. shared;
   gone = λ settings views next places way goes base shared is silo node based names. names;

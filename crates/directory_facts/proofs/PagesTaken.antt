@@ -12,11 +12,14 @@ use Rattle.directory_rules.proofs.Cases.{on_bool}
 take_more : {X : Type 0} (a b : ℕ) (xs : List X) → take a xs ++ take b (drop a xs) ≡ take (a + b) xs
 take_more zero b xs = let same : b ≡ zero + b = omega arith in ap (λ n. take n xs) same
 take_more (suc a) b [] = take_all b [] (omega arith) ∙ sym (take_all (suc a + b) [] (omega arith))
-take_more (suc a) b (x ∷ xs) = let same : suc (a + b) ≡ suc a + b = omega arith in ap (λ l. x ∷ l) (take_more a b xs) ∙ ap (λ n. take n (x ∷ xs)) same
+take_more (suc a) b (x ∷ xs) =
+    let same : suc (a + b) ≡ suc a + b = omega arith in ap (λ l. x ∷ l) (take_more a b xs) ∙ ap (λ n. take n (x ∷ xs)) same
 
 -- one page more
 pub page_more : (n : ℕ) (all : List Entry) → take (n * page_size) all ++ page_entries n all ≡ take ((n + 1) * page_size) all
-page_more n all = let same : n * page_size + page_size ≡ (n + 1) * page_size = omega arith in take_more (n * page_size) page_size all ∙ ap (λ k. take k all) same
+page_more n all =
+    let same : n * page_size + page_size ≡ (n + 1) * page_size = omega arith in take_more (n * page_size) page_size all
+    ∙ ap (λ k. take k all) same
 
 pages_enough : (n : ℕ) → n ≤ page_count n * page_size
 pages_enough n =

@@ -31,14 +31,17 @@ keys_changed : (change : Row → Row) (silo : Silo) (rows : List (Silo × Row)) 
 keys_changed change silo [] = refl
 keys_changed change silo (e ∷ es) = ap (λ ks. e.0 ∷ ks) (keys_changed change silo es)
 
-pub added_changed : (places : PlacesValue) (change : Row → Row) (silo : Silo) (rows : List (Silo × Row)) → AllAdded places (keys_of rows) → AllAdded places (keys_of (changed change silo rows))
+pub added_changed : (places : PlacesValue) (change : Row → Row) (silo : Silo) (rows : List (Silo × Row)) → AllAdded places (keys_of rows)
+    → AllAdded places (keys_of (changed change silo rows))
 added_changed places change silo rows all = subst (AllAdded places) (sym (keys_changed change silo rows)) all
 
-added_without : (places : PlacesValue) (old : Option Silo) (version : ℕ) (rows : List (Silo × Row)) → AllAdded places (keys_of rows) → AllAdded places (keys_of (without old version rows))
+added_without : (places : PlacesValue) (old : Option Silo) (version : ℕ) (rows : List (Silo × Row)) → AllAdded places (keys_of rows)
+    → AllAdded places (keys_of (without old version rows))
 added_without places None version rows all = all
 added_without places (Some old) version rows all = added_changed places (dying version) old rows all
 
-pub added_joined : (places : PlacesValue) (silo : Silo) (version : ℕ) (rows : List (Silo × Row)) → AllAdded places (keys_of rows) → is_added places silo ≡ true → AllAdded places (keys_of (joined_rows silo version rows))
+pub added_joined : (places : PlacesValue) (silo : Silo) (version : ℕ) (rows : List (Silo × Row)) → AllAdded places (keys_of rows)
+    → is_added places silo ≡ true → AllAdded places (keys_of (joined_rows silo version rows))
 added_joined places silo version rows all there =
     added_without places (occupant silo rows) version (insert_entry silo_cmp rows silo (joining version))
     (All-keys-insert_entry silo_cmp silo (joining version) (λ q. is_added places q ≡ true) rows all there)
@@ -48,10 +51,12 @@ either_there : {X : Type 0} (b : Bool) (x : X) (o : Option X) → is_some o ≡ 
 either_there true x o there = refl
 either_there false x o there = there
 
-with_other : (places : PlacesValue) (silo : Silo) (given : List ℕ) (q : Silo) → is_added places q ≡ true → is_added (with_silo places silo given) q ≡ true
+with_other : (places : PlacesValue) (silo : Silo) (given : List ℕ) (q : Silo) → is_added places q ≡ true
+    → is_added (with_silo places silo given) q ≡ true
 with_other places silo given q there =
     let list = places_for places.hashing places.points silo given in
-    ap is_some (lookup-insert_entry silo_cmp_total silo list q places.entries) ∙ either_there (is_at (silo_cmp q) silo) list (lookup (is_at (silo_cmp q)) places.entries) there
+    ap is_some (lookup-insert_entry silo_cmp_total silo list q places.entries)
+    ∙ either_there (is_at (silo_cmp q) silo) list (lookup (is_at (silo_cmp q)) places.entries) there
 
 with_itself : (places : PlacesValue) (silo : Silo) (given : List ℕ) → is_added (with_silo places silo given) silo ≡ true
 with_itself places silo given =
@@ -60,50 +65,68 @@ with_itself places silo given =
     ∙ ap (λ r. is_some (cond (is_eq r) (Some list) (lookup (is_at (silo_cmp silo)) places.entries))) (tied_itself silo_cmp_total silo)
 
 -- an addition that isn't refused
-not_refused : (counted some there : Bool) (made added : PlacesValue) → ◌≡◌ {A = Result PlacesValue ℕ} (cond (not counted) (Err 402) (cond (not some) (Err 403) (cond there (Err 404) (Ok made)))) (Ok added) → made ≡ added
+not_refused : (counted some there : Bool) (made added : PlacesValue)
+    → ◌≡◌ {A = Result PlacesValue ℕ} (cond (not counted) (Err 402) (cond (not some) (Err 403) (cond there (Err 404) (Ok made)))) (Ok added)
+    → made ≡ added
 not_refused false some there made added is = absurd (cc (is))
 not_refused true false there made added is = absurd (cc (is))
 not_refused true true true made added is = absurd (cc (is))
 not_refused true true false made added is = cc (is)
 
 -- what is added to the places is one silo's
-pub added_is : (places added : PlacesValue) (silo : Silo) (given : List ℕ) → after_add places silo given ≡ Ok added → with_silo places silo given ≡ added
-added_is places added silo given is = not_refused (is_point_count places.hashing (length given)) (has_points places.hashing (length given)) (is_added places silo) (with_silo places silo given) added is
+pub added_is : (places added : PlacesValue) (silo : Silo) (given : List ℕ) → after_add places silo given ≡ Ok added
+    → with_silo places silo given ≡ added
+added_is places added silo given is =
+    not_refused (is_point_count places.hashing (length given)) (has_points places.hashing (length given)) (is_added places silo)
+    (with_silo places silo given) added is
 
-pub added_more : (places added : PlacesValue) (silo : Silo) (given : List ℕ) (silos : List Silo) → after_add places silo given ≡ Ok added → AllAdded places silos → AllAdded added silos
+pub added_more : (places added : PlacesValue) (silo : Silo) (given : List ℕ) (silos : List Silo) → after_add places silo given ≡ Ok added
+    → AllAdded places silos → AllAdded added silos
 added_more places added silo given silos is all =
     subst (λ p. AllAdded p silos) (added_is places added silo given is)
-    (All-weaker (λ q. is_added places q ≡ true) (λ q. is_added (with_silo places silo given) q ≡ true) (λ q there. with_other places silo given q there) silos all)
+    (All-weaker (λ q. is_added places q ≡ true) (λ q. is_added (with_silo places silo given) q ≡ true)
+    (λ q there. with_other places silo given q there) silos all)
 
-pub added_itself : (places added : PlacesValue) (silo : Silo) (given : List ℕ) → after_add places silo given ≡ Ok added → is_added added silo ≡ true
-added_itself places added silo given is = subst (λ p. is_added p silo ≡ true) (added_is places added silo given is) (with_itself places silo given)
+pub added_itself : (places added : PlacesValue) (silo : Silo) (given : List ℕ) → after_add places silo given ≡ Ok added
+    → is_added added silo ≡ true
+added_itself places added silo given is =
+    subst (λ p. is_added p silo ≡ true) (added_is places added silo given is) (with_itself places silo given)
 
 -- ---- views
-added_cons : (places : PlacesValue) (silo : Silo) (status : Option Status) (rows : List (Silo × Status)) → is_added places silo ≡ true → AllAdded places (keys_of rows) → AllAdded places (keys_of (cons_option (option_map (λ s. (silo, s)) status) rows))
+added_cons : (places : PlacesValue) (silo : Silo) (status : Option Status) (rows : List (Silo × Status)) → is_added places silo ≡ true
+    → AllAdded places (keys_of rows) → AllAdded places (keys_of (cons_option (option_map (λ s. (silo, s)) status) rows))
 added_cons places silo None rows there all = all
 added_cons places silo (Some status) rows there all = All-cons (λ q. is_added places q ≡ true) silo (keys_of rows) there all
 
-added_in : (places : PlacesValue) (version : ℕ) (rows : List (Silo × Row)) → AllAdded places (keys_of rows) → AllAdded places (keys_of (rows_in version rows))
+added_in : (places : PlacesValue) (version : ℕ) (rows : List (Silo × Row)) → AllAdded places (keys_of rows)
+    → AllAdded places (keys_of (rows_in version rows))
 added_in places version [] all = all
 added_in places version (e ∷ es) all =
-    added_cons places e.0 (status_in version e.1) (rows_in version es) (All-head (λ q. is_added places q ≡ true) e.0 (keys_of es) all) (added_in places version es (All-tail (λ q. is_added places q ≡ true) e.0 (keys_of es) all))
+    added_cons places e.0 (status_in version e.1) (rows_in version es) (All-head (λ q. is_added places q ≡ true) e.0 (keys_of es) all)
+    (added_in places version es (All-tail (λ q. is_added places q ≡ true) e.0 (keys_of es) all))
 
-added_active : (places : PlacesValue) (rows : List (Silo × Status)) → AllAdded places (keys_of rows) → list_all (is_added places) (keys_of (filter (λ row. is_active row.1) rows)) ≡ true
+added_active : (places : PlacesValue) (rows : List (Silo × Status)) → AllAdded places (keys_of rows)
+    → list_all (is_added places) (keys_of (filter (λ row. is_active row.1) rows)) ≡ true
 added_active places [] all = refl
 added_active places (e ∷ es) all =
     let later = added_active places es (All-tail (λ q. is_added places q ≡ true) e.0 (keys_of es) all) in
-    on_bool (λ b. list_all (is_added places) (keys_of (cond b (e ∷ filter (λ row. is_active row.1) es) (filter (λ row. is_active row.1) es))) ≡ true) (is_active e.1)
-    (λ t. ap (λ b. b && list_all (is_added places) (keys_of (filter (λ row. is_active row.1) es))) (All-head (λ q. is_added places q ≡ true) e.0 (keys_of es) all) ∙ later)
+    on_bool (λ b. list_all (is_added places) (keys_of
+    (cond b (e ∷ filter (λ row. is_active row.1) es) (filter (λ row. is_active row.1) es))) ≡ true) (is_active e.1)
+    (λ t. ap (λ b. b && list_all (is_added places) (keys_of (filter (λ row. is_active row.1) es)))
+    (All-head (λ q. is_added places q ≡ true) e.0 (keys_of es) all) ∙ later)
     (λ f. later)
 
 -- each Active silo of a view was added
-pub added_view : (views : ViewsValue) (places : PlacesValue) (version : ℕ) → AllAdded places (keys_of views.rows) → are_added (view_at views version) places ≡ true
+pub added_view : (views : ViewsValue) (places : PlacesValue) (version : ℕ) → AllAdded places (keys_of views.rows)
+    → are_added (view_at views version) places ≡ true
 added_view views places version all =
-    on_bool (λ b. list_all (is_added places) (keys_of (filter (λ row. is_active row.1) (cond b (rows_in version views.rows) []))) ≡ true) (nat_le version views.version)
+    on_bool (λ b. list_all (is_added places) (keys_of (filter (λ row. is_active row.1) (cond b (rows_in version views.rows) []))) ≡ true)
+    (nat_le version views.version)
     (λ t. added_active places (rows_in version views.rows) (added_in places version views.rows all)) (λ f. refl)
 
 -- a silo with a row was added
-pub added_row : (views : ViewsValue) (places : PlacesValue) (silo : Silo) → AllAdded places (keys_of views.rows) → IsSome (row_of views silo) → is_added places silo ≡ true
+pub added_row : (views : ViewsValue) (places : PlacesValue) (silo : Silo) → AllAdded places (keys_of views.rows)
+    → IsSome (row_of views silo) → is_added places silo ≡ true
 added_row views places silo all there =
     All-contains (λ q. is_added places q ≡ true) (keys_of views.rows) silo all
     (Contains-keys_from_lookup {eq = λ a. is_at (silo_cmp a)} (λ x y at. same_key silo_cmp silo_cmp_exact x y at) silo views.rows there)

@@ -17,7 +17,8 @@ use Rattle.hash_ring.specs.Places.{PlacesValue, after_add}
 use Rattle.hash_ring.specs.Ring.{ring_of}
 use Rattle.hash_ring.proofs.Lawful.{ring_stays}
 use Rattle.directory_rules.specs.Settings.{Settings, AreSettings}
-use Rattle.directory_rules.specs.Node.{Node, new_node}
+use Rattle.directory_rules.specs.State.{Node}
+use Rattle.directory_rules.specs.Node.{new_node}
 use Rattle.directory_rules.specs.Step as at
 use Rattle.directory_rules.specs.Input.{Input}
 use Rattle.directory_facts.specs.Seen.{SeesItsVersion}
@@ -44,7 +45,8 @@ seen_facts = record {
 }
 
 -- ---- the views go on
-module _ (settings : Settings) (views next : ViewsValue) (places : PlacesValue) (way : change.Change) (are : AreViews settings views places) (is : change.after views way ≡ Ok next) where
+module _ (settings : Settings) (views next : ViewsValue) (places : PlacesValue) (way : change.Change) (are : AreViews settings views places)
+    (is : change.after views way ≡ Ok next) where
   accepts : Accepts views way next
   accepts = record { whole = are.whole; is = is }
 
@@ -52,25 +54,31 @@ module _ (settings : Settings) (views next : ViewsValue) (places : PlacesValue) 
   next_whole = whole-after views are.whole way next is
 
   -- a node that has seen a version still has, by the same places or by more
-  still_sees : (added : PlacesValue) (node : Node) → ((version : ℕ) → ring_of (view_at views version) added ≡ ring_of (view_at views version) places) → SeesItsVersion views places node → SeesItsVersion next added node
+  still_sees : (added : PlacesValue) (node : Node) →
+      ((version : ℕ) → ring_of (view_at views version) added ≡ ring_of (view_at views version) places) → SeesItsVersion views places node
+      → SeesItsVersion next added node
   still_sees added node stays sees =
       let rises = versions_rise views way next accepts in
       let within = sees.within in
       record {
         within = omega arith;
         view_is = sees.view_is ∙ sym (views_stay views way next accepts node.view.version sees.within);
-        ring_is = sees.ring_is ∙ ap (λ view. ring_of view places) sees.view_is ∙ sym (stays node.view.version) ∙ ap (λ view. ring_of view added) (sym sees.view_is);
+        ring_is =
+            sees.ring_is ∙ ap (λ view. ring_of view places) sees.view_is ∙ sym (stays node.view.version)
+            ∙ ap (λ view. ring_of view added) (sym sees.view_is);
       }
 
 -- nobody has seen anything at first
-new_sees : (settings : Settings) (views : ViewsValue) (places : PlacesValue) (silo : Silo) → IsViews views → SeesItsVersion views places (new_node settings silo)
+new_sees : (settings : Settings) (views : ViewsValue) (places : PlacesValue) (silo : Silo) → IsViews views
+    → SeesItsVersion views places (new_node settings silo)
 new_sees settings views places silo whole = record {
   within = omega arith;
   view_is = ap (λ rows. record { version = 0; rows = rows }) (sym (first_is_empty views whole));
   ring_is = refl;
 }
 
-joining : (settings : Settings) (views next : ViewsValue) (places added : PlacesValue) (silo : Silo) (given : List ℕ) → AreViews settings views places → change.after_join views silo ≡ Ok next → after_add places silo given ≡ Ok added
+joining : (settings : Settings) (views next : ViewsValue) (places added : PlacesValue) (silo : Silo) (given : List ℕ)
+    → AreViews settings views places → change.after_join views silo ≡ Ok next → after_add places silo given ≡ Ok added
     → GoesOn seen_facts settings views places next added × SeesItsVersion next added (new_node settings silo)
 joining settings views next places added silo given are viewed placed =
     let whole = next_whole settings views next places (change.Join silo) are viewed in
@@ -83,7 +91,8 @@ joining settings views next places added silo given are viewed placed =
           hashing = ap (λ p. p.hashing) (sym made) ∙ are.hashing;
           points = ap (λ p. p.points) (sym made) ∙ are.points;
           added = subst (λ (v : ViewsValue). AllAdded added (keys_of v.rows)) (sym join.is)
-              (added_joined added silo (views.version + 1) views.rows (added_more places added silo given (keys_of views.rows) placed are.added) (added_itself places added silo given placed));
+              (added_joined added silo (views.version + 1) views.rows
+              (added_more places added silo given (keys_of views.rows) placed are.added) (added_itself places added silo given placed));
         };
         nodes = λ other node sees. still_sees settings views next places (change.Join silo) are viewed added node
             (λ version. ring_stays places silo given added placed (view_at views version) (added_view views places version are.added)) sees;
@@ -92,7 +101,8 @@ joining settings views next places added silo given are viewed placed =
     )
 
 -- rows change, and no silo more has one
-rows_change : (settings : Settings) (views next : ViewsValue) (places : PlacesValue) (how : Row → Row) (silo : Silo) → IsViews next → next ≡ change.next_views views (change.changed how silo views.rows) → AreViews settings views places → AreViews settings next places
+rows_change : (settings : Settings) (views next : ViewsValue) (places : PlacesValue) (how : Row → Row) (silo : Silo) → IsViews next
+    → next ≡ change.next_views views (change.changed how silo views.rows) → AreViews settings views places → AreViews settings next places
 rows_change settings views next places how silo whole is are = record {
   whole = whole;
   limit = ap (λ v. v.limit) is ∙ are.limit;
@@ -101,21 +111,27 @@ rows_change settings views next places how silo whole is are = record {
   added = subst (λ (v : ViewsValue). AllAdded places (keys_of v.rows)) (sym is) (added_changed places how silo views.rows are.added);
 }
 
-going : (settings : Settings) (views next : ViewsValue) (places : PlacesValue) (way : change.Change) → IsGoing way → AreViews settings views places → change.after views way ≡ Ok next → GoesOn seen_facts settings views places next places
+going : (settings : Settings) (views next : ViewsValue) (places : PlacesValue) (way : change.Change) → IsGoing way
+    → AreViews settings views places → change.after views way ≡ Ok next → GoesOn seen_facts settings views places next places
 going settings views next places (change.Join silo) goes are is = absurd goes
 going settings views next places (change.Leave silo) goes are is = record {
-  shared = rows_change settings views next places (leaving (views.version + 1)) silo (next_whole settings views next places (change.Leave silo) are is)
+  shared =
+      rows_change settings views next places (leaving (views.version + 1)) silo
+      (next_whole settings views next places (change.Leave silo) are is)
       (leave_is views silo next (status_at views views.version silo) is).is are;
   nodes = λ other node sees. still_sees settings views next places (change.Leave silo) are is places node (λ version. refl) sees;
 }
 going settings views next places (change.Die silo) goes are is = record {
-  shared = rows_change settings views next places (dying (views.version + 1)) silo (next_whole settings views next places (change.Die silo) are is)
+  shared =
+      rows_change settings views next places (dying (views.version + 1)) silo
+      (next_whole settings views next places (change.Die silo) are is)
       (death_is views silo next (status_at views views.version silo) is).is are;
   nodes = λ other node sees. still_sees settings views next places (change.Die silo) are is places node (λ version. refl) sees;
 }
 
 -- ---- steps
-module _ (settings : Settings) (views : ViewsValue) (places : PlacesValue) (silo : Silo) (node : Node) (sees : SeesItsVersion views places node) where
+module _ (settings : Settings) (views : ViewsValue) (places : PlacesValue) (silo : Silo) (node : Node)
+    (sees : SeesItsVersion views places node) where
   abbrev Made : Input → at.Stepped → Type 0
   Made input stepped = Brings seen_facts settings views places silo input → SeesItsVersion views places stepped.node
 
@@ -127,7 +143,8 @@ module _ (settings : Settings) (views : ViewsValue) (places : PlacesValue) (silo
     ring_is = ring ∙ sees.ring_is ∙ ap (λ v. ring_of v places) (sym view);
   }
 
-  sighted : (before view : ViewValue) (brought : PlacesValue) (its : Node) → IsSight views places silo before view brought → its.view ≡ view → its.ring ≡ ring_of view brought → SeesItsVersion views places its
+  sighted : (before view : ViewValue) (brought : PlacesValue) (its : Node) → IsSight views places silo before view brought → its.view ≡ view
+      → its.ring ≡ ring_of view brought → SeesItsVersion views places its
   sighted before view brought its sight viewed ringed =
       let version : its.view.version ≡ sight.version = ap (λ v. v.version) (viewed ∙ sight.is_view) in
       let within = sight.within in
@@ -143,11 +160,14 @@ module _ (settings : Settings) (views : ViewsValue) (places : PlacesValue) (silo
     sees = λ before view brought newer numbers brings. sighted before view brought _ brings refl refl;
     wakes = λ grain may brings. stay _ refl refl;
     closes = λ grain held may brings. stay _ refl refl;
+    cancels = λ grain held may brings. stay _ refl refl;
     offers = λ grain held to may active other brings. stay _ refl refl;
     uses_hint = λ grain activation hint brings. stay _ refl refl;
     finds = λ grain room numbers brings. stay _ refl refl;
     forgets = λ grain activation hint brings. stay _ refl refl;
     nudges = λ numbers brings. stay _ refl refl;
+    nudges_grain = λ grain numbers brings. stay _ refl refl;
+    nudges_ranges = λ brings. sees;
     answers = λ letter request body sender version brings. stay _ refl refl;
     confirms = λ letter number entry e is there brings. stay _ refl refl;
     yields = λ letter number entry e is there brings. stay _ refl refl;
@@ -179,10 +199,14 @@ seen_keep = record {
     points = refl;
     added = All-nil _;
   };
-  joining = λ settings views next places added silo given named are viewed placed. joining settings views next places added silo given are viewed placed;
+  joining =
+      λ settings views next places added silo given named are viewed placed. joining settings views next places added silo given are viewed
+      placed;
   going = going;
   stepping = λ settings views places silo node input stepped before is. record {
-    node = by_way node (Made settings views places silo node before.node) (ways settings views places silo node before.node) input stepped is before.brings;
+    node =
+        by_way node (Made settings views places silo node before.node) (ways settings views places silo node before.node) input stepped is
+        before.brings;
     letters = λ k d below. tt;
   };
 }

@@ -21,10 +21,11 @@ use Rattle.directory_rules.specs.declared.act.Act.{Act}
 use Rattle.directory_rules.specs.declared.act.Act.TheVariants.{Register, Deregister, Find}
 use Rattle.directory_rules.specs.declared.reply.Reply.{Reply}
 use Rattle.directory_rules.specs.declared.reply.Reply.TheVariants.{Registered, Taken, Removed, Absent}
-use Rattle.directory_rules.specs.Table.{Table, entry_at, with_entry, without_grain, table_of, rise_by_grain}
+use Rattle.directory_rules.specs.State.{Table}
+use Rattle.directory_rules.specs.Table.{entry_at, with_entry, without_grain, table_of, rise_by_grain}
 use Rattle.directory_rules.specs.Answer.{Turned, turned, registered_over, deregistered_from, is_previous}
 use Rattle.directory_rules.specs.Recovery.{with_reported}
-use Rattle.directory_rules.specs.Sent.{grain_of}
+use Rattle.directory_rules.specs.Host.{grain_of}
 use Rattle.directory_rules.proofs.Cases.{on_bool}
 use Rattle.directory_rules.proofs.RisingTables.{rising_sorted}
 use Rattle.directory_facts.specs.Pieces.{IsHashedInto, IsTableOf}
@@ -55,27 +56,38 @@ order_taken table grain is = record {
   own_grain = all_removed (λ e. e.0 ≡ e.1.grain) (is_at (grain_cmp grain)) table is.own_grain;
 }
 
-all_filtered : {X : Type 0} (P : Grain → Type 0) (test : Grain × X → Bool) (es : List (Grain × X)) → AllByRecursion P (keys_of es) → AllByRecursion P (keys_of (filter test es))
+all_filtered : {X : Type 0} (P : Grain → Type 0) (test : Grain × X → Bool) (es : List (Grain × X)) → AllByRecursion P (keys_of es)
+    → AllByRecursion P (keys_of (filter test es))
 all_filtered P test [] all = all
 all_filtered P test (e ∷ es) all =
-    on_bool (λ b. AllByRecursion P (keys_of (cond b (e ∷ filter test es) (filter test es)))) (test e) (λ t. (all.0, all_filtered P test es all.1)) (λ f. all_filtered P test es all.1)
+    on_bool (λ b. AllByRecursion P (keys_of (cond b (e ∷ filter test es) (filter test es)))) (test e)
+    (λ t. (all.0, all_filtered P test es all.1)) (λ f. all_filtered P test es all.1)
 
-sorted_filtered : {X : Type 0} (test : Grain × X → Bool) (es : List (Grain × X)) → IsStrictlySortedBy grain_cmp (keys_of es) → IsStrictlySortedBy grain_cmp (keys_of (filter test es))
+sorted_filtered : {X : Type 0} (test : Grain × X → Bool) (es : List (Grain × X)) → IsStrictlySortedBy grain_cmp (keys_of es)
+    → IsStrictlySortedBy grain_cmp (keys_of (filter test es))
 unfolding IsStrictlySortedBy
 sorted_filtered test [] sorted = sorted
 sorted_filtered test (e ∷ es) sorted =
     on_bool (λ b. IsStrictlySortedBy grain_cmp (keys_of (cond b (e ∷ filter test es) (filter test es)))) (test e)
-    (λ t. (all_filtered (λ y. grain_cmp e.0 y ≡ Less) test es sorted.0, sorted_filtered test es sorted.1)) (λ f. sorted_filtered test es sorted.1)
+    (λ t. (all_filtered (λ y. grain_cmp e.0 y ≡ Less) test es sorted.0, sorted_filtered test es sorted.1))
+    (λ f. sorted_filtered test es sorted.1)
 
 pub order_filtered : (test : Grain × Entry → Bool) (table : Table) → InOrder table → InOrder (filter test table)
-order_filtered test table is = record { by_grain = sorted_filtered test table is.by_grain; own_grain = All-filter test (λ e. e.0 ≡ e.1.grain) table is.own_grain }
+order_filtered test table is =
+    record { by_grain = sorted_filtered test table is.by_grain; own_grain = All-filter test (λ e. e.0 ≡ e.1.grain) table is.own_grain }
 
 -- ---- entries that rise make a table
 pub order_rising : (entries : List Entry) → rise_by_grain entries ≡ true → InOrder (table_of entries)
-order_rising entries rise = record { by_grain = rising_sorted entries rise; own_grain = All-map (λ e. e.0 ≡ e.1.grain) (λ (entry : Entry). (entry.grain, entry)) entries (λ k d below. refl) }
+order_rising entries rise =
+    record {
+      by_grain = rising_sorted entries rise;
+      own_grain = All-map (λ e. e.0 ≡ e.1.grain) (λ (entry : Entry). (entry.grain, entry))
+          entries (λ k d below. refl);
+    }
 
 -- ---- tables of ranges
-pub in_range : (hashing : Hashing) (range : Range) (table : Table) → InOrder table → All (λ e. IsHashedInto hashing range e.1) table → IsTableOf hashing range table
+pub in_range : (hashing : Hashing) (range : Range) (table : Table) → InOrder table → All (λ e. IsHashedInto hashing range e.1) table
+    → IsTableOf hashing range table
 in_range hashing range table is placed = record { by_grain = is.by_grain; own_grain = is.own_grain; placed = placed }
 
 in_order : (hashing : Hashing) (range : Range) (table : Table) → IsTableOf hashing range table → InOrder table
@@ -84,47 +96,66 @@ in_order hashing range table is = record { by_grain = is.by_grain; own_grain = i
 pub table_nil : (hashing : Hashing) (range : Range) → IsTableOf hashing range []
 table_nil hashing range = in_range hashing range [] order_nil (All-nil _)
 
-pub table_put : (hashing : Hashing) (range : Range) (table : Table) (entry : Entry) → IsTableOf hashing range table → IsHashedInto hashing range entry → IsTableOf hashing range (with_entry table entry)
+pub table_put : (hashing : Hashing) (range : Range) (table : Table) (entry : Entry) → IsTableOf hashing range table
+    → IsHashedInto hashing range entry → IsTableOf hashing range (with_entry table entry)
 table_put hashing range table entry is lies =
     in_range hashing range (with_entry table entry) (order_put table entry (in_order hashing range table is))
     (all_put grain_cmp grain_cmp_exact (λ e. IsHashedInto hashing range e.1) entry.grain entry table is.placed lies)
 
-table_taken : (hashing : Hashing) (range : Range) (table : Table) (grain : Grain) → IsTableOf hashing range table → IsTableOf hashing range (without_grain grain table)
+table_taken : (hashing : Hashing) (range : Range) (table : Table) (grain : Grain) → IsTableOf hashing range table
+    → IsTableOf hashing range (without_grain grain table)
 table_taken hashing range table grain is =
-    in_range hashing range (without_grain grain table) (order_taken table grain (in_order hashing range table is)) (all_removed (λ e. IsHashedInto hashing range e.1) (is_at (grain_cmp grain)) table is.placed)
+    in_range hashing range (without_grain grain table) (order_taken table grain (in_order hashing range table is))
+    (all_removed (λ e. IsHashedInto hashing range e.1) (is_at (grain_cmp grain)) table is.placed)
 
-pub table_rising : (hashing : Hashing) (range : Range) (entries : List Entry) → rise_by_grain entries ≡ true → All (IsHashedInto hashing range) entries → IsTableOf hashing range (table_of entries)
-table_rising hashing range entries rise lie = in_range hashing range (table_of entries) (order_rising entries rise) (All-map (λ e. IsHashedInto hashing range e.1) (λ (entry : Entry). (entry.grain, entry)) entries lie)
+pub table_rising : (hashing : Hashing) (range : Range) (entries : List Entry) → rise_by_grain entries ≡ true
+    → All (IsHashedInto hashing range) entries → IsTableOf hashing range (table_of entries)
+table_rising hashing range entries rise lie =
+    in_range hashing range (table_of entries) (order_rising entries rise)
+    (All-map (λ e. IsHashedInto hashing range e.1) (λ (entry : Entry). (entry.grain, entry)) entries lie)
 
 -- reports of the range's grains
-table_reported : (hashing : Hashing) (range : Range) (table : Table) (entry : Entry) → IsTableOf hashing range table → IsHashedInto hashing range entry → IsTableOf hashing range (with_reported table entry)
+table_reported : (hashing : Hashing) (range : Range) (table : Table) (entry : Entry) → IsTableOf hashing range table
+    → IsHashedInto hashing range entry → IsTableOf hashing range (with_reported table entry)
 table_reported hashing range table entry is lies =
-    on_bool (λ b. IsTableOf hashing range (cond b table (with_entry table entry))) (is_some (entry_at entry.grain table)) (λ t. is) (λ f. table_put hashing range table entry is lies)
+    on_bool (λ b. IsTableOf hashing range (cond b table (with_entry table entry))) (is_some (entry_at entry.grain table)) (λ t. is)
+    (λ f. table_put hashing range table entry is lies)
 
-pub table_union : (hashing : Hashing) (range : Range) (entries : List Entry) (table : Table) → IsTableOf hashing range table → All (IsHashedInto hashing range) entries → IsTableOf hashing range (fold with_reported table entries)
+pub table_union : (hashing : Hashing) (range : Range) (entries : List Entry) (table : Table) → IsTableOf hashing range table
+    → All (IsHashedInto hashing range) entries → IsTableOf hashing range (fold with_reported table entries)
 table_union hashing range [] table is lie = is
 table_union hashing range (entry ∷ entries) table is lie =
-    table_union hashing range entries (with_reported table entry) (table_reported hashing range table entry is (All-head (IsHashedInto hashing range) entry entries lie)) (All-tail (IsHashedInto hashing range) entry entries lie)
+    table_union hashing range entries (with_reported table entry)
+    (table_reported hashing range table entry is (All-head (IsHashedInto hashing range) entry entries lie))
+    (All-tail (IsHashedInto hashing range) entry entries lie)
 
 -- ---- a table's turn
 abbrev turn : Reply → Table → Turned
 turn reply table = record { reply = reply; table = table }
 
-registered_so : (hashing : Hashing) (range : Range) (there : Option Entry) (entry : Entry) (previous : Option ActivationId) (table : Table) → IsTableOf hashing range table → IsHashedInto hashing range entry
+registered_so : (hashing : Hashing) (range : Range) (there : Option Entry) (entry : Entry) (previous : Option ActivationId) (table : Table)
+    → IsTableOf hashing range table → IsHashedInto hashing range entry
     → IsTableOf hashing range (registered_over there entry previous table).table
 registered_so hashing range None entry previous table is lies = table_put hashing range table entry is lies
 registered_so hashing range (Some there) entry previous table is lies =
-    on_bool (λ b. IsTableOf hashing range (cond b (turn (Registered entry) table) (cond (is_previous previous there) (turn (Registered entry) (with_entry table entry)) (turn (Taken there) table))).table) (activation_eq there.activation entry.activation)
+    on_bool (λ b. IsTableOf hashing range (cond b (turn (Registered entry) table)
+    (cond (is_previous previous there) (turn (Registered entry) (with_entry table entry)) (turn (Taken there) table))).table)
+    (activation_eq there.activation entry.activation)
     (λ t. is)
-    (λ f. on_bool (λ b. IsTableOf hashing range (cond b (turn (Registered entry) (with_entry table entry)) (turn (Taken there) table)).table) (is_previous previous there) (λ t. table_put hashing range table entry is lies) (λ g. is))
+    (λ f. on_bool (λ b. IsTableOf hashing range (cond b (turn (Registered entry) (with_entry table entry))
+    (turn (Taken there) table)).table) (is_previous previous there) (λ t. table_put hashing range table entry is lies) (λ g. is))
 
-deregistered_so : (hashing : Hashing) (range : Range) (there : Option Entry) (entry : Entry) (table : Table) → IsTableOf hashing range table → IsTableOf hashing range (deregistered_from there entry table).table
+deregistered_so : (hashing : Hashing) (range : Range) (there : Option Entry) (entry : Entry) (table : Table) → IsTableOf hashing range table
+    → IsTableOf hashing range (deregistered_from there entry table).table
 deregistered_so hashing range None entry table is = is
 deregistered_so hashing range (Some there) entry table is =
-    on_bool (λ b. IsTableOf hashing range (cond b (turn Removed (without_grain entry.grain table)) (turn Absent table)).table) (activation_eq there.activation entry.activation)
+    on_bool (λ b. IsTableOf hashing range (cond b (turn Removed (without_grain entry.grain table)) (turn Absent table)).table)
+    (activation_eq there.activation entry.activation)
     (λ t. table_taken hashing range table entry.grain is) (λ f. is)
 
-pub table_turned : (hashing : Hashing) (range : Range) (act : Act) (table : Table) → IsTableOf hashing range table → holds range (hash_grain hashing (grain_of act)) ≡ true → IsTableOf hashing range (turned act table).table
-table_turned hashing range (Register entry previous) table is lies = registered_so hashing range (entry_at entry.grain table) entry previous table is lies
+pub table_turned : (hashing : Hashing) (range : Range) (act : Act) (table : Table) → IsTableOf hashing range table
+    → holds range (hash_grain hashing (grain_of act)) ≡ true → IsTableOf hashing range (turned act table).table
+table_turned hashing range (Register entry previous) table is lies =
+    registered_so hashing range (entry_at entry.grain table) entry previous table is lies
 table_turned hashing range (Deregister entry) table is lies = deregistered_so hashing range (entry_at entry.grain table) entry table is
 table_turned hashing range (Find grain) table is lies = is

@@ -6,8 +6,7 @@ use Rattle.silo_address.specs.declared.Entry.{Entry}
 use Rattle.directory_rules.specs.declared.piece_state.PieceState.{PieceState}
 use Rattle.directory_rules.specs.declared.piece_state.PieceState.TheVariants.{Settled, Awaiting, Recovering}
 use Rattle.directory_rules.specs.Host.{entry_of}
-use Rattle.directory_rules.specs.Table.{Table}
-use Rattle.directory_rules.specs.Node.{Node}
+use Rattle.directory_rules.specs.State.{Table, Node}
 
 -- the entry is a grain's, and of an activation on a silo, by a count below 2^64
 pub record IsNamed (entry : Entry) : Type 0 where

@@ -8,12 +8,11 @@ use Rattle.hash_ring.specs.declared.Hashing.{Hashing}
 use Rattle.hash_ring.specs.Hash.{hash_grain}
 use Rattle.directory_rules.specs.declared.act.Request.{Request}
 use Rattle.directory_rules.specs.Settings.{Settings}
-use Rattle.directory_rules.specs.Table.{Table, entry_at}
-use Rattle.directory_rules.specs.Piece.{Piece, Holding}
+use Rattle.directory_rules.specs.State.{Table, Piece, Holding, Node}
+use Rattle.directory_rules.specs.Table.{entry_at}
 use Rattle.directory_rules.specs.Answer.{turned, serving_piece, answered}
 use Rattle.directory_rules.specs.Sight.{all_entries}
-use Rattle.directory_rules.specs.Sent.{grain_of}
-use Rattle.directory_rules.specs.Node.{Node}
+use Rattle.directory_rules.specs.Host.{grain_of}
 use Rattle.directory_rules.specs.Event.{Event}
 use Rattle.directory_rules.specs.Laws.{IsReached}
 use Rattle.directory_facts.specs.Whole.{entry_in}

@@ -7,11 +7,8 @@ use Rattle.directory_rules.specs.declared.act.Act.{Act}
 use Rattle.directory_rules.specs.declared.act.Act.TheVariants.{Register, Deregister, Find}
 use Rattle.directory_rules.specs.declared.act.Request.{Request}
 use Rattle.directory_rules.specs.Settings.{Settings}
-use Rattle.directory_rules.specs.Recovery.{Report}
-use Rattle.directory_rules.specs.Sent.{grain_of}
-use Rattle.directory_rules.specs.Host.{Host}
-use Rattle.directory_rules.specs.Letter.{Letter, Body, Request_letter, Reply_letter, Ask_letter, Page_letter, Missing_letter, Done_letter, Query_letter, Report_letter, Behind_letter, Ahead_letter, Offer_letter}
-use Rattle.directory_rules.specs.Node.{Node}
+use Rattle.directory_rules.specs.State.{Report, Host, Letter, Body, Request_letter, Reply_letter, Ask_letter, Page_letter, Missing_letter, Done_letter, Query_letter, Report_letter, Behind_letter, Ahead_letter, Offer_letter, Node}
+use Rattle.directory_rules.specs.Host.{grain_of}
 
 -- the host holds one activation a grain
 abbrev pub HoldsOnce : Host → Type 0

@@ -8,11 +8,7 @@ use Rattle.ring_range.specs.Range.{Range, IsRange, holds}
 use Rattle.hash_ring.specs.declared.Hashing.{Hashing}
 use Rattle.hash_ring.specs.Hash.{hash_grain}
 use Rattle.directory_rules.specs.declared.piece_state.PieceState.TheVariants.{Settled}
-use Rattle.directory_rules.specs.Table.{Table}
-use Rattle.directory_rules.specs.Piece.{Piece}
-use Rattle.directory_rules.specs.Gatherings.{Gathering}
-use Rattle.directory_rules.specs.Recovery.{Recovery}
-use Rattle.directory_rules.specs.Node.{Node}
+use Rattle.directory_rules.specs.State.{Table, Piece, Gathering, Recovery, Node}
 
 -- the entry's grain is hashed into the range
 abbrev pub IsHashedInto : Hashing → Range → Entry → Type 0

@@ -5,7 +5,7 @@ use Rattle.membership_view.specs.Views.{ViewsValue, view_at, row_of}
 use Rattle.hash_ring.specs.Places.{PlacesValue, is_added}
 use Rattle.hash_ring.specs.Ring.{ring_of}
 use Rattle.directory_rules.specs.Settings.{Settings}
-use Rattle.directory_rules.specs.Node.{Node}
+use Rattle.directory_rules.specs.State.{Node}
 
 -- the node has seen a version that there is; its view is that of the version, and its ring is the ring of that view
 pub record SeesItsVersion (views : ViewsValue) (places : PlacesValue) (node : Node) : Type 0 where

@@ -4,12 +4,11 @@ use Rattle.std.specs.List.{range_with_len}
 use Rattle.silo_address.specs.declared.Entry.{Entry}
 use Rattle.ring_range.specs.Range.{Range}
 use Rattle.directory_rules.specs.declared.piece_state.PieceState.TheVariants.{Settled}
-use Rattle.directory_rules.specs.Table.{Table, table_of}
-use Rattle.directory_rules.specs.Snapshot.{Snapshot, Page, page_count, page_of}
+use Rattle.directory_rules.specs.State.{Table, Snapshot, Page, Report, Letter, Node}
+use Rattle.directory_rules.specs.Table.{table_of}
+use Rattle.directory_rules.specs.Snapshot.{page_count, page_of}
 use Rattle.directory_rules.specs.Gatherings.{Gathered, Wants_page, Has_all, Refuses, new_gathering, gathered}
-use Rattle.directory_rules.specs.Recovery.{Report, Has_union, recovered}
-use Rattle.directory_rules.specs.Letter.{Letter}
-use Rattle.directory_rules.specs.Node.{Node}
+use Rattle.directory_rules.specs.Recovery.{Has_union, recovered}
 use Rattle.directory_rules.specs.Sent.{gathering_of, recovery_of}
 use Rattle.directory_rules.specs.Transfer.{piece_at, is_page_awaited, paged, is_report_awaited, reported}
 

@@ -6,10 +6,10 @@ use Rattle.ring_range.specs.Range.{Range, IsRange, EachRange, EachHash, holds}
 use Rattle.directory_rules.specs.declared.act.Request.{Request}
 use Rattle.directory_rules.specs.declared.piece_state.PieceState.{PieceState}
 use Rattle.directory_rules.specs.Table.{entry_at}
-use Rattle.directory_rules.specs.Piece.{Piece, Holding}
+use Rattle.directory_rules.specs.State.{Piece, Holding}
 use Rattle.directory_rules.specs.Sight.{was_settled}
 use Rattle.directory_rules.specs.Answer.{piece_with, answered}
-use Rattle.directory_rules.specs.Sent.{grain_of}
+use Rattle.directory_rules.specs.Host.{grain_of}
 use Rattle.directory_rules.specs.Laws.{lies_settled}
 
 -- each piece stands under the start of its range

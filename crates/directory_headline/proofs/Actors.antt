@@ -19,7 +19,7 @@ abbrev pub IsBy : Silo → Action → Type 0
 IsBy silo New_view = ⊥
 IsBy silo (See x) = x.silo ≡ silo
 IsBy silo (Start s g previous) = s ≡ silo
-IsBy silo (Close s g count) = s ≡ silo
+IsBy silo (Close s g x) = s ≡ silo
 IsBy silo (Offer_away s g count) = s ≡ silo
 IsBy silo (Renew s g x purpose) = s ≡ silo
 IsBy silo (Find s) = s ≡ silo
@@ -59,7 +59,8 @@ grows_on w between later a b = record {
   offers = λ x s. b.offers x (a.offers x s);
 }
 
-pub leaves_on : (silo : Silo) (w between later : World) → LeavesOthers silo w between → LeavesOthers silo between later → LeavesOthers silo w later
+pub leaves_on : (silo : Silo) (w between later : World) → LeavesOthers silo w between → LeavesOthers silo between later
+    → LeavesOthers silo w later
 leaves_on silo w between later a b = record {
   now = b.now ∙ a.now;
   others = λ q apart. b.others q apart ∙ a.others q apart;
@@ -83,7 +84,8 @@ same_state x y a b c d e f g =
     ap (λ (v : ℕ). let z : SiloState = record x { seen = v } in z) a
     ∙ ap (λ (v : ℕ → Bool). let z : SiloState = record x { seen = y.seen; settled = v } in z) b
     ∙ ap (λ (v : Grain → Option ActivationId). let z : SiloState = record x { seen = y.seen; settled = y.settled; table = v } in z) c
-    ∙ ap (λ (v : Grain → Option Held). let z : SiloState = record y { held = v; next_number = x.next_number; next_count = x.next_count; served = x.served } in z) d
+    ∙ ap (λ (v : Grain → Option Held).
+    let z : SiloState = record y { held = v; next_number = x.next_number; next_count = x.next_count; served = x.served } in z) d
     ∙ ap (λ (v : ℕ). let z : SiloState = record y { next_number = v; next_count = x.next_count; served = x.served } in z) e
     ∙ ap (λ (v : ℕ). let z : SiloState = record y { next_count = v; served = x.served } in z) f
     ∙ ap (λ (v : Silo → ℕ). let z : SiloState = record y { served = v } in z) g
@@ -94,7 +96,8 @@ leaves_after m w (See x) silo is = record {
   now = refl;
   others = λ q apart.
       let away : q ≢ x.silo = λ e. apart (e ∙ is) in
-      same_state _ (state_of w q) (put_other x.silo x.version w.seen q away) (put_other x.silo x.kept w.settled q away) (put_other x.silo _ w.table q away)
+      same_state _ (state_of w q) (put_other x.silo x.version w.seen q away) (put_other x.silo x.kept w.settled q away)
+      (put_other x.silo _ w.table q away)
       refl refl refl (put_other x.silo _ w.served q away);
   grows = record { requests = λ y s. s; replies = λ y s. s; snapshots = λ y s. inr s; reports = λ y s. s; offers = λ y s. s };
 }
@@ -102,10 +105,11 @@ leaves_after m w (Start s g previous) silo is = record {
   now = refl;
   others = λ q apart.
       let away : q ≢ s = λ e. apart (e ∙ is) in
-      same_state _ (state_of w q) refl refl refl (put_at_elsewhere s g _ w.held q away) (put_other s _ w.next_number q away) (put_other s _ w.next_count q away) refl;
+      same_state _ (state_of w q) refl refl refl (put_at_elsewhere s g _ w.held q away) (put_other s _ w.next_number q away)
+      (put_other s _ w.next_count q away) refl;
   grows = record { requests = λ y s. inr s; replies = λ y s. s; snapshots = λ y s. s; reports = λ y s. s; offers = λ y s. s };
 }
-leaves_after m w (Close s g count) silo is = record {
+leaves_after m w (Close s g x) silo is = record {
   now = refl;
   others = λ q apart.
       let away : q ≢ s = λ e. apart (e ∙ is) in
@@ -137,7 +141,8 @@ leaves_after m w (Serve x) silo is = record {
   now = refl;
   others = λ q apart.
       let away : q ≢ x.server = λ e. apart (e ∙ is) in
-      same_state _ (state_of w q) refl refl (put_at_elsewhere x.server _ _ w.table q away) refl refl refl (put_other x.server _ w.served q away);
+      same_state _ (state_of w q) refl refl (put_at_elsewhere x.server _ _ w.table q away) refl refl refl
+      (put_other x.server _ w.served q away);
   grows = record { requests = λ y s. s; replies = λ y s. inr s; snapshots = λ y s. s; reports = λ y s. s; offers = λ y s. s };
 }
 leaves_after m w (Confirm y g x) silo is = record {
@@ -174,7 +179,8 @@ leaves_after m w (Recover x told) silo is = record {
   grows = record { requests = λ y s. s; replies = λ y s. s; snapshots = λ y s. s; reports = λ y s. s; offers = λ y s. s };
 }
 
-pub leaves_run : (m : Setting) (actions : List Action) (w : World) (silo : Silo) → AllBy silo actions → LeavesOthers silo w (run m actions w)
+pub leaves_run : (m : Setting) (actions : List Action) (w : World) (silo : Silo) → AllBy silo actions
+    → LeavesOthers silo w (run m actions w)
 leaves_run m [] w silo by = record { now = refl; others = λ q apart. refl; grows = grows_not w }
 leaves_run m (a ∷ rest) w silo by =
     leaves_on silo w (after m w a) (run m rest (after m w a)) (leaves_after m w a silo by.0) (leaves_run m rest (after m w a) silo by.1)

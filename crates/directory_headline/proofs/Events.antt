@@ -9,14 +9,14 @@ use Rattle.membership_view.specs.Changes as change
 use Rattle.hash_ring.specs.Places.{PlacesValue, after_add}
 use Rattle.directory_rules.specs.Membership as membership
 use Rattle.directory_rules.specs.Membership.{Die, is_seeable, joined_in}
-use Rattle.directory_rules.specs.Letter.{Letter, kind_of}
-use Rattle.directory_rules.specs.Node.{Node}
+use Rattle.directory_rules.specs.State.{Letter, Node, World, Accepted}
+use Rattle.directory_rules.specs.Letter.{kind_of}
 use Rattle.directory_rules.specs.Event.{Event, Join, Leave, Kill, See, Do, Deliver, Lose}
 use Rattle.directory_rules.specs.declared.outcome.Happening.{Happening}
 use Rattle.directory_rules.specs.declared.outcome.Happening.TheVariants.{Joined, Left, Saw, Did, Delivered, Lost}
 use Rattle.directory_rules.specs.Step.{Stepped}
 use Rattle.directory_rules.specs.Input.{Input, Sees, Does, Receives, sight_of, step}
-use Rattle.directory_rules.specs.World.{World, Accepted, membership_of}
+use Rattle.directory_rules.specs.World.{membership_of}
 use Rattle.directory_rules.specs.Mail.{letter_of, with_sent, has_room_for, span_of, with_delivered, with_lost}
 use Rattle.directory_rules.specs.Happens as rule
 use Rattle.directory_rules.proofs.Decided.{made, decided, join_makes, leave_is, death_is, died}
@@ -41,8 +41,10 @@ accepted_step world silo happening stepped = record {
 -- what is to be shown of every way
 pub record EventWays (world : World) (P : Accepted → Type 0) : Type 0 where
   pub joins :
-      (silo : Silo) (given : List ℕ) (next : ViewsValue) (added : PlacesValue) → change.after_join world.views silo ≡ Ok next → after_add world.places silo given ≡ Ok added
-      → P (rule.tells (rule.after_joining world silo (change.occupant silo world.views.rows) next added) (Joined next.version silo (change.occupant silo world.views.rows)))
+      (silo : Silo) (given : List ℕ) (next : ViewsValue) (added : PlacesValue) → change.after_join world.views silo ≡ Ok next
+      → after_add world.places silo given ≡ Ok added
+      → P (rule.tells (rule.after_joining world silo (change.occupant silo world.views.rows) next added)
+      (Joined next.version silo (change.occupant silo world.views.rows)))
   pub leaves :
       (silo : Silo) → change.after world.views (change.Leave silo) ≡ Ok (change.with_leave world.views silo)
       → P (rule.tells (record world { views = change.with_leave world.views silo }) (Left (world.views.version + 1) silo))
@@ -50,12 +52,15 @@ pub record EventWays (world : World) (P : Accepted → Type 0) : Type 0 where
   pub sees :
       (silo : Silo) (version : ℕ) (node : Node) (stepped : Stepped) → rule.node_of world silo ≡ Some node
       → IsSight world.views world.places silo (view_at world.views (version - 1)) (view_at world.views version) world.places
-      → step node (sight_of (membership_of world) version) ≡ Ok stepped → P (accepted_step world silo (Saw silo version stepped.effect) stepped)
+      → step node (sight_of (membership_of world) version) ≡ Ok stepped
+      → P (accepted_step world silo (Saw silo version stepped.effect) stepped)
   pub does :
-      (silo : Silo) (input : Input) (node : Node) (stepped : Stepped) → IsOwnInput input → rule.node_of world silo ≡ Some node → step node input ≡ Ok stepped
+      (silo : Silo) (input : Input) (node : Node) (stepped : Stepped) → IsOwnInput input → rule.node_of world silo ≡ Some node
+      → step node input ≡ Ok stepped
       → P (accepted_step world silo (Did silo stepped.effect) stepped)
   pub delivers :
-      (number : ℕ) (letter : Letter) (node : Node) (stepped : Stepped) → letter_of world number ≡ Some letter → rule.node_of world letter.to ≡ Some node
+      (number : ℕ) (letter : Letter) (node : Node) (stepped : Stepped) → letter_of world number ≡ Some letter
+      → rule.node_of world letter.to ≡ Some node
       → step node (Receives letter) ≡ Ok stepped
       → P (accepted_step (with_delivered world number letter) letter.to (Delivered number (kind_of letter.body) stepped.effect) stepped)
   pub loses : (number : ℕ) → P (rule.tells (with_lost world number) (Lost number))
@@ -72,14 +77,17 @@ module _ (world : World) (P : Accepted → Type 0) (w : EventWays world P) where
   when true number result then = then
   when false number result then = tt
 
-  taken : (its : World) (silo : Silo) (happening : Happening) (stepped : Stepped) → P (accepted_step its silo happening stepped) → Held (rule.taken its silo happening stepped)
+  taken : (its : World) (silo : Silo) (happening : Happening) (stepped : Stepped) → P (accepted_step its silo happening stepped)
+      → Held (rule.taken its silo happening stepped)
   taken its silo happening stepped made = unless (has_room_for its stepped.letters) 909 _ (λ room. made)
 
-  done_by : (node : Node) (input : Input) (result : Result Stepped ℕ) (silo : Silo) → IsOwnInput input → rule.node_of world silo ≡ Some node → step node input ≡ result → Held (rule.done_by result world silo)
+  done_by : (node : Node) (input : Input) (result : Result Stepped ℕ) (silo : Silo) → IsOwnInput input → rule.node_of world silo ≡ Some node
+      → step node input ≡ result → Held (rule.done_by result world silo)
   done_by node input (Err number) silo own there is = tt
   done_by node input (Ok stepped) silo own there is = taken world silo _ stepped (w.does silo input node stepped own there is)
 
-  does_at : (node : Option Node) (silo : Silo) (input : Input) → IsOwnInput input → rule.node_of world silo ≡ node → Held (rule.does_at node world silo input)
+  does_at : (node : Option Node) (silo : Silo) (input : Input) → IsOwnInput input → rule.node_of world silo ≡ node
+      → Held (rule.does_at node world silo input)
   does_at None silo input own there = tt
   does_at (Some node) silo input own there = done_by node input (step node input) silo own there refl
 
@@ -107,21 +115,28 @@ module _ (world : World) (P : Accepted → Type 0) (w : EventWays world P) where
 
   joins : (silo : Silo) (given : List ℕ) → Held (rule.decides world (membership.Join silo given))
   joins silo given = decided Held world (membership.Join silo given) (λ number. tt) (λ m is.
-      let makes = join_makes world.settings (membership_of world) m silo given is in w.joins silo given m.views m.places makes.viewed makes.added)
+      let makes = join_makes world.settings (membership_of world) m silo given is in
+      w.joins silo given m.views m.places makes.viewed makes.added)
 
   leaves : (silo : Silo) → Held (rule.decides world (membership.Leave silo))
   leaves silo = decided Held world (membership.Leave silo) (λ number. tt) (λ m is.
-      let its = leave_is world.settings (membership_of world) m silo is in subst (λ m. Held (made world (membership.Leave silo) m)) (sym its.0) (w.leaves silo its.1))
+      let its = leave_is world.settings (membership_of world) m silo is in
+      subst (λ m. Held (made world (membership.Leave silo) m)) (sym its.0) (w.leaves silo its.1))
 
   dies : (silo : Silo) → Held (rule.decides world (Die silo))
   dies silo = decided Held world (Die silo) (λ number. tt) (λ m is.
-      let its = death_is world.settings (membership_of world) m silo is in subst (λ m. Held (made world (Die silo) m)) (sym its.0) (w.dies silo its.1))
+      let its = death_is world.settings (membership_of world) m silo is in
+      subst (λ m. Held (made world (Die silo) m)) (sym its.0) (w.dies silo its.1))
 
-  delivered_by : (node : Node) (result : Result Stepped ℕ) (number : ℕ) (letter : Letter) → letter_of world number ≡ Some letter → rule.node_of world letter.to ≡ Some node → step node (Receives letter) ≡ result → Held (rule.delivered_by result world number letter)
+  delivered_by : (node : Node) (result : Result Stepped ℕ) (number : ℕ) (letter : Letter) → letter_of world number ≡ Some letter
+      → rule.node_of world letter.to ≡ Some node → step node (Receives letter) ≡ result
+      → Held (rule.delivered_by result world number letter)
   delivered_by node (Err refusal) number letter found there is = tt
-  delivered_by node (Ok stepped) number letter found there is = taken (with_delivered world number letter) letter.to _ stepped (w.delivers number letter node stepped found there is)
+  delivered_by node (Ok stepped) number letter found there is =
+      taken (with_delivered world number letter) letter.to _ stepped (w.delivers number letter node stepped found there is)
 
-  delivers_to : (node : Option Node) (number : ℕ) (letter : Letter) → letter_of world number ≡ Some letter → rule.node_of world letter.to ≡ node → Held (rule.delivers_to node world number letter)
+  delivers_to : (node : Option Node) (number : ℕ) (letter : Letter) → letter_of world number ≡ Some letter
+      → rule.node_of world letter.to ≡ node → Held (rule.delivers_to node world number letter)
   delivers_to None number letter found there = tt
   delivers_to (Some node) number letter found there = delivered_by node (step node (Receives letter)) number letter found there refl
 

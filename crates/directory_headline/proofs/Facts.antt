@@ -10,10 +10,7 @@ use Rattle.ring_range.specs.Range.{IsRange, holds}
 use Rattle.hash_ring.specs.Places.{IsPlaces}
 use Rattle.directory_rules.specs.declared.piece_state.PieceState.TheVariants.{Settled}
 use Rattle.directory_rules.specs.Settings.{AreSettings}
-use Rattle.directory_rules.specs.Piece.{Piece}
-use Rattle.directory_rules.specs.Letter.{Letter}
-use Rattle.directory_rules.specs.Node.{Node}
-use Rattle.directory_rules.specs.World.{World}
+use Rattle.directory_rules.specs.State.{Piece, Letter, Node, World}
 use Rattle.directory_rules.specs.Mail.{letter_of}
 use Rattle.directory_rules.specs.Happens.{node_of}
 use Rattle.directory_rules.specs.Laws.{ArePeopled, IsOfOneVersion, AreNumbered, HoldOnce}

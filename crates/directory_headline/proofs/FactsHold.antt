@@ -12,7 +12,7 @@ use Rattle.silo_address.specs.Silo.{silo_cmp}
 use Rattle.hash_ring.specs.Hash.{hash_grain}
 use Rattle.std.specs.Cmp.{nat_cmp_is}
 use Rattle.directory_rules.specs.Settings.{AreSettings}
-use Rattle.directory_rules.specs.Piece.{Piece}
+use Rattle.directory_rules.specs.State.{Piece}
 use Rattle.directory_rules.specs.Laws.{IsReached, IsOfOneVersion, HoldOnce}
 use Rattle.directory_rules.proofs.Nodes.{of_found}
 use Rattle.directory_rules.proofs.Numbered.{numbers_are_distinct}
@@ -29,7 +29,8 @@ use Rattle.directory_headline.proofs.Runs.{FactsHold}
 
 above : (key : ℕ) (es : List (ℕ × Piece)) → All (λ e. key < e.0) es → AllByRecursion (λ other. nat_cmp key other ≡ Less) (keys_of es)
 above key [] all = tt
-above key (e ∷ es) all = (sym (nat_cmp_is key e.0 Less (All-head (λ x. key < x.0) e es all)), above key es (All-tail (λ x. key < x.0) e es all))
+above key (e ∷ es) all =
+    (sym (nat_cmp_is key e.0 Less (All-head (λ x. key < x.0) e es all)), above key es (All-tail (λ x. key < x.0) e es all))
 
 sorted_keys : (es : List (ℕ × Piece)) → AllPairs (λ e later. e.0 < later.0) es → IsStrictlySortedBy nat_cmp (keys_of es)
 unfolding IsStrictlySortedBy
@@ -58,17 +59,22 @@ facts_hold settings events are named =
             sees = nodes_see settings events are silo node there;
             of_one_version = of_found IsOfOneVersion (is_at (silo_cmp silo)) f.nodes node (one_version settings events) there;
             numbered = numbers_are_distinct settings events silo node there;
-            once = subst (λ s. HoldOnce node.ring.points s node.holding.pieces) (sym own.host_is) (pieces_are_owned settings events silo node is).once;
+            once =
+                subst (λ s. HoldOnce node.ring.points s node.holding.pieces) (sym own.host_is)
+                (pieces_are_owned settings events silo node is).once;
             pieces = record {
               rising = sorted_keys node.holding.pieces has.pieces.rising;
-              under_start = All-weaker (λ e. facts.IsPiece settings.hashing e.0 e.1) (λ (e : ℕ × Piece). e.0 ≡ e.1.range.start) (λ e p. p.under) node.holding.pieces has.pieces.each;
-              each = All-weaker (λ e. facts.IsPiece settings.hashing e.0 e.1) (λ e. IsPiece (hash_grain settings.hashing) e.1) (λ e p. record {
-                range = p.range_is;
-                present = p.present;
-                table = record { by_grain = p.table.by_grain; own_grain = p.table.own_grain };
-                inside = p.table.placed;
-                empty = p.bare;
-              }) node.holding.pieces has.pieces.each;
+              under_start =
+                  All-weaker (λ e. facts.IsPiece settings.hashing e.0 e.1) (λ (e : ℕ × Piece). e.0 ≡ e.1.range.start) (λ e p. p.under)
+                  node.holding.pieces has.pieces.each;
+              each =
+                  All-weaker (λ e. facts.IsPiece settings.hashing e.0 e.1) (λ e. IsPiece (hash_grain settings.hashing) e.1) (λ e p. record {
+                    range = p.range_is;
+                    present = p.present;
+                    table = record { by_grain = p.table.by_grain; own_grain = p.table.own_grain };
+                    inside = p.table.placed;
+                    empty = p.bare;
+                  }) node.holding.pieces has.pieces.each;
             };
           };
       letters = λ number letter found. subst (λ s. IsOwnLetter s letter) (sym stay) (letters_are_own settings events number letter found);

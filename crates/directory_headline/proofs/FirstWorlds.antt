@@ -5,7 +5,8 @@ use Rattle.directory_protocol.specs.Setting.{Setting}
 use Rattle.directory_protocol.specs.World.{start}
 use Rattle.directory_protocol.proofs.Runs.{reached_start}
 use Rattle.directory_rules.specs.Settings.{Settings}
-use Rattle.directory_rules.specs.World.{Posted, first_world}
+use Rattle.directory_rules.specs.State.{Posted}
+use Rattle.directory_rules.specs.World.{first_world}
 use Rattle.directory_headline.specs.Shown.{Shown, IsShownLetter}
 use Rattle.directory_headline.proofs.Viewed.{Carried}
 

@@ -12,11 +12,9 @@ use Rattle.directory_protocol.specs.World as protocol
 use Rattle.directory_protocol.specs.Actions.{Action, Allowed}
 use Rattle.directory_protocol.specs.Effects.{after, run, AllAllowed}
 use Rattle.directory_protocol.specs.Safety.{IsReached}
-use Rattle.directory_rules.specs.Letter.{Letter}
-use Rattle.directory_rules.specs.Node.{Node}
+use Rattle.directory_rules.specs.State.{Letter, Node, World}
 use Rattle.directory_rules.specs.Step.{Stepped}
 use Rattle.directory_rules.specs.Input.{Input, Sees, Does, Receives}
-use Rattle.directory_rules.specs.World.{World}
 use Rattle.directory_rules.specs.Happens.{node_of}
 use Rattle.directory_rules.specs.Laws.{is_live}
 use Rattle.directory_facts.specs.Own.{IsOwnLetter}
@@ -57,14 +55,17 @@ pub record Moves (m : Setting) (w : protocol.World) (silo : Silo) (stepped : Ste
   pub letters : All (IsShownLetter m.hash (run m actions w)) stepped.letters
 
 -- no action
-pub stays : (m : Setting) (w : protocol.World) (silo : Silo) (stepped : Stepped) → IsShownNode m w stepped.node (state_of w silo) → All (IsShownLetter m.hash w) stepped.letters → Moves m w silo stepped
+pub stays : (m : Setting) (w : protocol.World) (silo : Silo) (stepped : Stepped) → IsShownNode m w stepped.node (state_of w silo)
+    → All (IsShownLetter m.hash w) stepped.letters → Moves m w silo stepped
 stays m w silo stepped node letters = record { actions = []; allowed = tt; by = tt; node = node; letters = letters }
 
 -- one action
 pub acts :
     (m : Setting) (w : protocol.World) (silo : Silo) (stepped : Stepped) (a : Action) → Allowed m w a → IsBy silo a
-    → IsShownNode m (after m w a) stepped.node (state_of (after m w a) silo) → All (IsShownLetter m.hash (after m w a)) stepped.letters → Moves m w silo stepped
-acts m w silo stepped a allowed by node letters = record { actions = a ∷ []; allowed = (allowed, tt); by = (by, tt); node = node; letters = letters }
+    → IsShownNode m (after m w a) stepped.node (state_of (after m w a) silo) → All (IsShownLetter m.hash (after m w a)) stepped.letters
+    → Moves m w silo stepped
+acts m w silo stepped a allowed by node letters =
+    record { actions = a ∷ []; allowed = (allowed, tt); by = (by, tt); node = node; letters = letters }
 
 pub no_letters : (P : Letter → Type 0) → All P []
 no_letters P = All-nil P
@@ -100,7 +101,8 @@ module _ (m : Setting) (f : World) (w : protocol.World) (silo : Silo) (node : No
   seen_is = node_shown.seen
 
   pub member_is : (s : Silo) → m.member node.view.version s ≡ is_member_in node.view s
-  member_is s = here.setting.member node.view.version s node_facts.sees.within ∙ ap (λ view. is_member_in view s) (sym node_facts.sees.view_is)
+  member_is s =
+      here.setting.member node.view.version s node_facts.sees.within ∙ ap (λ view. is_member_in view s) (sym node_facts.sees.view_is)
 
   pub alive_is : (s : Silo) → m.alive node.view.version s ≡ is_alive_in node.view s
   alive_is s = here.setting.alive node.view.version s node_facts.sees.within ∙ ap (λ view. is_alive_in view s) (sym node_facts.sees.view_is)

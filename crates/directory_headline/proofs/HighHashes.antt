@@ -16,7 +16,7 @@ use Rattle.hash_ring.specs.Owner.{owner_of, IsOwner, Owns}
 use Rattle.hash_ring.proofs.Nearness.{back_below}
 use Rattle.hash_ring.proofs.Ownership.{owner_is}
 use Rattle.range_moves.specs.Arcs.{owner_silo}
-use Rattle.directory_rules.specs.Piece.{Piece}
+use Rattle.directory_rules.specs.State.{Piece}
 use Rattle.directory_rules.specs.Answer.{piece_with}
 use Rattle.directory_rules.specs.Sight.{is_owner}
 use Rattle.directory_rules.specs.Laws.{HoldOnce}
@@ -54,10 +54,13 @@ holds_hash range number is held = hash_cases (λ h. holds range h ≡ true) numb
     lt-ltb _ _ (omega arith))
 
 -- ---- owners
-pub owner_above : (points : List Point) (number : ℕ) (owner : Point) → All IsOnCircle points → IsOwner points (hash_for number) owner → IsOwner points number owner
+pub owner_above : (points : List Point) (number : ℕ) (owner : Point) → All IsOnCircle points → IsOwner points (hash_for number) owner
+    → IsOwner points number owner
 owner_above points number owner on_circle is = record {
   there = is.there;
-  nearest = hash_cases (λ h. All (λ p. back h owner.place ≤ back h p.place) points → All (λ p. back number owner.place ≤ back number p.place) points) number (λ low near. near) (λ high near k d below.
+  nearest =
+      hash_cases (λ h. All (λ p. back h owner.place ≤ back h p.place) points
+      → All (λ p. back number owner.place ≤ back number p.place) points) number (λ low near. near) (λ high near k d below.
       let p = slice_index_or points k d in
       let its : owner.place < circle = All-contains IsOnCircle points owner on_circle is.there in
       let other : p.place < circle = on_circle k d below in
@@ -72,23 +75,28 @@ owner_above points number owner on_circle is = record {
 }
 
 -- the silo of the owning point owns
-pub owns_by : (points : List Point) (number : ℕ) (silo : Silo) → All IsOnCircle points → is_owner silo (owner_silo points (hash_for number)) ≡ true → Owns points silo number
+pub owns_by : (points : List Point) (number : ℕ) (silo : Silo) → All IsOnCircle points
+    → is_owner silo (owner_silo points (hash_for number)) ≡ true → Owns points silo number
 owns_by points number silo on_circle is = by (owner_of points (hash_for number)) refl is
   where
-    by : (o : Option Point) → owner_of points (hash_for number) ≡ o → is_owner silo (option_map (λ p. p.silo) o) ≡ true → Owns points silo number
+    by : (o : Option Point) → owner_of points (hash_for number) ≡ o → is_owner silo (option_map (λ p. p.silo) o) ≡ true
+        → Owns points silo number
     by None found its = absurd (cc (its))
-    by (Some p) found its = (p, owner_above points number p on_circle (owner_is points (hash_for number) p found), (Decides-silo p.silo silo).0 its)
+    by (Some p) found its =
+        (p, owner_above points number p on_circle (owner_is points (hash_for number) p found), (Decides-silo p.silo silo).0 its)
 
 -- ---- pieces
 abbrev Goes : ℕ → ℕ → ℕ × Piece → Type 0
 Goes hash other x = holds x.1.range hash ≡ true → holds x.1.range other ≡ true
 
-fewer_held : (hash other : ℕ) (pieces : List (ℕ × Piece)) → All (Goes hash other) pieces → count_by (λ e. holds e.1.range hash) pieces ≤ count_by (λ e. holds e.1.range other) pieces
+fewer_held : (hash other : ℕ) (pieces : List (ℕ × Piece)) → All (Goes hash other) pieces
+    → count_by (λ e. holds e.1.range hash) pieces ≤ count_by (λ e. holds e.1.range other) pieces
 fewer_held hash other [] so = omega arith
 fewer_held hash other (e ∷ es) so =
     by (holds e.1.range hash) refl (holds e.1.range other) refl (fewer_held hash other es (All-tail (Goes hash other) e es so))
   where
-    by : (b : Bool) → holds e.1.range hash ≡ b → (c : Bool) → holds e.1.range other ≡ c → count_by (λ x. holds x.1.range hash) es ≤ count_by (λ x. holds x.1.range other) es
+    by : (b : Bool) → holds e.1.range hash ≡ b → (c : Bool) → holds e.1.range other ≡ c
+        → count_by (λ x. holds x.1.range hash) es ≤ count_by (λ x. holds x.1.range other) es
         → count_by (λ x. holds x.1.range hash) (e ∷ es) ≤ count_by (λ x. holds x.1.range other) (e ∷ es)
     by true has false holds_not fewer = let it = All-head (Goes hash other) e es so has in absurd (cc (it, holds_not))
     by true has true holds_it fewer =
@@ -100,16 +108,21 @@ fewer_held hash other (e ∷ es) so =
         let two = counted_first other e es in
         omega (one, two, fewer, arith)
 
-module _ (points : List Point) (silo : Silo) (pieces : List (ℕ × Piece)) (once : HoldOnce points silo pieces) (ranged : All (λ e. IsRange e.1.range) pieces) where
+module _ (points : List Point) (silo : Silo) (pieces : List (ℕ × Piece)) (once : HoldOnce points silo pieces)
+    (ranged : All (λ e. IsRange e.1.range) pieces) where
   pub found_hash : (number : ℕ) (piece : Piece) → piece_with number pieces ≡ Some piece → piece_with (hash_for number) pieces ≡ Some piece
   found_hash number piece found =
-      one_piece number (hash_for number) pieces piece (at_most_one (is_owner silo (owner_silo points (hash_for number))) _ (once (hash_for number) (is_hash number))) found
-      (holds_hash piece.range number (of_found (λ e. IsRange e.1.range) number pieces piece ranged found).1 (found_holds number pieces piece found))
+      one_piece number (hash_for number) pieces piece
+      (at_most_one (is_owner silo (owner_silo points (hash_for number))) _ (once (hash_for number) (is_hash number))) found
+      (holds_hash piece.range number (of_found (λ e. IsRange e.1.range) number pieces piece ranged found).1
+      (found_holds number pieces piece found))
 
   -- the silo owns what lies in its pieces
-  pub found_owned : (number : ℕ) (piece : Piece) → piece_with number pieces ≡ Some piece → is_owner silo (owner_silo points (hash_for number)) ≡ true
+  pub found_owned : (number : ℕ) (piece : Piece) → piece_with number pieces ≡ Some piece
+      → is_owner silo (owner_silo points (hash_for number)) ≡ true
   found_owned number piece found =
-      some_counted (is_owner silo (owner_silo points (hash_for number))) _ (once (hash_for number) (is_hash number)) (found_counted (hash_for number) pieces piece (found_hash number piece found))
+      some_counted (is_owner silo (owner_silo points (hash_for number))) _ (once (hash_for number) (is_hash number))
+      (found_counted (hash_for number) pieces piece (found_hash number piece found))
 
   -- no number lies in two pieces
   pub held_once : (number : ℕ) → count_by (λ e. holds e.1.range number) pieces ≤ 1

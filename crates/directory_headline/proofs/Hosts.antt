@@ -11,12 +11,9 @@ use Rattle.directory_protocol.proofs.Changes.{grain_cases, put_at_same, put_at_o
 use Rattle.directory_protocol.specs.Setting.{Setting}
 use Rattle.directory_protocol.specs.World as protocol
 use Rattle.directory_rules.specs.declared.act.Act.{Act}
-use Rattle.directory_rules.specs.Host.{Host, held_of}
-use Rattle.directory_rules.specs.Cache.{Cache}
-use Rattle.directory_rules.specs.Letter.{Request_letter}
-use Rattle.directory_rules.specs.Node.{Node}
+use Rattle.directory_rules.specs.State.{Host, Cache, Request_letter, Node, World}
+use Rattle.directory_rules.specs.Host.{held_of}
 use Rattle.directory_rules.specs.Sent.{letter_to, hash_of, request_of, owner_by, letter_if_owned, request_letters}
-use Rattle.directory_rules.specs.World.{World}
 use Rattle.directory_headline.specs.SiloState.{state_of}
 use Rattle.directory_headline.specs.Shown.{held_as, IsShownHost, IsShownHolding, IsShownNode, IsShownLetter, IsShownRequest}
 use Rattle.directory_headline.proofs.Actors.{Grows}
@@ -30,7 +27,8 @@ pub record LeavesHolding (silo : Silo) (w later : protocol.World) : Type 0 where
   pub table : later.table silo ≡ w.table silo
   pub served : later.served silo ≡ w.served silo
 
-module _ (m : Setting) (f : World) (w : protocol.World) (silo : Silo) (node : Node) (here : Here m f w silo node) (later : protocol.World) where
+module _ (m : Setting) (f : World) (w : protocol.World) (silo : Silo) (node : Node) (here : Here m f w silo node)
+    (later : protocol.World) where
   pub holding_still : LeavesHolding silo w later → IsShownHolding m.hash node.holding (state_of later silo)
   holding_still leaves =
       let was = (node_shown m f w silo node here).holding in
@@ -41,7 +39,8 @@ module _ (m : Setting) (f : World) (w : protocol.World) (silo : Silo) (node : No
       }
 
   -- the node with another host and cache
-  pub host_changes : (host : Host) (cache : Cache) → LeavesHolding silo w later → Grows w later → IsShownHost host (state_of later silo) → IsShownNode m later (record node { host = host; cache = cache }) (state_of later silo)
+  pub host_changes : (host : Host) (cache : Cache) → LeavesHolding silo w later → Grows w later → IsShownHost host (state_of later silo)
+      → IsShownNode m later (record node { host = host; cache = cache }) (state_of later silo)
   host_changes host cache leaves grows shown =
       let was = node_shown m f w silo node here in
       record {
@@ -55,7 +54,8 @@ module _ (m : Setting) (f : World) (w : protocol.World) (silo : Silo) (node : No
 
 -- the letter of a request, if there is one, is shown where the request is
 pub request_shown :
-    (m : Setting) (later : protocol.World) (node : Node) (number : ℕ) (its : Act) → IsShownRequest later.requests (request_of node number its) its
+    (m : Setting) (later : protocol.World) (node : Node) (number : ℕ) (its : Act)
+    → IsShownRequest later.requests (request_of node number its) its
     → All (IsShownLetter m.hash later) (request_letters node number its)
 request_shown m later node number its is = by (owner_by node (hash_of node its))
   where
@@ -65,22 +65,30 @@ request_shown m later node number its is = by (owner_by node (hash_of node its))
 
 -- one activation changes, and its host has it so
 pub held_put :
-    (w : protocol.World) (silo : Silo) (grain : Grain) (o : Option protocol.Held) (before host : Host) → ((r : Grain) → w.held silo r ≡ option_map held_as (held_of before r))
-    → o ≡ option_map held_as (held_of host grain) → ((r : Grain) → r ≢ grain → held_of host r ≡ held_of before r) → (r : Grain) → put_at silo grain o w.held silo r ≡ option_map held_as (held_of host r)
+    (w : protocol.World) (silo : Silo) (grain : Grain) (o : Option protocol.Held) (before host : Host)
+    → ((r : Grain) → w.held silo r ≡ option_map held_as (held_of before r))
+    → o ≡ option_map held_as (held_of host grain) → ((r : Grain) → r ≢ grain → held_of host r ≡ held_of before r) → (r : Grain)
+    → put_at silo grain o w.held silo r ≡ option_map held_as (held_of host r)
 held_put w silo grain o before host was here there r =
     elim (grain_cases r grain) [
-      | inl same ↦ ap (λ g. put_at silo grain o w.held silo g) same ∙ put_at_same silo grain o w.held ∙ here ∙ ap (λ g. option_map held_as (held_of host g)) (sym same)
+      | inl same ↦ ap (λ g. put_at silo grain o w.held silo g) same ∙ put_at_same silo grain o w.held ∙ here
+          ∙ ap (λ g. option_map held_as (held_of host g)) (sym same)
       | inr apart ↦ put_at_other silo grain o w.held silo r (λ its. apart) ∙ was r ∙ ap (option_map held_as) (sym (there r apart))
     ]
 
 -- two requests are one where version, number, sender and count are
 pub same_request :
-    (purpose : letters.Purpose) (grain : Grain) (previous : Option ActivationId) (v v' n n' : ℕ) (s s' : Silo) (c c' : ℕ) → v ≡ v' → n ≡ n' → s ≡ s' → c ≡ c'
+    (purpose : letters.Purpose) (grain : Grain) (previous : Option ActivationId) (v v' n n' : ℕ) (s s' : Silo) (c c' : ℕ) → v ≡ v' → n ≡ n'
+    → s ≡ s' → c ≡ c'
     → let one : letters.Request = record { purpose = purpose; version = v; number = n; sender = s; grain = grain; count = c; previous = previous } in
     let other : letters.Request = record { purpose = purpose; version = v'; number = n'; sender = s'; grain = grain; count = c'; previous = previous } in
     one ≡ other
 same_request purpose grain previous v v' n n' s s' c c' version number sender count =
-    ap (λ (x : ℕ). let r : letters.Request = record { purpose = purpose; version = x; number = n; sender = s; grain = grain; count = c; previous = previous } in r) version
-    ∙ ap (λ (x : ℕ). let r : letters.Request = record { purpose = purpose; version = v'; number = x; sender = s; grain = grain; count = c; previous = previous } in r) number
-    ∙ ap (λ (x : Silo). let r : letters.Request = record { purpose = purpose; version = v'; number = n'; sender = x; grain = grain; count = c; previous = previous } in r) sender
-    ∙ ap (λ (x : ℕ). let r : letters.Request = record { purpose = purpose; version = v'; number = n'; sender = s'; grain = grain; count = x; previous = previous } in r) count
+    ap (λ (x : ℕ).
+    let r : letters.Request = record { purpose = purpose; version = x; number = n; sender = s; grain = grain; count = c; previous = previous } in r) version
+    ∙ ap (λ (x : ℕ).
+    let r : letters.Request = record { purpose = purpose; version = v'; number = x; sender = s; grain = grain; count = c; previous = previous } in r) number
+    ∙ ap (λ (x : Silo).
+    let r : letters.Request = record { purpose = purpose; version = v'; number = n'; sender = x; grain = grain; count = c; previous = previous } in r) sender
+    ∙ ap (λ (x : ℕ).
+    let r : letters.Request = record { purpose = purpose; version = v'; number = n'; sender = s'; grain = grain; count = x; previous = previous } in r) count

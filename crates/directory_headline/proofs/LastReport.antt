@@ -12,15 +12,13 @@ use Rattle.directory_protocol.specs.Letters as letters
 use Rattle.directory_protocol.specs.World as protocol
 use Rattle.directory_protocol.specs.Actions.{Recover, MayRecover}
 use Rattle.directory_rules.specs.declared.effect.Effect.TheVariants as effect
-use Rattle.directory_rules.specs.Table.{Table, entry_at}
-use Rattle.directory_rules.specs.Recovery.{Report, Recovery, Has_union, is_among, with_report, recovered}
+use Rattle.directory_rules.specs.State.{Table, Report, Recovery, Letter, Node, World}
+use Rattle.directory_rules.specs.Table.{entry_at}
+use Rattle.directory_rules.specs.Recovery.{Has_union, is_among, with_report, recovered}
 use Rattle.directory_rules.specs.Sight.{is_settled}
-use Rattle.directory_rules.specs.Letter.{Letter}
-use Rattle.directory_rules.specs.Node.{Node}
 use Rattle.directory_rules.specs.Sent.{recovery_of}
 use Rattle.directory_rules.specs.Step.{silently}
 use Rattle.directory_rules.specs.Transfer.{with_settled}
-use Rattle.directory_rules.specs.World.{World}
 use Rattle.directory_facts.proofs.Ways.{IsReportTaken}
 use Rattle.directory_facts.proofs.Collected.{TakenSo, taken_so}
 use Rattle.directory_headline.specs.Shown.{IsShownLetter, IsShownRecovery, HasReported, activation_in}
@@ -32,7 +30,8 @@ some_entry : (o : Option Entry) (a : ActivationId) → activation_in o ≡ Some 
 some_entry None a is = absurd (cc (is))
 some_entry (Some e) a is = (e, refl, cc (is))
 
-module _ (m : Setting) (sent : List letters.Report) (recovery : Recovery) (shown : IsShownRecovery m sent recovery) (nobody : recovery.awaiting ≡ []) (other : letters.Report) where
+module _ (m : Setting) (sent : List letters.Report) (recovery : Recovery) (shown : IsShownRecovery m sent recovery)
+    (nobody : recovery.awaiting ≡ []) (other : letters.Report) where
   reported : (silo : Silo) → m.member recovery.version silo ≡ true → HasReported m.hash sent recovery silo
   reported silo member =
       elim (shown.members silo member) [
@@ -48,17 +47,21 @@ module _ (m : Setting) (sent : List letters.Report) (recovery : Recovery) (shown
   pub told : Silo → letters.Report
   told silo = told_by silo (m.member recovery.version silo) refl
 
-  told_so : (P : letters.Report → Type 0) (silo : Silo) → ((is : m.member recovery.version silo ≡ true) → P (reported silo is).told) → (b : Bool) (is : m.member recovery.version silo ≡ b) → b ≡ true → P (told_by silo b is)
+  told_so : (P : letters.Report → Type 0) (silo : Silo) → ((is : m.member recovery.version silo ≡ true) → P (reported silo is).told)
+      → (b : Bool) (is : m.member recovery.version silo ≡ b) → b ≡ true → P (told_by silo b is)
   unfolding told_by
   told_so P silo so true is which = so is
   told_so P silo so false is which = absurd (cc (which))
 
-  pub told_is : (P : letters.Report → Type 0) (silo : Silo) → m.member recovery.version silo ≡ true → ((had : HasReported m.hash sent recovery silo) → P had.told) → P (told silo)
+  pub told_is : (P : letters.Report → Type 0) (silo : Silo) → m.member recovery.version silo ≡ true
+      → ((had : HasReported m.hash sent recovery silo) → P had.told) → P (told silo)
   unfolding told
   told_is P silo member so = told_so P silo (λ is. so (reported silo is)) (m.member recovery.version silo) refl member
 
-module _ (m : Setting) (f : World) (w : protocol.World) (silo : Silo) (node : Node) (here : Here m f w silo node) (letter : Letter) (report : Report) (taken : IsReportTaken node letter report) (comes : Comes m f w silo letter) where
-  pub completes : (table : Table) → recovered (recovery_of node report.range) report ≡ Has_union table → Moves m w silo (silently (with_settled node report.range table) effect.Complete)
+module _ (m : Setting) (f : World) (w : protocol.World) (silo : Silo) (node : Node) (here : Here m f w silo node) (letter : Letter)
+    (report : Report) (taken : IsReportTaken node letter report) (comes : Comes m f w silo letter) where
+  pub completes : (table : Table) → recovered (recovery_of node report.range) report ≡ Has_union table
+      → Moves m w silo (silently (with_settled node report.range table) effect.Complete)
   completes table is =
       let before = recovery_of node report.range in
       let so : TakenSo before report (Has_union table) = subst (TakenSo before report) is (taken_so before report) in
@@ -78,22 +81,28 @@ module _ (m : Setting) (f : World) (w : protocol.World) (silo : Silo) (node : No
       let may : MayRecover m w x tell = record {
         settles = may_settle m f w silo node here letter.version range taken.piece taken.has waits entries table says;
         sent = λ r is. told_is m w.reports all shown so.1 _ (λ t. letters.Sent t w.reports) r (member r is) (λ had. had.was_sent);
-        same_version = λ r is. told_is m w.reports all shown so.1 _ (λ t. t.version ≡ w.seen silo) r (member r is) (λ had. had.version ∙ sym version);
+        same_version =
+            λ r is. told_is m w.reports all shown so.1 _ (λ t. t.version ≡ w.seen silo) r (member r is) (λ had. had.version ∙ sym version);
         own_report = λ r is. told_is m w.reports all shown so.1 _ (λ t. t.sender ≡ r) r (member r is) (λ had. had.sender);
         from_member = λ grain a part is.
             let e = some_entry (entry_at grain table) a is in
-            ap (λ v. m.member v a.silo) version ∙ ap (λ (b : ActivationId). m.member all.version b.silo) (sym e.2) ∙ (shown.gathered grain e.0 (found grain e.0 e.1)).on_member;
+            ap (λ v. m.member v a.silo) version ∙ ap (λ (b : ActivationId). m.member all.version b.silo) (sym e.2)
+            ∙ (shown.gathered grain e.0 (found grain e.0 e.1)).on_member;
         from_report = λ grain a part is.
             let e = some_entry (entry_at grain table) a is in
             let on : m.member all.version a.silo ≡ true = ap (λ (b : ActivationId). m.member all.version b.silo) (sym e.2) ∙ (shown.gathered grain e.0 (found grain e.0 e.1)).on_member in
-            told_is m w.reports all shown so.1 _ (λ t. t.firm grain ≡ Some a.count) a.silo on (λ had. had.from_it grain e.0 (found grain e.0 e.1) (ap (λ (b : ActivationId). b.silo) e.2) ∙ ap (λ (b : ActivationId). Some b.count) e.2);
+            told_is m w.reports all shown so.1 _ (λ t. t.firm grain ≡ Some a.count) a.silo on
+            (λ had. had.from_it grain e.0 (found grain e.0 e.1) (ap (λ (b : ActivationId). b.silo) e.2)
+            ∙ ap (λ (b : ActivationId). Some b.count) e.2);
         complete = λ grain r count part is firm.
             let lies = (both (holds range (m.hash grain)) (nat_lt (m.hash grain) circle) part).0 in
             let there : (e : Entry) × (entry_at grain all.gathered ≡ Some e) =
-            told_is m w.reports all shown so.1 _ (λ t. t.firm grain ≡ Some count → (e : Entry) × (entry_at grain all.gathered ≡ Some e)) r (member r is)
+            told_is m w.reports all shown so.1 _ (λ t. t.firm grain ≡ Some count → (e : Entry) × (entry_at grain all.gathered ≡ Some e)) r
+            (member r is)
             (λ had its. had.complete grain count (ap (λ s. holds s (m.hash grain)) (sym same_range) ∙ lies) its) firm in
             (there.0.activation, ap activation_in (ap (entry_at grain) union ∙ there.1));
       } in
       let later = settled_world m f w silo node here letter.version range taken.piece taken.has waits entries table says in
       acts m w silo (silently (with_settled node range table) effect.Complete) (Recover x tell) may refl
-      (node_settled m f w silo node here letter.version range taken.piece taken.has waits entries table says) (no_letters (IsShownLetter m.hash later))
+      (node_settled m f w silo node here letter.version range taken.piece taken.has waits entries table says)
+      (no_letters (IsShownLetter m.hash later))

@@ -15,8 +15,9 @@ pub mod Finds
 pub mod Beginnings
 pub mod Closes
 pub mod Replies
-pub mod Distinct
 pub mod Renewals
+pub mod Distinct
+pub mod RenewedAbout
 pub mod Nudges
 pub mod Members
 pub mod KeptEntries

@@ -31,13 +31,15 @@ use Rattle.directory_headline.proofs.Statuses.{alive_live}
 
 -- ---- who is among the members
 not_same : (q s : Silo) → q ≢ s → silo_eq q s ≡ false
-not_same q s apart = on_bool (λ b. silo_eq q s ≡ b → b ≡ false) (silo_eq q s) (λ t is. absurd (apart ((Decides-silo q s).0 is))) (λ f is. refl) refl
+not_same q s apart =
+    on_bool (λ b. silo_eq q s ≡ b → b ≡ false) (silo_eq q s) (λ t is. absurd (apart ((Decides-silo q s).0 is))) (λ f is. refl) refl
 
 abbrev staying : List (Silo × Status) → List (Silo × Status)
 staying rows = filter (λ row. not (is_dead_status row.1)) rows
 
 -- who stands below all of them isn't among them
-not_among : (q : Silo) (rows : List (Silo × Status)) → AllByRecursion (λ s. silo_cmp q s ≡ Less) (keys_of rows) → is_among q (keys_of (staying rows)) ≡ false
+not_among : (q : Silo) (rows : List (Silo × Status)) → AllByRecursion (λ s. silo_cmp q s ≡ Less) (keys_of rows)
+    → is_among q (keys_of (staying rows)) ≡ false
 not_among q [] above = refl
 not_among q (e ∷ es) above =
     let later = not_among q es above.1 in
@@ -50,7 +52,8 @@ live_known Active = refl
 live_known Leaving = refl
 live_known Dead = refl
 
-among_rows : (q : Silo) (rows : List (Silo × Status)) → IsStrictlySortedBy silo_cmp (keys_of rows) → is_among q (keys_of (staying rows)) ≡ is_live (lookup (is_at (silo_cmp q)) rows)
+among_rows : (q : Silo) (rows : List (Silo × Status)) → IsStrictlySortedBy silo_cmp (keys_of rows)
+    → is_among q (keys_of (staying rows)) ≡ is_live (lookup (is_at (silo_cmp q)) rows)
 unfolding IsStrictlySortedBy
 among_rows q [] sorted = refl
 among_rows q (e ∷ es) sorted =
@@ -63,9 +66,11 @@ among_rows q (e ∷ es) sorted =
           (λ t. ap (λ b. b || is_among q (keys_of (staying es))) ((Decides-silo q e.0).1 same)) (λ f. none))
           ∙ sym (live_known e.1) ∙ ap (λ b. is_live (cond b (Some e.1) (lookup (is_at (silo_cmp q)) es))) (sym found)
       | inr apart ↦
-          (on_bool (λ b. is_among q (keys_of (cond b (e ∷ staying es) (staying es))) ≡ is_among q (keys_of (staying es))) (not (is_dead_status e.1))
+          (on_bool (λ b. is_among q (keys_of (cond b (e ∷ staying es) (staying es))) ≡ is_among q (keys_of (staying es)))
+          (not (is_dead_status e.1))
           (λ t. ap (λ b. b || is_among q (keys_of (staying es))) (not_same q e.0 apart)) (λ f. refl))
-          ∙ later ∙ ap (λ b. is_live (cond b (Some e.1) (lookup (is_at (silo_cmp q)) es))) (sym (apart_in_order silo_cmp silo_cmp_exact q e.0 apart))
+          ∙ later ∙ ap (λ b. is_live (cond b (Some e.1) (lookup (is_at (silo_cmp q)) es)))
+          (sym (apart_in_order silo_cmp silo_cmp_exact q e.0 apart))
     ]
 
 -- the members of a view are those that are there and aren't Dead
@@ -80,12 +85,15 @@ nothing (Some row) is = absurd (cc (is))
 module _ (views : ViewsValue) (whole : IsViews views) where
   never_there : (silo : Silo) → row_of views silo ≡ None → status_at views views.version silo ≡ None
   never_there silo none =
-      ap (λ b. lookup (is_at (silo_cmp silo)) (cond b (rows_in views.version views.rows) [])) (le-leb views.version views.version (omega arith))
-      ∙ lookup-picked silo_cmp_total (status_in views.version) silo views.rows whole.in_order ∙ ap (option_and_then (status_in views.version)) none
+      ap (λ b. lookup (is_at (silo_cmp silo)) (cond b (rows_in views.version views.rows) []))
+      (le-leb views.version views.version (omega arith))
+      ∙ lookup-picked silo_cmp_total (status_in views.version) silo views.rows whole.in_order
+      ∙ ap (option_and_then (status_in views.version)) none
 
   -- a silo that is live now, and isn't Dead at a version since it joined, is live there
   pub live_since :
-      (silo : Silo) (version : ℕ) → version ≤ views.version → unwrap_or (joining_version views silo) 0 ≤ version → is_live (status_at views views.version silo) ≡ true
+      (silo : Silo) (version : ℕ) → version ≤ views.version → unwrap_or (joining_version views silo) 0 ≤ version
+      → is_live (status_at views views.version silo) ≡ true
       → not (is_known_dead (status_at views version silo)) ≡ true → is_live (status_at views version silo) ≡ true
   live_since silo version within joined live alive = by (joining_version views silo) refl joined
     where

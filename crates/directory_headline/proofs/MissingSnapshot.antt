@@ -12,15 +12,11 @@ use Rattle.directory_protocol.specs.World as protocol
 use Rattle.directory_rules.specs.declared.piece_state.PieceState.{PieceState}
 use Rattle.directory_rules.specs.declared.piece_state.PieceState.TheVariants as state
 use Rattle.directory_rules.specs.Table.{entry_at}
-use Rattle.directory_rules.specs.Piece.{Piece}
-use Rattle.directory_rules.specs.Gatherings.{Gathering}
-use Rattle.directory_rules.specs.Recovery.{Recovery, new_recovery}
+use Rattle.directory_rules.specs.State.{Piece, Gathering, Recovery, Letter, Query_letter, Node, World}
+use Rattle.directory_rules.specs.Recovery.{new_recovery}
 use Rattle.directory_rules.specs.Sight.{is_settled}
-use Rattle.directory_rules.specs.Letter.{Letter, Query_letter}
-use Rattle.directory_rules.specs.Node.{Node}
 use Rattle.directory_rules.specs.Sent.{letter_to, recovery_of}
 use Rattle.directory_rules.specs.Transfer.{querying, turned_to_recovery, with_state}
-use Rattle.directory_rules.specs.World.{World}
 use Rattle.directory_rules.proofs.Cases.{on_bool}
 use Rattle.directory_facts.proofs.Entries.{all_put, all_removed}
 use Rattle.directory_facts.proofs.Ways.{HasPiece}
@@ -31,18 +27,21 @@ use Rattle.directory_headline.proofs.SettledPiece.{grain_below, changed_has, oth
 use Rattle.directory_headline.proofs.NewRecoveries.{recovery_begins}
 
 module _ (m : Setting) (f : World) (w : protocol.World) (silo : Silo) (node : Node) (here : Here m f w silo node) where
-  holding_turned : (version : ℕ) (range : Range) (piece : Piece) → HasPiece node version range piece → is_settled piece.state ≡ false → IsShownHolding m.hash (with_state node range state.Recovering []).holding (state_of w silo)
+  holding_turned : (version : ℕ) (range : Range) (piece : Piece) → HasPiece node version range piece → is_settled piece.state ≡ false
+      → IsShownHolding m.hash (with_state node range state.Recovering []).holding (state_of w silo)
   holding_turned version range piece has waits =
       let was = (node_shown m f w silo node here).holding in
       record {
         settled = λ h. was.settled h ∙ sym (settled_changed m f w silo node here version range piece has state.Recovering [] (sym waits) h);
         table = λ grain its found is.
-            on_bool (λ b. holds range (m.hash grain) ≡ b → w.table silo grain ≡ activation_in (entry_at grain its.entries)) (holds range (m.hash grain))
+            on_bool (λ b. holds range (m.hash grain) ≡ b → w.table silo grain ≡ activation_in (entry_at grain its.entries))
+            (holds range (m.hash grain))
             (λ t held.
             let changed = sym (changed_has m f w silo node here version range piece has state.Recovering [] (m.hash grain) (grain_below m f w silo node here grain) held) ∙ found in
             let its_state : state.Recovering ≡ its.state = ap (state_or state.Recovering) changed in
             absurd (cc (its_state ∙ is)))
-            (λ no apart. was.table grain its (sym (others_have m f w silo node here version range piece has state.Recovering [] (m.hash grain) apart) ∙ found) is) refl;
+            (λ no apart. was.table grain its (sym (others_have m f w silo node here version range piece has state.Recovering []
+            (m.hash grain) apart) ∙ found) is) refl;
         served = was.served;
       }
     where
@@ -50,7 +49,8 @@ module _ (m : Setting) (f : World) (w : protocol.World) (silo : Silo) (node : No
       state_or other None = other
       state_or other (Some p) = p.state
 
-  pub turns : (letter : Letter) (range : Range) (piece : Piece) → HasPiece node letter.version range piece → piece.state ≡ state.Awaiting letter.from → Moves m w silo (querying range (turned_to_recovery node range))
+  pub turns : (letter : Letter) (range : Range) (piece : Piece) → HasPiece node letter.version range piece
+      → piece.state ≡ state.Awaiting letter.from → Moves m w silo (querying range (turned_to_recovery node range))
   turns letter range piece has awaits =
       let was = node_shown m f w silo node here in
       let its = turned_to_recovery node range in
@@ -59,7 +59,11 @@ module _ (m : Setting) (f : World) (w : protocol.World) (silo : Silo) (node : No
         host = was.host;
         holding = holding_turned letter.version range piece has (ap is_settled awaits);
         shelf = was.shelf;
-        gatherings = all_removed (λ (e : ℕ × Gathering). IsShownGathering m.hash w.snapshots e.1) (is_at (nat_cmp range.start)) node.gatherings was.gatherings;
-        recoveries = all_put nat_cmp exact_unsigned (λ (e : ℕ × Recovery). IsShownRecovery m w.reports e.1) range.start (new_recovery node.view range) node.recoveries was.recoveries
+        gatherings =
+            all_removed (λ (e : ℕ × Gathering). IsShownGathering m.hash w.snapshots e.1) (is_at (nat_cmp range.start)) node.gatherings
+            was.gatherings;
+        recoveries =
+            all_put nat_cmp exact_unsigned (λ (e : ℕ × Recovery). IsShownRecovery m w.reports e.1) range.start
+            (new_recovery node.view range) node.recoveries was.recoveries
             (recovery_begins m f w silo node here range);
       }) (All-map (IsShownLetter m.hash w) (λ s. letter_to s its (Query_letter range)) (recovery_of its range).awaiting (λ k d below. tt))

@@ -15,17 +15,14 @@ use Rattle.directory_rules.specs.declared.act.Act.TheVariants as act
 use Rattle.directory_rules.specs.declared.act.Request.{Request}
 use Rattle.directory_rules.specs.declared.reply.Reply.{Reply}
 use Rattle.directory_rules.specs.declared.reply.Reply.TheVariants as reply
-use Rattle.directory_rules.specs.Snapshot.{Snapshot, Page}
-use Rattle.directory_rules.specs.Gatherings.{Gathering, Whole}
-use Rattle.directory_rules.specs.Recovery.{Report, Recovery}
-use Rattle.directory_rules.specs.Letter.{Letter, Body, Request_letter, Reply_letter, Ask_letter, Page_letter, Missing_letter, Done_letter, Query_letter, Report_letter, Behind_letter, Ahead_letter, Offer_letter}
-use Rattle.directory_rules.specs.Node.{Node}
+use Rattle.directory_rules.specs.State.{Snapshot, Page, Gathering, Whole, Report, Recovery, Letter, Body, Request_letter, Reply_letter, Ask_letter, Page_letter, Missing_letter, Done_letter, Query_letter, Report_letter, Behind_letter, Ahead_letter, Offer_letter, Node}
 use Rattle.directory_headline.specs.SiloState.{SiloState}
 use Rattle.directory_headline.specs.Shown.{HasSealed, IsShownSnapshot, IsShownPage, IsShownWhole, IsShownGathering, IsShownReport, HasReported, IsShownRecovery, IsShownRequest, IsShownReply, IsShownBody, IsShownLetter, IsShownNode}
 use Rattle.directory_headline.proofs.Actors.{Grows}
 
 module _ (hash : Grain → ℕ) (sent more : List letters.Snapshot) (grows : (x : letters.Snapshot) → Sent x sent → Sent x more) where
-  pub sealed_still : (version : ℕ) (range : Range) (entries : List Entry) → HasSealed hash sent version range entries → HasSealed hash more version range entries
+  pub sealed_still : (version : ℕ) (range : Range) (entries : List Entry) → HasSealed hash sent version range entries
+      → HasSealed hash more version range entries
   sealed_still version range entries x = record {
     snapshot = x.snapshot;
     was_sent = grows x.snapshot x.was_sent;
@@ -35,18 +32,35 @@ module _ (hash : Grain → ℕ) (sent more : List letters.Snapshot) (grows : (x 
   }
 
   pub page_still : (page : Page) → IsShownPage hash sent page → IsShownPage hash more page
-  page_still page x = record { all = x.all; sealed = sealed_still page.version page.range x.all x.sealed; pages = x.pages; below = x.below; digest = x.digest; entries = x.entries }
+  page_still page x =
+      record {
+        all = x.all;
+        sealed = sealed_still page.version page.range x.all x.sealed;
+        pages = x.pages;
+        below = x.below;
+        digest = x.digest;
+        entries = x.entries;
+      }
 
-  whole_still : (gathering : Gathering) (whole : Option Whole) → IsShownWhole hash sent gathering whole → IsShownWhole hash more gathering whole
+  whole_still : (gathering : Gathering) (whole : Option Whole) → IsShownWhole hash sent gathering whole
+      → IsShownWhole hash more gathering whole
   whole_still gathering None x = x
-  whole_still gathering (Some whole) x = record { all = x.all; sealed = sealed_still gathering.version gathering.range x.all x.sealed; pages = x.pages; digest = x.digest; entries = x.entries }
+  whole_still gathering (Some whole) x =
+      record {
+        all = x.all;
+        sealed = sealed_still gathering.version gathering.range x.all x.sealed;
+        pages = x.pages;
+        digest = x.digest;
+        entries = x.entries;
+      }
 
   pub gathering_still : (gathering : Gathering) → IsShownGathering hash sent gathering → IsShownGathering hash more gathering
   gathering_still gathering x = whole_still gathering gathering.whole x
 
 module _ (m : Setting) (sent more : List letters.Report) (grows : (x : letters.Report) → Sent x sent → Sent x more) where
   pub report_still : (report : Report) → IsShownReport m.hash sent report → IsShownReport m.hash more report
-  report_still report x = record { told = x.told; was_sent = grows x.told x.was_sent; version = x.version; sender = x.sender; firm = x.firm }
+  report_still report x =
+      record { told = x.told; was_sent = grows x.told x.was_sent; version = x.version; sender = x.sender; firm = x.firm }
 
   reported_still : (recovery : Recovery) (member : Silo) → HasReported m.hash sent recovery member → HasReported m.hash more recovery member
   reported_still recovery member x = record {
@@ -71,7 +85,8 @@ module _ (m : Setting) (w later : World) (grows : Grows w later) where
   request_still request (act.Deregister entry) x = grows.requests _ x
   request_still request (act.Find grain) x = tt
 
-  reply_still : (letter : Letter) (number : ℕ) (answer : Reply) → IsShownReply w.replies letter number answer → IsShownReply later.replies letter number answer
+  reply_still : (letter : Letter) (number : ℕ) (answer : Reply) → IsShownReply w.replies letter number answer
+      → IsShownReply later.replies letter number answer
   reply_still letter number (reply.Registered entry) x = grows.replies _ x
   reply_still letter number (reply.Taken entry) x = grows.replies _ x
   reply_still letter number reply.Removed x = grows.replies _ x
@@ -96,17 +111,20 @@ module _ (m : Setting) (w later : World) (grows : Grows w later) where
   pub letter_still : (letter : Letter) → IsShownLetter m.hash w letter → IsShownLetter m.hash later letter
   letter_still letter x = body_still letter letter.body x
 
-  pub shelf_still : (shelf : List Snapshot) → All (IsShownSnapshot m.hash w.snapshots) shelf → All (IsShownSnapshot m.hash later.snapshots) shelf
+  pub shelf_still : (shelf : List Snapshot) → All (IsShownSnapshot m.hash w.snapshots) shelf
+      → All (IsShownSnapshot m.hash later.snapshots) shelf
   shelf_still shelf all =
       All-weaker (IsShownSnapshot m.hash w.snapshots) (IsShownSnapshot m.hash later.snapshots)
       (λ x is. sealed_still m.hash w.snapshots later.snapshots grows.snapshots x.version x.range x.entries is) shelf all
 
-  pub gatherings_still : (es : List (ℕ × Gathering)) → All (λ e. IsShownGathering m.hash w.snapshots e.1) es → All (λ e. IsShownGathering m.hash later.snapshots e.1) es
+  pub gatherings_still : (es : List (ℕ × Gathering)) → All (λ e. IsShownGathering m.hash w.snapshots e.1) es
+      → All (λ e. IsShownGathering m.hash later.snapshots e.1) es
   gatherings_still es all =
       All-weaker (λ (e : ℕ × Gathering). IsShownGathering m.hash w.snapshots e.1) (λ e. IsShownGathering m.hash later.snapshots e.1)
       (λ e is. gathering_still m.hash w.snapshots later.snapshots grows.snapshots e.1 is) es all
 
-  pub recoveries_still : (es : List (ℕ × Recovery)) → All (λ e. IsShownRecovery m w.reports e.1) es → All (λ e. IsShownRecovery m later.reports e.1) es
+  pub recoveries_still : (es : List (ℕ × Recovery)) → All (λ e. IsShownRecovery m w.reports e.1) es
+      → All (λ e. IsShownRecovery m later.reports e.1) es
   recoveries_still es all =
       All-weaker (λ (e : ℕ × Recovery). IsShownRecovery m w.reports e.1) (λ e. IsShownRecovery m later.reports e.1)
       (λ e is. recovery_still m w.reports later.reports grows.reports e.1 is) es all

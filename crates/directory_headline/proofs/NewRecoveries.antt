@@ -6,8 +6,7 @@ use Rattle.ring_range.specs.Range.{Range}
 use Rattle.directory_protocol.specs.Setting.{Setting}
 use Rattle.directory_protocol.specs.World as protocol
 use Rattle.directory_rules.specs.Recovery.{new_recovery}
-use Rattle.directory_rules.specs.Node.{Node}
-use Rattle.directory_rules.specs.World.{World}
+use Rattle.directory_rules.specs.State.{Node, World}
 use Rattle.directory_headline.specs.Setting.{is_member_in}
 use Rattle.directory_headline.specs.Shown.{IsShownRecovery}
 use Rattle.directory_headline.proofs.Settings.{view_by_address}
@@ -16,7 +15,8 @@ use Rattle.directory_headline.proofs.Members.{members_are}
 
 -- a recovery that begins, at a view of the setting
 pub new_recovery_shown :
-    (m : Setting) (w : protocol.World) (view : ViewValue) (range : Range) → IsByAddress view → ((s : Silo) → m.member view.version s ≡ is_member_in view s) → IsShownRecovery m w.reports (new_recovery view range)
+    (m : Setting) (w : protocol.World) (view : ViewValue) (range : Range) → IsByAddress view
+    → ((s : Silo) → m.member view.version s ≡ is_member_in view s) → IsShownRecovery m w.reports (new_recovery view range)
 new_recovery_shown m w view range by_address members = record {
   gathered = λ grain e found. absurd (cc (found));
   awaits = λ silo is. members silo ∙ sym (members_are view silo by_address) ∙ is;
@@ -24,7 +24,9 @@ new_recovery_shown m w view range by_address members = record {
 }
 
 -- at the view that a silo has seen
-pub recovery_begins : (m : Setting) (f : World) (w : protocol.World) (silo : Silo) (node : Node) → Here m f w silo node → (range : Range) → IsShownRecovery m w.reports (new_recovery node.view range)
+pub recovery_begins : (m : Setting) (f : World) (w : protocol.World) (silo : Silo) (node : Node) → Here m f w silo node → (range : Range)
+    → IsShownRecovery m w.reports (new_recovery node.view range)
 recovery_begins m f w silo node here range =
     new_recovery_shown m w node.view range
-    (subst IsByAddress (sym (node_facts m f w silo node here).sees.view_is) (view_by_address f.views node.view.version here.facts.peopled.whole)) (member_is m f w silo node here)
+    (subst IsByAddress (sym (node_facts m f w silo node here).sees.view_is)
+    (view_by_address f.views node.view.version here.facts.peopled.whole)) (member_is m f w silo node here)

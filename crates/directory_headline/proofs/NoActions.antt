@@ -13,13 +13,10 @@ use Rattle.directory_protocol.specs.World as protocol
 use Rattle.directory_rules.specs.declared.effect.Effect.{Effect}
 use Rattle.directory_rules.specs.declared.effect.Effect.TheVariants as effect
 use Rattle.directory_rules.specs.Snapshot.{is_snapshot, shelf_without}
-use Rattle.directory_rules.specs.Host.{Host, without_find}
-use Rattle.directory_rules.specs.Cache.{Cache}
-use Rattle.directory_rules.specs.Letter.{Letter, Body}
-use Rattle.directory_rules.specs.Node.{Node}
+use Rattle.directory_rules.specs.State.{Host, Cache, Letter, Body, Node, World}
+use Rattle.directory_rules.specs.Host.{without_find}
 use Rattle.directory_rules.specs.Step.{silently}
 use Rattle.directory_rules.specs.Transfer.{answering, answer_to}
-use Rattle.directory_rules.specs.World.{World}
 use Rattle.directory_headline.specs.Shown.{held_as, IsShownLetter, IsShownSnapshot, IsShownBody}
 use Rattle.directory_headline.proofs.Frame.{Here, Moves, stays, node_shown, no_letters, one_letter}
 
@@ -28,7 +25,8 @@ module _ (m : Setting) (f : World) (w : protocol.World) (silo : Silo) (node : No
   nothing effect = stays m w silo (silently node effect) (node_shown m f w silo node here) (no_letters (IsShownLetter m.hash w))
 
   -- another host and cache, of the same activations and numbers
-  pub host_same : (host : Host) (cache : Cache) (effect : Effect) → host.held ≡ node.host.held → host.next_number ≡ node.host.next_number → host.next_count ≡ node.host.next_count
+  pub host_same : (host : Host) (cache : Cache) (effect : Effect) → host.held ≡ node.host.held → host.next_number ≡ node.host.next_number
+      → host.next_count ≡ node.host.next_count
       → Moves m w silo (silently (record node { host = host; cache = cache }) effect)
   host_same host cache effect held number count =
       let was = node_shown m f w silo node here in
@@ -48,22 +46,28 @@ module _ (m : Setting) (f : World) (w : protocol.World) (silo : Silo) (node : No
   pub cache_changes : (cache : Cache) (effect : Effect) → Moves m w silo (silently (record node { cache = cache }) effect)
   cache_changes cache effect = host_same node.host cache effect refl refl refl
 
-  pub find_ends : (number : ℕ) (cache : Cache) (effect : Effect) → Moves m w silo (silently (record node { host = without_find node.host number; cache = cache }) effect)
+  pub find_ends : (number : ℕ) (cache : Cache) (effect : Effect)
+      → Moves m w silo (silently (record node { host = without_find node.host number; cache = cache }) effect)
   find_ends number cache effect = host_same (without_find node.host number) cache effect refl refl refl
 
   -- a letter back that has no like in the protocol
-  pub answers_so : (letter : Letter) (body : Body) (effect : Effect) → IsShownBody m.hash w (answer_to letter node body) body → Moves m w silo (answering letter node body effect)
+  pub answers_so : (letter : Letter) (body : Body) (effect : Effect) → IsShownBody m.hash w (answer_to letter node body) body
+      → Moves m w silo (answering letter node body effect)
   answers_so letter body effect is =
-      stays m w silo (answering letter node body effect) (node_shown m f w silo node here) (one_letter (IsShownLetter m.hash w) (answer_to letter node body) is)
+      stays m w silo (answering letter node body effect) (node_shown m f w silo node here)
+      (one_letter (IsShownLetter m.hash w) (answer_to letter node body) is)
 
-  pub forgoes : (letter : Letter) (range : Range) → Moves m w silo (silently (record node { shelf = shelf_without node.shelf letter.version range letter.from }) effect.Deleted)
+  pub forgoes : (letter : Letter) (range : Range) → Moves m w silo
+      (silently (record node { shelf = shelf_without node.shelf letter.version range letter.from }) effect.Deleted)
   forgoes letter range =
       let was = node_shown m f w silo node here in
       stays m w silo (silently (record node { shelf = shelf_without node.shelf letter.version range letter.from }) effect.Deleted) (record {
         seen = was.seen;
         host = was.host;
         holding = was.holding;
-        shelf = All-filter (λ s. not (is_snapshot letter.version range letter.from s)) (IsShownSnapshot m.hash w.snapshots) node.shelf was.shelf;
+        shelf =
+            All-filter (λ s. not (is_snapshot letter.version range letter.from s)) (IsShownSnapshot m.hash w.snapshots) node.shelf
+            was.shelf;
         gatherings = was.gatherings;
         recoveries = was.recoveries;
       }) (no_letters (IsShownLetter m.hash w))

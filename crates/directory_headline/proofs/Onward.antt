@@ -10,7 +10,7 @@ use Rattle.hash_ring.specs.Places.{PlacesValue, after_add}
 use Rattle.hash_ring.specs.Ring.{sorted_ring}
 use Rattle.hash_ring.proofs.Lawful.{ring_stays}
 use Rattle.directory_rules.specs.Event.{Event}
-use Rattle.directory_rules.specs.World.{World}
+use Rattle.directory_rules.specs.State.{World}
 use Rattle.directory_rules.specs.Happens.{after_joining, counted, happens}
 use Rattle.directory_facts.proofs.Places.{added_view}
 use Rattle.directory_facts.proofs.SeenRings.{AreViews}
@@ -30,8 +30,10 @@ goes_nowhere f later settings views places =
 
 -- the views change
 views_go :
-    (f later : World) (way : change.Change) → AreViews f.settings f.views f.places → change.after f.views way ≡ Ok later.views → later.settings ≡ f.settings
-    → ((k : ℕ) → k ≤ f.views.version → sorted_ring (view_at f.views k) later.places ≡ sorted_ring (view_at f.views k) f.places) → GoesOnTo f later
+    (f later : World) (way : change.Change) → AreViews f.settings f.views f.places → change.after f.views way ≡ Ok later.views
+    → later.settings ≡ f.settings
+    → ((k : ℕ) → k ≤ f.views.version → sorted_ring (view_at f.views k) later.places ≡ sorted_ring (view_at f.views k) f.places)
+    → GoesOnTo f later
 views_go f later way are is settings rings =
     let accepts : Accepts f.views way later.views = record { whole = are.whole; is = is } in
     let rises = versions_rise f.views way later.views accepts in
@@ -42,7 +44,8 @@ views_go f later way are is settings rings =
       rings = rings;
     }
 
-pub goes_on : (f : World) → AreViews f.settings f.views f.places → (event : Event) → IfOk (happens f event) (λ accepted. GoesOnTo f accepted.world)
+pub goes_on : (f : World) → AreViews f.settings f.views f.places → (event : Event)
+    → IfOk (happens f event) (λ accepted. GoesOnTo f accepted.world)
 goes_on f are event = by_event f (λ accepted. GoesOnTo f accepted.world) (record {
   joins = λ silo given next added viewed placed. joined silo given next added viewed placed (change.occupant silo f.views.rows);
   leaves = λ silo is. views_go f _ (change.Leave silo) are is refl (λ k within. refl);
@@ -54,9 +57,14 @@ goes_on f are event = by_event f (λ accepted. GoesOnTo f accepted.world) (recor
 }) event
   where
     joined :
-        (silo : Silo) (given : List ℕ) (next : ViewsValue) (added : PlacesValue) → change.after_join f.views silo ≡ Ok next → after_add f.places silo given ≡ Ok added
+        (silo : Silo) (given : List ℕ) (next : ViewsValue) (added : PlacesValue) → change.after_join f.views silo ≡ Ok next
+        → after_add f.places silo given ≡ Ok added
         → (old : Option Silo) → GoesOnTo f (counted (after_joining f silo old next added))
     joined silo given next added viewed placed None =
-        views_go f _ (change.Join silo) are viewed refl (λ k within. ap (λ r. r.points) (ring_stays f.places silo given added placed (view_at f.views k) (added_view f.views f.places k are.added)))
+        views_go f _ (change.Join silo) are viewed refl
+        (λ k within. ap (λ r. r.points) (ring_stays f.places silo given added placed (view_at f.views k)
+        (added_view f.views f.places k are.added)))
     joined silo given next added viewed placed (Some old) =
-        views_go f _ (change.Join silo) are viewed refl (λ k within. ap (λ r. r.points) (ring_stays f.places silo given added placed (view_at f.views k) (added_view f.views f.places k are.added)))
+        views_go f _ (change.Join silo) are viewed refl
+        (λ k within. ap (λ r. r.points) (ring_stays f.places silo given added placed (view_at f.views k)
+        (added_view f.views f.places k are.added)))

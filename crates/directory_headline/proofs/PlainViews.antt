@@ -12,9 +12,9 @@ use Rattle.membership_view.proofs.Unchanged.{rows_stay}
 use Rattle.hash_ring.specs.Places.{PlacesValue}
 use Rattle.directory_rules.proofs.Decided.{died}
 use Rattle.directory_rules.specs.Members.{is_dead_in}
-use Rattle.directory_rules.specs.Node.{Node, new_node}
+use Rattle.directory_rules.specs.State.{Node, World}
+use Rattle.directory_rules.specs.Node.{new_node}
 use Rattle.directory_rules.specs.Input.{step}
-use Rattle.directory_rules.specs.World.{World}
 use Rattle.directory_rules.specs.Happens.{node_of, after_joining}
 use Rattle.directory_rules.specs.Laws.{ArePeopled, is_live}
 use Rattle.directory_rules.specs.PlainMachine.{life_on, plain_of, ViewChanges}
@@ -38,13 +38,15 @@ module _ (f later : World) (before : ArePeopled f.views f.nodes) (after : ArePeo
       (subst (λ view. IsSome (status_of view silo)) (sym (on.views f.views.version (omega arith))) there)
 
   -- a silo that isn't Dead has the node that it had
-  node_stays : (silo : Silo) (node : Node) → node_of f silo ≡ Some node → is_dead_in (view_at later.views later.views.version) silo ≡ false → node_of later silo ≡ Some node
+  node_stays : (silo : Silo) (node : Node) → node_of f silo ≡ Some node → is_dead_in (view_at later.views later.views.version) silo ≡ false
+      → node_of later silo ≡ Some node
   node_stays silo node there not_dead = by (node_of later silo) refl
     where
       lives : is_some (node_of later silo) ≡ true
       lives =
           let was : is_live (status_at f.views f.views.version silo) ≡ true = sym (before.live silo) ∙ ap is_some there in
-          after.live silo ∙ there_live (status_at later.views later.views.version silo) (row_stays silo (live_there (status_at f.views f.views.version silo) was)) not_dead
+          after.live silo ∙ there_live (status_at later.views later.views.version silo)
+          (row_stays silo (live_there (status_at f.views f.views.version silo) was)) not_dead
 
       by : (o : Option Node) → node_of later silo ≡ o → node_of later silo ≡ Some node
       by None is = let none = ap is_some is in absurd (cc (lives, none))
@@ -54,7 +56,8 @@ module _ (f later : World) (before : ArePeopled f.views f.nodes) (after : ArePeo
             | inr new ↦ let none = new.0 in absurd (cc (none, there))
           ]
 
-  others : (silo : Silo) (grain : Grain) → is_dead_in (view_at later.views later.views.version) silo ≡ false → (plain_of later).lives silo grain ≡ (plain_of f).lives silo grain
+  others : (silo : Silo) (grain : Grain) → is_dead_in (view_at later.views later.views.version) silo ≡ false
+      → (plain_of later).lives silo grain ≡ (plain_of f).lives silo grain
   others silo grain not_dead = by (node_of f silo) refl
     where
       new : (its : Option Node) → node_of f silo ≡ None → node_of later silo ≡ its → option_and_then (life_on grain) its ≡ None
@@ -69,19 +72,22 @@ module _ (f later : World) (before : ArePeopled f.views f.nodes) (after : ArePeo
       by None was = new (node_of later silo) was refl ∙ sym (ap (λ o. option_and_then (life_on grain) o) was)
       by (Some node) was = ap (λ o. option_and_then (life_on grain) o) (node_stays silo node was not_dead ∙ sym was)
 
-  unused : (silo : Silo) → IsSome ((plain_of f).unused silo) → is_dead_in (view_at later.views later.views.version) silo ≡ false → (plain_of later).unused silo ≡ (plain_of f).unused silo
+  unused : (silo : Silo) → IsSome ((plain_of f).unused silo) → is_dead_in (view_at later.views later.views.version) silo ≡ false
+      → (plain_of later).unused silo ≡ (plain_of f).unused silo
   unused silo some not_dead = by (node_of f silo) refl
     where
       by : (o : Option Node) → node_of f silo ≡ o → (plain_of later).unused silo ≡ (plain_of f).unused silo
       by None was = let none = ap (λ o. option_map (λ (n : Node). n.host.next_count) o) was in absurd (cc (some, none))
       by (Some node) was = ap (λ o. option_map (λ (n : Node). n.host.next_count) o) (node_stays silo node was not_dead ∙ sym was)
 
-  pub view_changes : (way : change.Change) → MembershipStep (view_at f.views f.views.version) way (view_at later.views later.views.version) → ViewChanges (plain_of f) (plain_of later)
+  pub view_changes : (way : change.Change) → MembershipStep (view_at f.views f.views.version) way (view_at later.views later.views.version)
+      → ViewChanges (plain_of f) (plain_of later)
   view_changes way step = record {
     change = way;
     step = step;
     dead = λ silo grain dead.
-        ap (λ o. option_and_then (life_on grain) o) (nobody (node_of later silo) (after.live silo ∙ dead_not_live (status_at later.views later.views.version silo) dead));
+        ap (λ o. option_and_then (life_on grain) o) (nobody (node_of later silo)
+        (after.live silo ∙ dead_not_live (status_at later.views later.views.version silo) dead));
     others = others;
     unused = unused;
   }
@@ -89,10 +95,12 @@ module _ (f later : World) (before : ArePeopled f.views f.nodes) (after : ArePeo
 -- ---- each change
 module _ (f : World) (peopled : ArePeopled f.views f.nodes) where
   -- who joins wasn't there
-  no_node : (silo : Silo) (next : ViewsValue) → Joins silo (view_at f.views f.views.version) (view_at next next.version) → node_of f silo ≡ None
+  no_node : (silo : Silo) (next : ViewsValue) → Joins silo (view_at f.views f.views.version) (view_at next next.version)
+      → node_of f silo ≡ None
   no_node silo next step = nobody (node_of f silo) (peopled.live silo ∙ ap is_live (newcomer silo f.views next step))
 
-  pub joining_kept : (silo : Silo) (next : ViewsValue) (added : PlacesValue) (old : Option Silo) → Joins silo (view_at f.views f.views.version) (view_at next next.version)
+  pub joining_kept : (silo : Silo) (next : ViewsValue) (added : PlacesValue) (old : Option Silo)
+      → Joins silo (view_at f.views f.views.version) (view_at next next.version)
       → (q : Silo) (node : Node) → node_of (after_joining f silo old next added) q ≡ Some node → WasThere f q node
   joining_kept silo next added old step q node there =
       elim (joining_node f peopled silo next added old q node there) [

@@ -32,12 +32,10 @@ use Rattle.directory_rules.specs.declared.held.Phase.TheVariants as phase
 use Rattle.directory_rules.specs.declared.reply.Why.{Why}
 use Rattle.directory_rules.specs.Members.{is_known_dead}
 use Rattle.directory_rules.specs.Table.{entry_at, entries_of}
-use Rattle.directory_rules.specs.Piece.{Piece}
+use Rattle.directory_rules.specs.State.{Piece, Node, World}
 use Rattle.directory_rules.specs.Sight.{is_settled}
 use Rattle.directory_rules.specs.Answer.{piece_with, serving_piece, answered_from}
 use Rattle.directory_rules.specs.Host.{entry_on, held_of}
-use Rattle.directory_rules.specs.Node.{Node}
-use Rattle.directory_rules.specs.World.{World}
 use Rattle.directory_rules.specs.Happens.{node_of}
 use Rattle.directory_rules.specs.Settled.{HasNode, OwnsIn, IsSettledAt, entries_with, IsHeld, IsFirmOn, AreComplete, IsRightTable, IsRightOnLive}
 use Rattle.directory_rules.specs.Headline.{RingsAreSortedAnew, IsRetry, UnsettledRangesRetry, NoTwoFirm, OneSettles, Headline}
@@ -56,7 +54,8 @@ use Rattle.directory_headline.proofs.HashPieces.{is_hashed_so, only_piece}
 use Rattle.directory_headline.proofs.TableEntries.{found_own, picked_found, picked_all, picked_once}
 
 -- ---- owners by the same points
-owner_same : (one other : List Point) (hash : ℕ) (owner : Point) → HaveSamePoints one other → IsOwner one hash owner → IsOwner other hash owner
+owner_same : (one other : List Point) (hash : ℕ) (owner : Point) → HaveSamePoints one other → IsOwner one hash owner
+    → IsOwner other hash owner
 owner_same one other hash owner same is = record {
   there = same.forth owner is.there;
   nearest = everywhere (λ p. back hash owner.place ≤ back hash p.place) is.nearest;
@@ -65,7 +64,9 @@ owner_same one other hash owner same is = record {
 }
   where
     everywhere : (P : Point → Type 0) → All P one → All P other
-    everywhere P all = λ k d below. All-contains P one (slice_index_or other k d) all (same.back (slice_index_or other k d) (All-contains_itself other k d below))
+    everywhere P all =
+        λ k d below. All-contains P one (slice_index_or other k d) all
+        (same.back (slice_index_or other k d) (All-contains_itself other k d below))
 
 -- ---- activations
 held_count : (its : Phase) (count : ℕ) (previous : Option ActivationId) → protocol.count_of (held_in its count previous) ≡ count
@@ -85,14 +86,16 @@ module _ (m : Setting) (f : World) (setting : IsSettingOf m f) (facts : WorldFac
   here silo node there = record { setting = setting; facts = facts; there = there; reached = carried.reached; shown = carried.shown }
 
   -- ---- rings
-  points_are : (silo : Silo) (node : Node) → HasNode f silo node → node.ring.points ≡ sorted_ring (view_at f.views node.view.version) f.places
+  points_are : (silo : Silo) (node : Node) → HasNode f silo node
+      → node.ring.points ≡ sorted_ring (view_at f.views node.view.version) f.places
   points_are silo node has =
       let sees = (facts.nodes silo node has).sees in
       ap (λ r. r.points) sees.ring_is ∙ ap (λ view. sorted_ring view f.places) sees.view_is
 
   rings_are_sorted_anew : RingsAreSortedAnew f
   rings_are_sorted_anew silo node has =
-      subst (λ points. IsSortedAnew points (points_of (view_at f.views node.view.version) f.places)) (sym (points_are silo node has)) (is_sorted_anew (points_of (view_at f.views node.view.version) f.places))
+      subst (λ points. IsSortedAnew points (points_of (view_at f.views node.view.version) f.places)) (sym (points_are silo node has))
+      (is_sorted_anew (points_of (view_at f.views node.view.version) f.places))
 
   -- ---- firm activations
   firm_on : (grain : Grain) (silo : Silo) (held : Held) → IsFirmOn f grain silo held → safe.IsFirmOn m w grain silo held.count
@@ -105,10 +108,12 @@ module _ (m : Setting) (f : World) (setting : IsSettingOf m f) (facts : WorldFac
 
   no_two_are_firm : NoTwoFirm f
   no_two_are_firm grain s t x y one other =
-      ap (λ a. a.silo) (holds_where_reached safe.OneFirm no_two_firm m w carried.reached grain s t x.count y.count (firm_on grain s x one) (firm_on grain t y other))
+      ap (λ a. a.silo) (holds_where_reached safe.OneFirm no_two_firm m w carried.reached grain s t x.count y.count (firm_on grain s x one)
+      (firm_on grain t y other))
 
   -- what the protocol says that a live silo holds, its node holds
-  node_holds : (grain : Grain) (a : ActivationId) (node : Node) → HasNode f a.silo node → (x : protocol.Held) → w.held a.silo grain ≡ Some x → protocol.count_of x ≡ a.count → IsHeld f grain a
+  node_holds : (grain : Grain) (a : ActivationId) (node : Node) → HasNode f a.silo node → (x : protocol.Held) → w.held a.silo grain ≡ Some x
+      → protocol.count_of x ≡ a.count → IsHeld f grain a
   node_holds grain a node has x there count = by (held_of node.host grain) refl
     where
       by : (o : Option Held) → held_of node.host grain ≡ o → IsHeld f grain a
@@ -118,14 +123,23 @@ module _ (m : Setting) (f : World) (setting : IsSettingOf m f) (facts : WorldFac
       by (Some held) found =
           let some : w.held a.silo grain ≡ Some (held_as held) = (node_shown m f w a.silo node (here a.silo node has)).host.held grain ∙ ap (option_map held_as) found in
           let same : held_as held ≡ x = cc (some, there) in
-          record { node = node; live = has; held = held; found = found; count = sym (held_count held.phase held.count held.previous) ∙ ap protocol.count_of same ∙ count }
+          record {
+            node = node;
+            live = has;
+            held = held;
+            found = found;
+            count = sym (held_count held.phase held.count held.previous)
+                ∙ ap protocol.count_of same ∙ count;
+          }
 
   -- a silo that isn't dead and holds something has a node
-  holder_there : (silo : Silo) (grain : Grain) (x : protocol.Held) → m.alive w.now silo ≡ true → w.held silo grain ≡ Some x → (node : Node) × HasNode f silo node
+  holder_there : (silo : Silo) (grain : Grain) (x : protocol.Held) → m.alive w.now silo ≡ true → w.held silo grain ≡ Some x
+      → (node : Node) × HasNode f silo node
   holder_there silo grain x lives there =
       let known : not (is_known_dead (status_at f.views f.views.version silo)) ≡ true =
       sym (ap (λ version. m.alive version silo) carried.shown.now ∙ setting.alive f.views.version silo (omega arith)) ∙ lives in
-      some_node (node_of f silo) (facts.peopled.live silo ∙ alive_live (status_at f.views f.views.version silo) (row (status_at f.views f.views.version silo) refl) known)
+      some_node (node_of f silo) (facts.peopled.live silo
+      ∙ alive_live (status_at f.views f.views.version silo) (row (status_at f.views f.views.version silo) refl) known)
     where
       row : (status : Option Status) → status_at f.views f.views.version silo ≡ status → IsSome (status_at f.views f.views.version silo)
       row None none = let first = ap (λ s. s.held grain) (carried.shown.absent silo none) in absurd (cc (first, there))
@@ -134,10 +148,13 @@ module _ (m : Setting) (f : World) (setting : IsSettingOf m f) (facts : WorldFac
   -- ---- settled hashes
   module _ (version number : ℕ) (silo : Silo) (node : Node) (at : IsSettledAt f version number silo node) where
     pieces_ranged : All (λ e. IsRange e.1.range) node.holding.pieces
-    pieces_ranged = All-weaker (λ e. IsPiece m.hash e.1) (λ (e : ℕ × Piece). IsRange e.1.range) (λ e is. is.range) node.holding.pieces (facts.nodes silo node at.live).pieces.each
+    pieces_ranged =
+        All-weaker (λ e. IsPiece m.hash e.1) (λ (e : ℕ × Piece). IsRange e.1.range) (λ e is. is.range) node.holding.pieces
+        (facts.nodes silo node at.live).pieces.each
 
     piece_is : IsPiece m.hash at.piece
-    piece_is = (of_found (λ e. IsPiece m.hash e.1) number node.holding.pieces at.piece (facts.nodes silo node at.live).pieces.each at.found).1
+    piece_is =
+        (of_found (λ e. IsPiece m.hash e.1) number node.holding.pieces at.piece (facts.nodes silo node at.live).pieces.each at.found).1
 
     is_settled_so : safe.IsSettledAt m w (hash_for number) silo
     is_settled_so =
@@ -145,7 +162,8 @@ module _ (m : Setting) (f : World) (setting : IsSettingOf m f) (facts : WorldFac
         record {
           alive = alive m f w silo node (here silo node at.live);
           settled =
-              (node_shown m f w silo node (here silo node at.live)).holding.settled (hash_for number) ∙ ap (λ o. is_settled_piece o && nat_lt (hash_for number) circle) so
+              (node_shown m f w silo node (here silo node at.live)).holding.settled (hash_for number)
+              ∙ ap (λ o. is_settled_piece o && nat_lt (hash_for number) circle) so
               ∙ ap (λ s. is_settled s && nat_lt (hash_for number) circle) at.settled ∙ lt-ltb (hash_for number) circle (is_hash number);
         }
 
@@ -157,26 +175,33 @@ module _ (m : Setting) (f : World) (setting : IsSettingOf m f) (facts : WorldFac
           ap hash_for (sym hashed) ∙ hash_below (m.hash grain) below
 
       right : safe.IsRight m w silo grain
-      right = holds_where_reached safe.SettledIsRight settled_tables_are_right m w carried.reached grain silo (subst (λ h. safe.IsSettledAt m w h silo) hash_so is_settled_so)
+      right =
+          holds_where_reached safe.SettledIsRight settled_tables_are_right m w carried.reached grain silo
+          (subst (λ h. safe.IsSettledAt m w h silo) hash_so is_settled_so)
 
       table_is : w.table silo grain ≡ activation_in (entry_at grain at.piece.entries)
-      table_is = (node_shown m f w silo node (here silo node at.live)).holding.table grain at.piece (ap (λ h. piece_with h node.holding.pieces) hashed ∙ at.found) at.settled
+      table_is =
+          (node_shown m f w silo node (here silo node at.live)).holding.table grain at.piece
+          (ap (λ h. piece_with h node.holding.pieces) hashed ∙ at.found) at.settled
 
     abbrev its : Entry → Bool
     its = is_hashed_so m.hash number
 
     entries_are : entries_with number node ≡ filter its (entries_of at.piece.entries)
     entries_are =
-        ap (λ hash. filter (λ e. hash e.grain == number) (flat_map (λ p. entries_of p.1.entries) node.holding.pieces)) (sym (hash_is m f w silo node (here silo node at.live)))
+        ap (λ hash. filter (λ e. hash e.grain == number) (flat_map (λ p. entries_of p.1.entries) node.holding.pieces))
+        (sym (hash_is m f w silo node (here silo node at.live)))
         ∙ only_piece m.hash number node.holding.pieces at.piece (facts.nodes silo node at.live).pieces.each
         (held_once node.ring.points node.host.silo node.holding.pieces (facts.nodes silo node at.live).once pieces_ranged number) at.found
 
     is_complete : AreComplete f number (filter its (entries_of at.piece.entries))
     is_complete grain t held hashed firm =
         let so : m.hash grain ≡ number = ap (λ hash. hash grain) setting.hash ∙ hashed in
-        by so (entry_at grain at.piece.entries) refl (sym (table_is grain so) ∙ (right grain so).complete t held.count (firm_on grain t held firm))
+        by so (entry_at grain at.piece.entries) refl (sym (table_is grain so)
+        ∙ (right grain so).complete t held.count (firm_on grain t held firm))
       where
-        by : m.hash grain ≡ number → (o : Option Entry) → entry_at grain at.piece.entries ≡ o → activation_in (entry_at grain at.piece.entries) ≡ Some (activation_on t held.count)
+        by : m.hash grain ≡ number → (o : Option Entry) → entry_at grain at.piece.entries ≡ o
+            → activation_in (entry_at grain at.piece.entries) ≡ Some (activation_on t held.count)
             → Contains (filter its (entries_of at.piece.entries)) (entry_on t grain held)
         by so None found is = let none = ap activation_in found in absurd (cc (is))
         by so (Some e) found is =
@@ -188,15 +213,18 @@ module _ (m : Setting) (f : World) (setting : IsSettingOf m f) (facts : WorldFac
             (picked_found its grain at.piece.entries e found passes)
 
     -- what is so of each entry that is found in the piece, under the hash
-    each_entry : (P : Entry → Type 0) → ((e : Entry) → m.hash e.grain ≡ number → w.table silo e.grain ≡ Some e.activation → P e) → All P (filter its (entries_of at.piece.entries))
+    each_entry : (P : Entry → Type 0) → ((e : Entry) → m.hash e.grain ≡ number → w.table silo e.grain ≡ Some e.activation → P e)
+        → All P (filter its (entries_of at.piece.entries))
     each_entry P so =
         picked_all its P at.piece.entries piece_is.table
-        (λ e found passes. let hashed = eqb-true (m.hash e.grain) number passes in so e hashed (table_is e.grain hashed ∙ ap activation_in found))
+        (λ e found passes. let hashed = eqb-true (m.hash e.grain) number passes in
+        so e hashed (table_is e.grain hashed ∙ ap activation_in found))
 
     pub right_on_live : IsRightOnLive f number (entries_with number node)
     right_on_live = subst (IsRightOnLive f number) (sym entries_are) (record {
       complete = is_complete;
-      held = each_entry (λ e. (other : Node) → HasNode f e.activation.silo other → IsHeld f e.grain e.activation) (λ e hashed there other has.
+      held =
+          each_entry (λ e. (other : Node) → HasNode f e.activation.silo other → IsHeld f e.grain e.activation) (λ e hashed there other has.
           let holds = (right e.grain hashed).held e.activation there (alive m f w e.activation.silo other (here e.activation.silo other has)) in
           node_holds e.grain e.activation other has holds.0 holds.1 holds.2);
       one_a_grain = picked_once its at.piece.entries piece_is.table;
@@ -219,23 +247,30 @@ module _ (m : Setting) (f : World) (setting : IsSettingOf m f) (facts : WorldFac
 
   one_silo_has_it : OneSettles f
   one_silo_has_it v u number s t x y one other =
-      holds_where_reached safe.OneSettles one_silo_settles m w carried.reached (hash_for number) s t (is_settled_so v number s x one) (is_settled_so u number t y other)
+      holds_where_reached safe.OneSettles one_silo_settles m w carried.reached (hash_for number) s t (is_settled_so v number s x one)
+      (is_settled_so u number t y other)
 
   -- ---- retries
-  pub owns_in : (silo : Silo) (node : Node) (number : ℕ) (piece : Piece) → HasNode f silo node → piece_with number node.holding.pieces ≡ Some piece → OwnsIn f node.view.version silo number
+  pub owns_in : (silo : Silo) (node : Node) (number : ℕ) (piece : Piece) → HasNode f silo node
+      → piece_with number node.holding.pieces ≡ Some piece → OwnsIn f node.view.version silo number
   owns_in silo node number piece has found =
       let own = facts.nodes silo node has in
       let ranged = All-weaker (λ e. IsPiece m.hash e.1) (λ (e : ℕ × Piece). IsRange e.1.range) (λ e is. is.range) node.holding.pieces own.pieces.each in
       let points = points_are silo node has in
       let ring = IsRing-anew (view_at f.views node.view.version) f.places facts.places node.ring.version node.ring.points points in
       let owner = owns_by node.ring.points number node.host.silo ring.on_circle (found_owned node.ring.points node.host.silo node.holding.pieces own.once ranged number piece found) in
-      let same = (rings_are_sorted_anew silo node has).same in
-      (owner.0, owner_same node.ring.points (points_of (view_at f.views node.view.version) f.places) number owner.0 same owner.1, owner.2 ∙ own.own.host_is)
+      let same = (rings_are_sorted_anew silo node has).same in (
+        owner.0,
+        owner_same node.ring.points (points_of (view_at f.views node.view.version) f.places) number owner.0 same owner.1,
+        owner.2
+            ∙ own.own.host_is,
+      )
 
   unsettled_ranges_retry : UnsettledRangesRetry f
   unsettled_ranges_retry silo node request has current nowhere = by (serving_piece node.holding request) refl
     where
-      by : (serving : Result Piece Why) → serving_piece node.holding request ≡ serving → IsRetry (answered_from serving node.holding request).reply
+      by : (serving : Result Piece Why) → serving_piece node.holding request ≡ serving
+          → IsRetry (answered_from serving node.holding request).reply
       by (Err why) is = (why, refl)
       by (Ok piece) is =
           let so = serves node.holding request piece is in

@@ -1,17 +1,18 @@
 -- A silo's outstanding requests are sent again under new numbers, one number after the other: an activation's request by a
--- renewal, a find by taking its number. What a nudge and a sight have in common.
-use Rattle.std.proofs.Common.{arith, ◌≡◌, ◌≢◌, ℕ, zero, suc, ◌+◌, ◌<◌, ◌≤◌, List, [], ◌∷◌, inl, inr, refl, sym, ap, subst, ◌∙◌}
-use Rattle.std.specs.Prelude.{⊤, Bool, true, false, cond, ◌==◌, nat_lt, All, Option, Some, None, length, find}
+-- renewal, a find by taking its number. All of them are, at a nudge and at a sight, or those about one grain.
+use Rattle.std.proofs.Common.{arith, ◌≡◌, ◌≢◌, ℕ, zero, suc, ◌+◌, ◌<◌, ◌≤◌, List, [], ◌∷◌, map, inl, inr, refl, sym, ap, subst, ◌∙◌}
+use Rattle.std.specs.Prelude.{⊤, Bool, true, false, cond, ◌==◌, ◌&&◌, nat_lt, All, AllPairs, Option, Some, None, find}
 use Rattle.std.specs.Option.{option_map}
+use Rattle.std.specs.Ordering.{is_eq}
 use Rattle.std.specs.Map.{lookup}
 use Rattle.std.specs.BTreeMap.{is_at}
 use Rattle.std.proofs.lemmas.Bool.{eqb-true, eqb-false, eq-eqb, lt-ltb, le-ltb, ltb-true, ltb-false}
-use Rattle.std.proofs.lemmas.List.Elements.{All-nil, All-cons}
-use Rattle.std.proofs.lemmas.Map.Made.{lookup-map_values}
+use Rattle.std.proofs.lemmas.Cmp.{tied_itself}
+use Rattle.std.proofs.lemmas.List.Elements.{All-nil, All-cons, All-map}
 use Rattle.silo_address.specs.Silo.{Silo}
 use Rattle.silo_address.specs.Grain.{Grain, grain_cmp}
 use Rattle.silo_address.specs.declared.ActivationId.{ActivationId}
-use Rattle.silo_address.proofs.Order.{grain_cmp_total, grain_cmp_exact}
+use Rattle.silo_address.proofs.Order.{grain_cmp_total, grain_cmp_exact, apart_in_order}
 use Rattle.directory_protocol.specs.Setting.{Setting}
 use Rattle.directory_protocol.specs.Change.{put_at}
 use Rattle.directory_protocol.specs.Letters as letters
@@ -23,8 +24,8 @@ use Rattle.directory_protocol.proofs.Changes.{grain_cases, put_same, put_at_same
 use Rattle.directory_rules.specs.declared.held.Held.{Held}
 use Rattle.directory_rules.specs.declared.held.Phase.{Phase}
 use Rattle.directory_rules.specs.declared.held.Phase.TheVariants.{Asking, Firm, Closing}
-use Rattle.directory_rules.specs.Host.{Host, held_of, outstanding, new_number, renewed, renewed_phase}
-use Rattle.directory_rules.specs.Laws.{AreNumbered}
+use Rattle.directory_rules.specs.State.{Host}
+use Rattle.directory_rules.specs.Host.{held_of}
 use Rattle.directory_rules.proofs.Cases.{on_bool}
 use Rattle.directory_facts.specs.Own.{HoldsOnce}
 use Rattle.directory_facts.proofs.Entries.{found_so, same_key}
@@ -33,89 +34,81 @@ use Rattle.directory_headline.specs.Shown.{held_in, held_as, IsShownHost}
 use Rattle.directory_headline.proofs.Actors.{IsBy, AllBy}
 use Rattle.directory_facts.proofs.Lookups.{find_looked}
 use Rattle.directory_headline.proofs.Hosts.{LeavesHolding, same_request}
-use Rattle.directory_headline.proofs.Distinct.{is_new, many, many_found, only_one, few, none_above}
 
--- ---- how far the renewal has come: new numbers below this one were taken
-abbrev pub number_by : Host → (low : ℕ) → ℕ → ℕ
-number_by host low number = cond (nat_lt (new_number host number) low) (new_number host number) number
+-- ---- what a renewal is: some grains' requests get new numbers
+-- the phase, its request under the new number if it is one of these
+abbrev pub phase_anew : Bool → (ℕ → ℕ) → Phase → Phase
+phase_anew passes new (Asking k) = Asking (cond passes (new k) k)
+phase_anew passes new Firm = Firm
+phase_anew passes new (Closing k) = Closing (cond passes (new k) k)
 
-abbrev pub phase_by : Host → (low : ℕ) → Phase → Phase
-phase_by host low (Asking number) = Asking (number_by host low number)
-phase_by host low Firm = Firm
-phase_by host low (Closing number) = Closing (number_by host low number)
+-- the activation of an entry, in another phase
+abbrev pub made_by : (Grain → Phase → Phase) → Grain × Held → Grain × Held
+made_by phase_of e = (e.0, record e.1 { phase = phase_of e.0 e.1.phase })
 
-abbrev pub held_by : Host → (low : ℕ) → Held → protocol.Held
-held_by host low held = held_in (phase_by host low held.phase) held.count held.previous
+-- whether the phase's request is the one that gets this number
+abbrev pub gets : Bool → (ℕ → ℕ) → (number : ℕ) → Phase → Bool
+gets passes new number (Asking k) = passes && (new k == number)
+gets passes new number Firm = false
+gets passes new number (Closing k) = passes && (new k == number)
+
+-- the activations of these grains have their requests under new numbers, each its own, out of so many from the next one on
+pub record IsRenewal (host : Host) (passes : Grain → Bool) (new : ℕ → ℕ) (count : ℕ) (made : Host) : Type 0 where
+  pub from : (k : ℕ) → host.next_number ≤ new k
+  pub below : (n : ℕ) (grain : Grain) (held : Held) → held_of host grain ≡ Some held → gets (passes grain) new n held.phase ≡ true
+      → n < host.next_number + count
+  pub apart : (n : ℕ) (g r : Grain) (x y : Held) → held_of host g ≡ Some x → held_of host r ≡ Some y → gets (passes g) new n x.phase ≡ true
+      → gets (passes r) new n y.phase ≡ true → r ≡ g
+  pub next_number : made.next_number ≡ host.next_number + count
+  pub next_count : made.next_count ≡ host.next_count
+  pub held : made.held ≡ map (made_by (λ grain phase. phase_anew (passes grain) new phase)) host.held
 
 -- the request of an activation of the silo, of a version that it has seen, under a number
-abbrev pub request_by : letters.Purpose → (version number : ℕ) → Silo → Grain → (count : ℕ) → (previous : Option ActivationId) → letters.Request
+abbrev pub request_by : letters.Purpose → (version number : ℕ) → Silo → Grain → (count : ℕ) → (previous : Option ActivationId)
+    → letters.Request
 request_by purpose version number silo grain count previous =
     record { purpose = purpose; version = version; number = number; sender = silo; grain = grain; count = count; previous = previous }
 
--- the phase's request was sent under its new number, if that is below this one
-abbrev pub IsSentBy : Phase → Host → (low version : ℕ) → Silo → Grain → Held → List letters.Request → Type 0
-IsSentBy (Asking k) host low version silo grain held sent =
-    new_number host k < low → Sent (request_by letters.Register version (new_number host k) silo grain held.count held.previous) sent
-IsSentBy Firm host low version silo grain held sent = ⊤
-IsSentBy (Closing k) host low version silo grain held sent =
-    new_number host k < low → Sent (request_by letters.Deregister version (new_number host k) silo grain held.count None) sent
+-- the phase's request was sent, of that version
+abbrev pub IsSent : Phase → (version : ℕ) → Silo → Grain → Held → List letters.Request → Type 0
+IsSent (Asking k) version silo grain held sent = Sent (request_by letters.Register version k silo grain held.count held.previous) sent
+IsSent Firm version silo grain held sent = ⊤
+IsSent (Closing k) version silo grain held sent = Sent (request_by letters.Deregister version k silo grain held.count None) sent
 
--- the renewal of a host's requests has come so far
-pub record IsRenewed (host : Host) (silo : Silo) (before w : protocol.World) (low : ℕ) : Type 0 where
-  pub now : w.now ≡ before.now
-  pub leaves : LeavesHolding silo before w
-  pub next_count : w.next_count silo ≡ before.next_count silo
-  pub next_number : w.next_number silo ≡ low
-  pub held : (grain : Grain) → w.held silo grain ≡ option_map (held_by host low) (held_of host grain)
-  pub sent : (grain : Grain) (held : Held) → held_of host grain ≡ Some held → IsSentBy held.phase host low (before.seen silo) silo grain held w.requests
+-- ---- numbers
+-- the number that a request has once the new numbers below this one were taken
+abbrev number_by : Bool → (ℕ → ℕ) → (low : ℕ) → ℕ → ℕ
+number_by passes new low k = cond (passes && nat_lt (new k) low) (new k) k
 
--- one number was taken
-pub record TakesOne (m : Setting) (host : Host) (silo : Silo) (before w : protocol.World) (low : ℕ) : Type 0 where
-  pub a : Action
-  pub allowed : Allowed m w a
-  pub by : IsBy silo a
-  pub then : IsRenewed host silo before (after m w a) (low + 1)
+its_number : (b : Bool) (n low : ℕ) → b && (n == low) ≡ true → (b ≡ true) × (n ≡ low)
+its_number true n low is = (refl, eqb-true n low is)
+its_number false n low is = absurd (cc (is))
 
--- so many numbers were taken
-pub record TakesMany (m : Setting) (host : Host) (silo : Silo) (before w : protocol.World) (low : ℕ) : Type 0 where
-  pub actions : List Action
-  pub allowed : AllAllowed m actions w
-  pub by : AllBy silo actions
-  pub then : IsRenewed host silo before (run m actions w) low
+past : (b : Bool) (n low : ℕ) → b && (n == low) ≡ false → b ≡ true → n < low + 1 → n < low
+past true n low other mine below = let apart = eqb-false n low other in omega (apart, below, arith)
+past false n low other mine below = absurd (cc (mine))
 
--- ---- one number more
-past : (n low : ℕ) → (n == low) ≡ false → n < low + 1 → n < low
-past n low other below = let apart = eqb-false n low other in omega (apart, below, arith)
-
-number_past : (n low k : ℕ) → (n == low) ≡ false → cond (nat_lt n (low + 1)) n k ≡ cond (nat_lt n low) n k
-number_past n low k other =
+number_past : (b : Bool) (n low k : ℕ) → b && (n == low) ≡ false → cond (b && nat_lt n (low + 1)) n k ≡ cond (b && nat_lt n low) n k
+number_past true n low k other =
     on_bool (λ b. nat_lt n low ≡ b → cond (nat_lt n (low + 1)) n k ≡ cond b n k) (nat_lt n low)
     (λ t is. let below = ltb-true n low is in ap (λ b. cond b n k) (lt-ltb n (low + 1) (omega (below, arith))))
-    (λ f is. let from = ltb-false n low is in let apart = eqb-false n low other in ap (λ b. cond b n k) (le-ltb n (low + 1) (omega (from, apart, arith)))) refl
+    (λ f is. let from = ltb-false n low is in let apart = eqb-false n low other in
+    ap (λ b. cond b n k) (le-ltb n (low + 1) (omega (from, apart, arith)))) refl
+number_past false n low k other = refl
 
-number_here : (n low k : ℕ) → (n == low) ≡ true → cond (nat_lt n (low + 1)) n k ≡ low
-number_here n low k same = let its = eqb-true n low same in ap (λ b. cond b n k) (lt-ltb n (low + 1) (omega (its, arith))) ∙ its
+number_here : (b : Bool) (n low k : ℕ) → b && (n == low) ≡ true → cond (b && nat_lt n (low + 1)) n k ≡ low
+number_here true n low k same = let its = eqb-true n low same in ap (λ b. cond b n k) (lt-ltb n (low + 1) (omega (its, arith))) ∙ its
+number_here false n low k same = absurd (cc (same))
 
-number_before : (n low k : ℕ) → (n == low) ≡ true → cond (nat_lt n low) n k ≡ k
-number_before n low k same = let its = eqb-true n low same in ap (λ b. cond b n k) (le-ltb n low (omega (its, arith)))
+number_before : (b : Bool) (n low k : ℕ) → low ≤ n → cond (b && nat_lt n low) n k ≡ k
+number_before true n low k from = ap (λ b. cond b n k) (le-ltb n low from)
+number_before false n low k from = refl
 
-module _ (host : Host) (low : ℕ) where
-  phase_past : (phase : Phase) → is_new host low phase ≡ false → phase_by host (low + 1) phase ≡ phase_by host low phase
-  phase_past (Asking k) other = ap Asking (number_past (new_number host k) low k other)
-  phase_past Firm other = refl
-  phase_past (Closing k) other = ap Closing (number_past (new_number host k) low k other)
+number_after : (b : Bool) (n end k : ℕ) → (b && (n == n) ≡ true → n < end) → cond (b && nat_lt n end) n k ≡ cond b n k
+number_after true n end k below = ap (λ b. cond b n k) (lt-ltb n end (below (eq-eqb n n refl)))
+number_after false n end k below = refl
 
-  held_past : (o : Option Held) → ((h : Held) → o ≡ Some h → is_new host low h.phase ≡ false) → option_map (held_by host low) o ≡ option_map (held_by host (low + 1)) o
-  held_past None other = refl
-  held_past (Some h) other = ap (λ p. Some (held_in p h.count h.previous)) (sym (phase_past h.phase (other h refl)))
-
-  sent_past :
-      (phase : Phase) (version : ℕ) (silo : Silo) (grain : Grain) (held : Held) (x : letters.Request) (sent : List letters.Request) → is_new host low phase ≡ false
-      → IsSentBy phase host low version silo grain held sent → IsSentBy phase host (low + 1) version silo grain held (x ∷ sent)
-  sent_past (Asking k) version silo grain held x sent other was = λ below. inr (was (past (new_number host k) low other below))
-  sent_past Firm version silo grain held x sent other was = tt
-  sent_past (Closing k) version silo grain held x sent other was = λ below. inr (was (past (new_number host k) low other below))
-
+-- ---- entries
 -- where nothing passes a test of entries, nothing that is found does
 none_pass : (test : Grain × Held → Bool) (es : List (Grain × Held)) → find test es ≡ None → All (λ e. test e ≡ false) es
 none_pass test [] none = All-nil (λ e. test e ≡ false)
@@ -123,56 +116,167 @@ none_pass test (e ∷ es) none =
     on_bool (λ b. test e ≡ b → cond b (Some e) (find test es) ≡ None → All (λ x. test x ≡ false) (e ∷ es)) (test e)
     (λ t is its. absurd (cc (its))) (λ f is its. All-cons (λ x. test x ≡ false) e es is (none_pass test es its)) refl none
 
-none_taken : (test : Grain × Held → Bool) (grain : Grain) (held : Held) (es : List (Grain × Held)) → find test es ≡ None → lookup (is_at (grain_cmp grain)) es ≡ Some held → test (grain, held) ≡ false
+none_taken : (test : Grain × Held → Bool) (grain : Grain) (held : Held) (es : List (Grain × Held)) → find test es ≡ None
+    → lookup (is_at (grain_cmp grain)) es ≡ Some held → test (grain, held) ≡ false
 none_taken test grain held es none there =
     let so = found_so (λ e. test e ≡ false) (is_at (grain_cmp grain)) held es (none_pass test es none) there in
     subst (λ g. test (g, held) ≡ false) (sym (same_key grain_cmp grain_cmp_exact grain so.0 so.1)) so.2
 
-module _ (m : Setting) (host : Host) (silo : Silo) (before : protocol.World) (alive : m.alive before.now silo ≡ true) (numbered : AreNumbered host) where
-  module _ (w : protocol.World) (low : ℕ) (is : IsRenewed host silo before w low) where
+-- where no key stands twice, what holds of all that is found holds of each entry
+all_found : {X : Type 0} (P : Grain × X → Type 0) (es : List (Grain × X)) → AllPairs (λ e later. e.0 ≢ later.0) es
+    → ((grain : Grain) (x : X) → lookup (is_at (grain_cmp grain)) es ≡ Some x → P (grain, x)) → All P es
+all_found P [] once so = All-nil P
+all_found {X} P (e ∷ es) once so =
+    All-cons P e es (so e.0 e.1 (ap (λ b. cond b (Some e.1) (lookup (is_at (grain_cmp e.0)) es))
+    (ap is_eq (tied_itself grain_cmp_total e.0))))
+    (all_found P es (λ i j d lt below. once (suc i) (suc j) d (omega (arith, lt)) (omega (arith, below))) (λ grain x found.
+    let there = found_so (λ (y : Grain × X). e.0 ≢ y.0) (is_at (grain_cmp grain)) x es (λ i d below. once 0 (suc i) d (omega arith) (omega (arith, below))) found in
+    let other : grain ≢ e.0 = λ same. there.2 (sym same ∙ same_key grain_cmp grain_cmp_exact grain there.0 there.1) in
+    so grain x (ap (λ b. cond b (Some e.1) (lookup (is_at (grain_cmp grain)) es)) (apart_in_order grain_cmp grain_cmp_exact grain e.0 other)
+    ∙ found)))
+
+-- what is made of an entry is found under its key
+found_made : (make : Grain → Held → Held) (grain : Grain) (es : List (Grain × Held))
+    → lookup (is_at (grain_cmp grain)) (map (λ e. (e.0, make e.0 e.1)) es) ≡ option_map (make grain) (lookup (is_at (grain_cmp grain)) es)
+found_made make grain [] = refl
+found_made make grain (e ∷ es) =
+    on_bool (λ b. is_at (grain_cmp grain) e.0 ≡ b → cond b (Some (make e.0 e.1))
+    (lookup (is_at (grain_cmp grain)) (map (λ x. (x.0, make x.0 x.1)) es)) ≡ option_map (make grain)
+    (cond b (Some e.1) (lookup (is_at (grain_cmp grain)) es)))
+    (is_at (grain_cmp grain) e.0)
+    (λ t at. ap (λ g. Some (make g e.1)) (sym (same_key grain_cmp grain_cmp_exact grain e.0 at))) (λ f at. found_made make grain es) refl
+
+-- ---- how far the renewal has come: the new numbers below this one were taken
+abbrev phase_by : Bool → (ℕ → ℕ) → (low : ℕ) → Phase → Phase
+phase_by passes new low (Asking k) = Asking (number_by passes new low k)
+phase_by passes new low Firm = Firm
+phase_by passes new low (Closing k) = Closing (number_by passes new low k)
+
+abbrev held_by : Bool → (ℕ → ℕ) → (low : ℕ) → Held → protocol.Held
+held_by passes new low held = held_in (phase_by passes new low held.phase) held.count held.previous
+
+-- the phase's request was sent under its new number, if that is below this one
+abbrev IsSentBy : Bool → (ℕ → ℕ) → Phase → (low version : ℕ) → Silo → Grain → Held → List letters.Request → Type 0
+IsSentBy passes new (Asking k) low version silo grain held sent =
+    passes ≡ true → new k < low → IsSent (Asking (new k)) version silo grain held sent
+IsSentBy passes new Firm low version silo grain held sent = ⊤
+IsSentBy passes new (Closing k) low version silo grain held sent =
+    passes ≡ true → new k < low → IsSent (Closing (new k)) version silo grain held sent
+
+module _ (passes : Bool) (new : ℕ → ℕ) (low : ℕ) where
+  phase_past : (phase : Phase) → gets passes new low phase ≡ false → phase_by passes new (low + 1) phase ≡ phase_by passes new low phase
+  phase_past (Asking k) other = ap Asking (number_past passes (new k) low k other)
+  phase_past Firm other = refl
+  phase_past (Closing k) other = ap Closing (number_past passes (new k) low k other)
+
+  held_past : (o : Option Held) → ((h : Held) → o ≡ Some h → gets passes new low h.phase ≡ false)
+      → option_map (held_by passes new low) o ≡ option_map (held_by passes new (low + 1)) o
+  held_past None other = refl
+  held_past (Some h) other = ap (λ p. Some (held_in p h.count h.previous)) (sym (phase_past h.phase (other h refl)))
+
+  -- more was sent, and it is still so
+  sent_past :
+      (phase : Phase) (version : ℕ) (silo : Silo) (grain : Grain) (held : Held) (sent more : List letters.Request)
+      → ((x : letters.Request) → Sent x sent → Sent x more)
+      → gets passes new low phase ≡ false → IsSentBy passes new phase low version silo grain held sent
+      → IsSentBy passes new phase (low + 1) version silo grain held more
+  sent_past (Asking k) version silo grain held sent more grows other was =
+      λ mine below. grows _ (was mine (past passes (new k) low other mine below))
+  sent_past Firm version silo grain held sent more grows other was = tt
+  sent_past (Closing k) version silo grain held sent more grows other was =
+      λ mine below. grows _ (was mine (past passes (new k) low other mine below))
+
+-- the renewal of a host's requests has come so far
+record IsRenewed (host : Host) (passes : Grain → Bool) (new : ℕ → ℕ) (silo : Silo) (before w : protocol.World) (low : ℕ) : Type 0 where
+  now : w.now ≡ before.now
+  leaves : LeavesHolding silo before w
+  next_count : w.next_count silo ≡ before.next_count silo
+  next_number : w.next_number silo ≡ low
+  held : (grain : Grain) → w.held silo grain ≡ option_map (held_by (passes grain) new low) (held_of host grain)
+  sent : (grain : Grain) (held : Held) → held_of host grain ≡ Some held
+      → IsSentBy (passes grain) new held.phase low (before.seen silo) silo grain held w.requests
+
+-- one number was taken
+record TakesOne (m : Setting) (host : Host) (passes : Grain → Bool) (new : ℕ → ℕ) (silo : Silo) (before w : protocol.World) (low : ℕ) : Type
+    0 where
+  a : Action
+  allowed : Allowed m w a
+  by : IsBy silo a
+  then : IsRenewed host passes new silo before (after m w a) (low + 1)
+
+-- so many numbers were taken
+record TakesMany (m : Setting) (host : Host) (passes : Grain → Bool) (new : ℕ → ℕ) (silo : Silo) (before w : protocol.World) (low : ℕ) :
+    Type 0 where
+  actions : List Action
+  allowed : AllAllowed m actions w
+  by : AllBy silo actions
+  then : IsRenewed host passes new silo before (run m actions w) low
+
+-- all these requests were sent anew
+pub record SendsAnew (m : Setting) (passes : Grain → Bool) (made : Host) (silo : Silo) (w : protocol.World) : Type 0 where
+  pub actions : List Action
+  pub allowed : AllAllowed m actions w
+  pub by : AllBy silo actions
+  pub leaves : LeavesHolding silo w (run m actions w)
+  pub shown : IsShownHost made (state_of (run m actions w) silo)
+  pub sent : All (λ e. passes e.0 ≡ true → IsSent e.1.phase (w.seen silo) silo e.0 e.1 (run m actions w).requests) made.held
+
+module _ (m : Setting) (host made : Host) (passes : Grain → Bool) (new : ℕ → ℕ) (count : ℕ) (renewal : IsRenewal host passes new count made)
+    (once : HoldsOnce host) (silo : Silo) (before : protocol.World) (alive : m.alive before.now silo ≡ true) where
+  -- ---- one number more
+  module _ (w : protocol.World) (low : ℕ) (is : IsRenewed host passes new silo before w low) where
     living : m.alive w.now silo ≡ true
     living = ap (λ now. m.alive now silo) is.now ∙ alive
 
     -- no other activation's request has the new number
-    other_grain : (g r : Grain) (its held : Held) → held_of host g ≡ Some its → is_new host low its.phase ≡ true → r ≢ g → held_of host r ≡ Some held → is_new host low held.phase ≡ false
-    other_grain g r its held found new apart there =
-        on_bool (λ b. is_new host low held.phase ≡ b → b ≡ false) (is_new host low held.phase)
-        (λ t so. absurd (apart (only_one host low g r its held host.held (few host numbered low) found there new so))) (λ f so. refl) refl
+    other_grain : (g r : Grain) (its held : Held) → held_of host g ≡ Some its → gets (passes g) new low its.phase ≡ true → r ≢ g
+        → held_of host r ≡ Some held → gets (passes r) new low held.phase ≡ false
+    other_grain g r its held found got apart there =
+        on_bool (λ b. gets (passes r) new low held.phase ≡ b → b ≡ false) (gets (passes r) new low held.phase)
+        (λ t so. absurd (apart (renewal.apart low g r its held found there got so))) (λ f so. refl) refl
 
     put_held :
-        (g : Grain) (its : Held) (x : protocol.Held) → held_of host g ≡ Some its → is_new host low its.phase ≡ true → x ≡ held_by host (low + 1) its → (r : Grain)
-        → put_at silo g (Some x) w.held silo r ≡ option_map (held_by host (low + 1)) (held_of host r)
-    put_held g its x found new x_is r =
+        (g : Grain) (its : Held) (x : protocol.Held) → held_of host g ≡ Some its → gets (passes g) new low its.phase ≡ true
+        → x ≡ held_by (passes g) new (low + 1) its → (r : Grain)
+        → put_at silo g (Some x) w.held silo r ≡ option_map (held_by (passes r) new (low + 1)) (held_of host r)
+    put_held g its x found got x_is r =
         elim (grain_cases r g) [
           | inl same ↦
-              ap (λ q. put_at silo g (Some x) w.held silo q) same ∙ put_at_same silo g (Some x) w.held ∙ ap Some x_is ∙ ap (option_map (held_by host (low + 1))) (sym found)
-              ∙ ap (λ q. option_map (held_by host (low + 1)) (held_of host q)) (sym same)
+              ap (λ q. put_at silo g (Some x) w.held silo q) same ∙ put_at_same silo g (Some x) w.held ∙ ap Some x_is
+              ∙ ap (option_map (held_by (passes g) new (low + 1))) (sym found)
+              ∙ ap (λ q. option_map (held_by (passes q) new (low + 1)) (held_of host q)) (sym same)
           | inr apart ↦
-              put_at_other silo g (Some x) w.held silo r (λ s. apart) ∙ is.held r ∙ held_past host low (held_of host r) (λ h there. other_grain g r its h found new apart there)
+              put_at_other silo g (Some x) w.held silo r (λ s. apart) ∙ is.held r
+              ∙ held_past (passes r) new low (held_of host r) (λ h there. other_grain g r its h found got apart there)
         ]
 
     sent_one :
-        (g : Grain) (its : Held) (x : letters.Request) → held_of host g ≡ Some its → is_new host low its.phase ≡ true
-        → IsSentBy its.phase host (low + 1) (before.seen silo) silo g its (x ∷ w.requests) → (r : Grain) (held : Held) → held_of host r ≡ Some held
-        → IsSentBy held.phase host (low + 1) (before.seen silo) silo r held (x ∷ w.requests)
-    sent_one g its x found new now r held there =
+        (g : Grain) (its : Held) (x : letters.Request) → held_of host g ≡ Some its → gets (passes g) new low its.phase ≡ true
+        → IsSentBy (passes g) new its.phase (low + 1) (before.seen silo) silo g its (x ∷ w.requests) → (r : Grain) (held : Held)
+        → held_of host r ≡ Some held
+        → IsSentBy (passes r) new held.phase (low + 1) (before.seen silo) silo r held (x ∷ w.requests)
+    sent_one g its x found got now r held there =
         elim (grain_cases r g) [
           | inl same ↦
               let one : Some its ≡ Some held = sym found ∙ ap (held_of host) (sym same) ∙ there in
               let here : its ≡ held = cc (one) in
-              subst (λ q. IsSentBy held.phase host (low + 1) (before.seen silo) silo q held (x ∷ w.requests)) (sym same)
-              (subst (λ y. IsSentBy y.phase host (low + 1) (before.seen silo) silo g y (x ∷ w.requests)) here now)
+              subst (λ q. IsSentBy (passes q) new held.phase (low + 1) (before.seen silo) silo q held (x ∷ w.requests)) (sym same)
+              (subst (λ y. IsSentBy (passes g) new y.phase (low + 1) (before.seen silo) silo g y (x ∷ w.requests)) here now)
           | inr apart ↦
-              sent_past host low held.phase (before.seen silo) silo r held x w.requests (other_grain g r its held found new apart there) (is.sent r held there)
+              sent_past (passes r) new low held.phase (before.seen silo) silo r held w.requests (x ∷ w.requests) (λ y s. inr s)
+              (other_grain g r its held found got apart there) (is.sent r held there)
         ]
 
     -- an activation's request is sent under the number
     renews :
-        (g : Grain) (its : Held) (x : protocol.Held) (purpose : letters.Purpose) → w.held silo g ≡ Some x → (n : ℕ) × (protocol.outstanding purpose x ≡ Some n)
-        → held_of host g ≡ Some its → is_new host low its.phase ≡ true → protocol.renumbered (w.next_number silo) x ≡ held_by host (low + 1) its
-        → IsSentBy its.phase host (low + 1) (before.seen silo) silo g its (asked w purpose silo g (protocol.count_of x) (protocol.previous_of x) ∷ w.requests)
-        → TakesOne m host silo before w low
-    renews g its x purpose there number found new renumbered sent =
+        (g : Grain) (its : Held) (x : protocol.Held) (purpose : letters.Purpose) → w.held silo g ≡ Some x
+        → (n : ℕ) × (protocol.outstanding purpose x ≡ Some n)
+        → held_of host g ≡ Some its → gets (passes g) new low its.phase ≡ true
+        → protocol.renumbered (w.next_number silo) x ≡ held_by (passes g) new (low + 1) its
+        → IsSentBy (passes g) new its.phase (low + 1) (before.seen silo) silo g its
+        (asked w purpose silo g (protocol.count_of x) (protocol.previous_of x) ∷ w.requests)
+        → TakesOne m host passes new silo before w low
+    renews g its x purpose there number found got renumbered sent =
         let n = is.next_number in
         record {
           a = Renew silo g x purpose;
@@ -183,35 +287,43 @@ module _ (m : Setting) (host : Host) (silo : Silo) (before : protocol.World) (al
             leaves = record { seen = is.leaves.seen; settled = is.leaves.settled; table = is.leaves.table; served = is.leaves.served };
             next_count = is.next_count;
             next_number = put_same silo (suc (w.next_number silo)) w.next_number ∙ omega arith;
-            held = put_held g its (protocol.renumbered (w.next_number silo) x) found new renumbered;
-            sent = sent_one g its (asked w purpose silo g (protocol.count_of x) (protocol.previous_of x)) found new sent;
+            held = put_held g its (protocol.renumbered (w.next_number silo) x) found got renumbered;
+            sent = sent_one g its (asked w purpose silo g (protocol.count_of x) (protocol.previous_of x)) found got sent;
           };
         }
 
     request_is :
-        (k : ℕ) (purpose : letters.Purpose) (g : Grain) (count : ℕ) (previous : Option ActivationId) → (new_number host k == low) ≡ true
-        → request_by purpose (before.seen silo) (new_number host k) silo g count previous ≡ asked w purpose silo g count previous
-    request_is k purpose g count previous new =
-        same_request purpose g previous (before.seen silo) (w.seen silo) (new_number host k) (w.next_number silo) silo silo count count
-        (sym is.leaves.seen) (eqb-true (new_number host k) low new ∙ sym is.next_number) refl refl
+        (n : ℕ) (purpose : letters.Purpose) (g : Grain) (count : ℕ) (previous : Option ActivationId) → n ≡ low
+        → request_by purpose (before.seen silo) n silo g count previous ≡ asked w purpose silo g count previous
+    request_is n purpose g count previous at =
+        same_request purpose g previous (before.seen silo) (w.seen silo) n (w.next_number silo) silo silo count count (sym is.leaves.seen)
+        (at ∙ sym is.next_number) refl refl
 
-    renews_one : (phase : Phase) (g : Grain) (its : Held) → held_of host g ≡ Some (record its { phase = phase }) → is_new host low phase ≡ true → TakesOne m host silo before w low
-    renews_one (Asking k) g its found new =
+    renews_one : (phase : Phase) (g : Grain) (its : Held) → held_of host g ≡ Some (record its { phase = phase })
+        → gets (passes g) new low phase ≡ true → TakesOne m host passes new silo before w low
+    renews_one (Asking k) g its found got =
+        let at = its_number (passes g) (new k) low got in
+        let low_is : new k ≡ low = at.1 in
         renews g (record its { phase = Asking k }) (protocol.Asking its.count k its.previous) letters.Register
-        (is.held g ∙ ap (option_map (held_by host low)) found ∙ ap (λ n. Some (protocol.Asking its.count n its.previous)) (number_before (new_number host k) low k new))
-        (k, refl) found new
-        (ap (λ n. protocol.Asking its.count n its.previous) (is.next_number ∙ sym (number_here (new_number host k) low k new)))
-        (λ below. inl (request_is k letters.Register g its.count its.previous new))
-    renews_one Firm g its found new = absurd (cc (new))
-    renews_one (Closing k) g its found new =
+        (is.held g ∙ ap (option_map (held_by (passes g) new low)) found
+        ∙ ap (λ n. Some (protocol.Asking its.count n its.previous)) (number_before (passes g) (new k) low k (omega (low_is, arith))))
+        (k, refl) found got
+        (ap (λ n. protocol.Asking its.count n its.previous) (is.next_number ∙ sym (number_here (passes g) (new k) low k got)))
+        (λ mine below. inl (request_is (new k) letters.Register g its.count its.previous low_is))
+    renews_one Firm g its found got = absurd (cc (got))
+    renews_one (Closing k) g its found got =
+        let at = its_number (passes g) (new k) low got in
+        let low_is : new k ≡ low = at.1 in
         renews g (record its { phase = Closing k }) (protocol.Closing its.count k) letters.Deregister
-        (is.held g ∙ ap (option_map (held_by host low)) found ∙ ap (λ n. Some (protocol.Closing its.count n)) (number_before (new_number host k) low k new))
-        (k, refl) found new
-        (ap (λ n. protocol.Closing its.count n) (is.next_number ∙ sym (number_here (new_number host k) low k new)))
-        (λ below. inl (request_is k letters.Deregister g its.count None new))
+        (is.held g ∙ ap (option_map (held_by (passes g) new low)) found
+        ∙ ap (λ n. Some (protocol.Closing its.count n)) (number_before (passes g) (new k) low k (omega (low_is, arith))))
+        (k, refl) found got
+        (ap (λ n. protocol.Closing its.count n) (is.next_number ∙ sym (number_here (passes g) (new k) low k got)))
+        (λ mine below. inl (request_is (new k) letters.Deregister g its.count None low_is))
 
     -- a find takes it, where no activation's request does
-    finds_one : ((grain : Grain) (held : Held) → held_of host grain ≡ Some held → is_new host low held.phase ≡ false) → TakesOne m host silo before w low
+    finds_one : ((grain : Grain) (held : Held) → held_of host grain ≡ Some held → gets (passes grain) new low held.phase ≡ false)
+        → TakesOne m host passes new silo before w low
     finds_one none =
         let n = is.next_number in
         record {
@@ -223,140 +335,140 @@ module _ (m : Setting) (host : Host) (silo : Silo) (before : protocol.World) (al
             leaves = record { seen = is.leaves.seen; settled = is.leaves.settled; table = is.leaves.table; served = is.leaves.served };
             next_count = is.next_count;
             next_number = put_same silo (suc (w.next_number silo)) w.next_number ∙ omega arith;
-            held = λ r. is.held r ∙ held_past host low (held_of host r) (none r);
-            sent = λ r held there. sent_kept held.phase r held (none r held there) (is.sent r held there);
+            held = λ r. is.held r ∙ held_past (passes r) new low (held_of host r) (none r);
+            sent =
+                λ r held there. sent_past (passes r) new low held.phase (before.seen silo) silo r held w.requests w.requests (λ x s. s)
+                (none r held there) (is.sent r held there);
           };
         }
-      where
-        sent_kept :
-            (phase : Phase) (r : Grain) (held : Held) → is_new host low phase ≡ false → IsSentBy phase host low (before.seen silo) silo r held w.requests
-            → IsSentBy phase host (low + 1) (before.seen silo) silo r held w.requests
-        sent_kept (Asking k) r held other was = λ below. was (past (new_number host k) low other below)
-        sent_kept Firm r held other was = tt
-        sent_kept (Closing k) r held other was = λ below. was (past (new_number host k) low other below)
 
     abbrev takes : Grain × Held → Bool
-    takes e = is_new host low e.1.phase
+    takes e = gets (passes e.0) new low e.1.phase
 
-    takes_one : HoldsOnce host → TakesOne m host silo before w low
-    takes_one once = by (find takes host.held) refl
+    takes_one : TakesOne m host passes new silo before w low
+    takes_one = by (find takes host.held) refl
       where
-        by : (found : Option (Grain × Held)) → find takes host.held ≡ found → TakesOne m host silo before w low
+        by : (found : Option (Grain × Held)) → find takes host.held ≡ found → TakesOne m host passes new silo before w low
         by None none = finds_one (λ grain held there. none_taken takes grain held host.held none there)
         by (Some e) found =
             let there = find_looked grain_cmp grain_cmp_total grain_cmp_exact takes host.held e once found in
             renews_one e.1.phase e.0 e.1 there.1 there.0
 
-  takes_many : HoldsOnce host → (n : ℕ) (w : protocol.World) (low : ℕ) → IsRenewed host silo before w low → TakesMany m host silo before w (low + n)
-  takes_many once zero w low is = record {
+  takes_many : (n : ℕ) (w : protocol.World) (low : ℕ) → IsRenewed host passes new silo before w low
+      → TakesMany m host passes new silo before w (low + n)
+  takes_many zero w low is = record {
     actions = [];
     allowed = tt;
     by = tt;
-    then = let same : low ≡ low + 0 = omega arith in subst (IsRenewed host silo before w) same is;
+    then = let same : low ≡ low + 0 = omega arith in subst (IsRenewed host passes new silo before w) same is;
   }
-  takes_many once (suc n) w low is =
-      let first = takes_one w low is once in
-      let rest = takes_many once n (after m w first.a) (low + 1) first.then in
+  takes_many (suc n) w low is =
+      let first = takes_one w low is in
+      let rest = takes_many n (after m w first.a) (low + 1) first.then in
       record {
         actions = first.a ∷ rest.actions;
         allowed = (first.allowed, rest.allowed);
         by = (first.by, rest.by);
-        then = let same : low + 1 + n ≡ low + suc n = omega arith in subst (IsRenewed host silo before (run m rest.actions (after m w first.a))) same rest.then;
+        then =
+            let same : low + 1 + n ≡ low + suc n = omega arith in
+            subst (IsRenewed host passes new silo before (run m rest.actions (after m w first.a))) same rest.then;
       }
 
--- ---- the first number and the last
--- at the last one each phase's request was sent under its new number
-abbrev pub IsSentAnew : Phase → Host → (version : ℕ) → Silo → Grain → Held → List letters.Request → Type 0
-IsSentAnew (Asking k) host version silo grain held sent = Sent (request_by letters.Register version (new_number host k) silo grain held.count held.previous) sent
-IsSentAnew Firm host version silo grain held sent = ⊤
-IsSentAnew (Closing k) host version silo grain held sent = Sent (request_by letters.Deregister version (new_number host k) silo grain held.count None) sent
+  -- ---- the first number
+  phase_first : (its : Bool) (phase : Phase) → phase_by its new host.next_number phase ≡ phase
+  phase_first its (Asking k) = ap Asking (number_before its (new k) host.next_number k (renewal.from k))
+  phase_first its Firm = refl
+  phase_first its (Closing k) = ap Closing (number_before its (new k) host.next_number k (renewal.from k))
 
-from_first : (first rank : ℕ) → nat_lt (first + rank) first ≡ false
-from_first first rank = le-ltb (first + rank) first (omega arith)
+  held_first : (its : Bool) (o : Option Held) → option_map held_as o ≡ option_map (held_by its new host.next_number) o
+  held_first its None = refl
+  held_first its (Some h) = ap (λ p. Some (held_in p h.count h.previous)) (sym (phase_first its h.phase))
 
-module _ (host : Host) where
-  phase_first : (phase : Phase) → phase_by host host.next_number phase ≡ phase
-  phase_first (Asking k) = ap (λ b. Asking (cond b (new_number host k) k)) (le-ltb (new_number host k) host.next_number (omega arith))
-  phase_first Firm = refl
-  phase_first (Closing k) = ap (λ b. Closing (cond b (new_number host k) k)) (le-ltb (new_number host k) host.next_number (omega arith))
+  sent_first : (its : Bool) (phase : Phase) (version : ℕ) (grain : Grain) (held : Held) (sent : List letters.Request)
+      → IsSentBy its new phase host.next_number version silo grain held sent
+  sent_first its (Asking k) version grain held sent = λ mine below. let from = renewal.from k in absurd (omega (below, from, arith))
+  sent_first its Firm version grain held sent = tt
+  sent_first its (Closing k) version grain held sent = λ mine below. let from = renewal.from k in absurd (omega (below, from, arith))
 
-  held_first : (o : Option Held) → option_map held_as o ≡ option_map (held_by host host.next_number) o
-  held_first None = refl
-  held_first (Some h) = ap (λ p. Some (held_in p h.count h.previous)) (sym (phase_first h.phase))
-
-  sent_first : (phase : Phase) (version : ℕ) (silo : Silo) (grain : Grain) (held : Held) (sent : List letters.Request) → IsSentBy phase host host.next_number version silo grain held sent
-  sent_first (Asking k) version silo grain held sent = λ below. absurd (omega (below, arith))
-  sent_first Firm version silo grain held sent = tt
-  sent_first (Closing k) version silo grain held sent = λ below. absurd (omega (below, arith))
-
-  pub renewed_first : (silo : Silo) (w : protocol.World) → IsShownHost host (state_of w silo) → IsRenewed host silo w w host.next_number
-  renewed_first silo w shown = record {
+  renewed_first : IsShownHost host (state_of before silo) → IsRenewed host passes new silo before before host.next_number
+  renewed_first shown = record {
     now = refl;
     leaves = record { seen = refl; settled = refl; table = refl; served = refl };
     next_count = refl;
     next_number = shown.next_number;
-    held = λ grain. shown.held grain ∙ held_first (held_of host grain);
-    sent = λ grain held there. sent_first held.phase (w.seen silo) silo grain held w.requests;
+    held = λ grain. shown.held grain ∙ held_first (passes grain) (held_of host grain);
+    sent = λ grain held there. sent_first (passes grain) held.phase (before.seen silo) grain held before.requests;
   }
 
-module _ (host : Host) (numbered : AreNumbered host) where
+  -- ---- the last one
   abbrev end : ℕ
-  end = host.next_number + length (outstanding host)
+  end = host.next_number + count
 
-  below_end : (k : ℕ) → 1 ≤ many host (new_number host k) host.held → new_number host k < end
-  below_end k some =
-      on_bool (λ b. nat_lt (new_number host k) end ≡ b → new_number host k < end) (nat_lt (new_number host k) end)
-      (λ t is. ltb-true (new_number host k) end is)
-      (λ f is. let none = none_above host numbered (new_number host k) (ltb-false (new_number host k) end is) in absurd (omega (none, some, arith))) refl
+  abbrev anew : Grain → Held → Held
+  anew grain held = record held { phase = phase_anew (passes grain) new held.phase }
 
-  ends : (k : ℕ) (grain : Grain) (held : Held) → held_of host grain ≡ Some held → is_new host (new_number host k) held.phase ≡ true → new_number host k < end
-  ends k grain held found new = below_end k (many_found host (new_number host k) grain held host.held found new)
-
-  phase_last : (phase : Phase) (grain : Grain) (held : Held) → held_of host grain ≡ Some (record held { phase = phase }) → phase_by host end phase ≡ renewed_phase host phase
+  phase_last : (phase : Phase) (grain : Grain) (held : Held) → held_of host grain ≡ Some (record held { phase = phase })
+      → phase_by (passes grain) new end phase ≡ phase_anew (passes grain) new phase
   phase_last (Asking k) grain held found =
-      ap (λ b. Asking (cond b (new_number host k) k)) (lt-ltb (new_number host k) end (ends k grain (record held { phase = Asking k }) found (eq-eqb (new_number host k) (new_number host k) refl)))
+      ap Asking (number_after (passes grain) (new k) end k (renewal.below (new k) grain (record held { phase = Asking k }) found))
   phase_last Firm grain held found = refl
   phase_last (Closing k) grain held found =
-      ap (λ b. Closing (cond b (new_number host k) k)) (lt-ltb (new_number host k) end (ends k grain (record held { phase = Closing k }) found (eq-eqb (new_number host k) (new_number host k) refl)))
+      ap Closing (number_after (passes grain) (new k) end k (renewal.below (new k) grain (record held { phase = Closing k }) found))
 
-  abbrev anew : Held → Held
-  anew held = record held { phase = renewed_phase host held.phase }
-
-  held_last : (grain : Grain) (o : Option Held) → held_of host grain ≡ o → option_map (held_by host end) o ≡ option_map held_as (option_map anew o)
+  held_last : (grain : Grain) (o : Option Held) → held_of host grain ≡ o
+      → option_map (held_by (passes grain) new end) o ≡ option_map held_as (option_map (anew grain) o)
   held_last grain None found = refl
   held_last grain (Some h) found = ap (λ p. Some (held_in p h.count h.previous)) (phase_last h.phase grain h found)
 
+  got_last : (b : Bool) (k : ℕ) → b ≡ true → b && (new k == new k) ≡ true
+  got_last true k mine = eq-eqb (new k) (new k) refl
+  got_last false k mine = absurd (cc (mine))
+
+  number_last : (b : Bool) (k : ℕ) → b ≡ true → new k ≡ cond b (new k) k
+  number_last true k mine = refl
+  number_last false k mine = absurd (cc (mine))
+
   sent_last :
-      (phase : Phase) (version : ℕ) (silo : Silo) (grain : Grain) (held : Held) (sent : List letters.Request) → held_of host grain ≡ Some (record held { phase = phase })
-      → IsSentBy phase host end version silo grain held sent → IsSentAnew phase host version silo grain held sent
-  sent_last (Asking k) version silo grain held sent found is = is (ends k grain (record held { phase = Asking k }) found (eq-eqb (new_number host k) (new_number host k) refl))
-  sent_last Firm version silo grain held sent found is = tt
-  sent_last (Closing k) version silo grain held sent found is = is (ends k grain (record held { phase = Closing k }) found (eq-eqb (new_number host k) (new_number host k) refl))
+      (phase : Phase) (version : ℕ) (grain : Grain) (held : Held) (sent : List letters.Request)
+      → held_of host grain ≡ Some (record held { phase = phase }) → passes grain ≡ true
+      → IsSentBy (passes grain) new phase end version silo grain held sent
+      → IsSent (phase_anew (passes grain) new phase) version silo grain (record held { phase = phase_anew (passes grain) new phase }) sent
+  sent_last (Asking k) version grain held sent found mine is =
+      subst (λ n. Sent (request_by letters.Register version n silo grain held.count held.previous) sent) (number_last (passes grain) k mine)
+      (is mine (renewal.below (new k) grain (record held { phase = Asking k }) found (got_last (passes grain) k mine)))
+  sent_last Firm version grain held sent found mine is = tt
+  sent_last (Closing k) version grain held sent found mine is =
+      subst (λ n. Sent (request_by letters.Deregister version n silo grain held.count None) sent) (number_last (passes grain) k mine)
+      (is mine (renewal.below (new k) grain (record held { phase = Closing k }) found (got_last (passes grain) k mine)))
 
--- all that is outstanding was sent anew
-pub record SendsAnew (m : Setting) (host : Host) (silo : Silo) (w : protocol.World) : Type 0 where
-  pub actions : List Action
-  pub allowed : AllAllowed m actions w
-  pub by : AllBy silo actions
-  pub leaves : LeavesHolding silo w (run m actions w)
-  pub shown : IsShownHost (renewed host) (state_of (run m actions w) silo)
-  pub sent : (grain : Grain) (held : Held) → held_of host grain ≡ Some held → IsSentAnew held.phase host (w.seen silo) silo grain held (run m actions w).requests
+  pub sends_anew : IsShownHost host (state_of before silo) → SendsAnew m passes made silo before
+  sends_anew shown =
+      let takes = takes_many count before host.next_number (renewed_first shown) in
+      let is = takes.then in
+      let P = λ (e : Grain × Held). passes e.0 ≡ true → IsSent e.1.phase (before.seen silo) silo e.0 e.1 (run m takes.actions before).requests in
+      record {
+        actions = takes.actions;
+        allowed = takes.allowed;
+        by = takes.by;
+        leaves = is.leaves;
+        shown = record {
+          held = λ grain.
+              is.held grain ∙ held_last grain (held_of host grain) refl
+              ∙ ap (option_map held_as) (sym (ap (lookup (is_at (grain_cmp grain))) renewal.held ∙ found_made anew grain host.held));
+          next_number = is.next_number ∙ sym renewal.next_number;
+          next_count = is.next_count ∙ shown.next_count ∙ sym renewal.next_count;
+        };
+        sent =
+            subst (All P) (sym renewal.held) (All-map P (λ e. (e.0, anew e.0 e.1)) host.held
+            (all_found (λ e. P (e.0, anew e.0 e.1)) host.held once (λ grain held there mine.
+            sent_last held.phase (before.seen silo) grain held (run m takes.actions before).requests there mine
+            (is.sent grain held there))));
+      }
 
-pub sends_anew : (m : Setting) (host : Host) (silo : Silo) (w : protocol.World) → m.alive w.now silo ≡ true → AreNumbered host → HoldsOnce host → IsShownHost host (state_of w silo) → SendsAnew m host silo w
-sends_anew m host silo w alive numbered once shown =
-    let takes = takes_many m host silo w alive numbered once (length (outstanding host)) w host.next_number (renewed_first host silo w shown) in
-    let is = takes.then in
-    record {
-      actions = takes.actions;
-      allowed = takes.allowed;
-      by = takes.by;
-      leaves = is.leaves;
-      shown = record {
-        held = λ grain.
-            is.held grain ∙ held_last host numbered grain (held_of host grain) refl
-            ∙ ap (option_map held_as) (sym (lookup-map_values (anew host numbered) (is_at (grain_cmp grain)) host.held));
-        next_number = is.next_number;
-        next_count = is.next_count ∙ shown.next_count;
-      };
-      sent = λ grain held there. sent_last host numbered held.phase (w.seen silo) silo grain held (run m takes.actions w).requests there (is.sent grain held there);
-    }
+-- two ways to give new numbers that are alike
+pub alike : (one other : Grain → Phase → Phase) → ((grain : Grain) (phase : Phase) → one grain phase ≡ other grain phase)
+    → (es : List (Grain × Held)) → map (made_by one) es ≡ map (made_by other) es
+alike one other same [] = refl
+alike one other same (e ∷ es) =
+    ap (λ (p : Phase). let its : Grain × Held = (e.0, record e.1 { phase = p }) in its ∷ map (made_by one) es) (same e.0 e.1.phase)
+    ∙ ap (λ xs. made_by other e ∷ xs) (alike one other same es)

@@ -17,13 +17,11 @@ use Rattle.directory_protocol.specs.World as protocol
 use Rattle.directory_protocol.proofs.Changes.{silo_cases}
 use Rattle.directory_rules.specs.declared.effect.Effect.TheVariants as effect
 use Rattle.directory_rules.specs.Table.{entry_at, table_of}
-use Rattle.directory_rules.specs.Recovery.{Report, Recovery, Awaits_more, is_among, with_report, new_recovery, recovered}
-use Rattle.directory_rules.specs.Letter.{Letter}
-use Rattle.directory_rules.specs.Node.{Node}
+use Rattle.directory_rules.specs.State.{Report, Recovery, Letter, Node, World}
+use Rattle.directory_rules.specs.Recovery.{Awaits_more, is_among, with_report, new_recovery, recovered}
 use Rattle.directory_rules.specs.Sent.{recovery_of}
 use Rattle.directory_rules.specs.Step.{silently}
 use Rattle.directory_rules.specs.Transfer.{with_recovery}
-use Rattle.directory_rules.specs.World.{World}
 use Rattle.directory_rules.proofs.Cases.{on_bool}
 use Rattle.directory_facts.proofs.Collected.{found_or, IsTaken, TakenSo, taken_so}
 use Rattle.directory_facts.proofs.Entries.{all_put}
@@ -36,14 +34,16 @@ use Rattle.directory_headline.proofs.NewRecoveries.{recovery_begins}
 use Rattle.directory_headline.proofs.Frame.{Here, Comes, Moves, stays, node_shown, hash_is, no_letters}
 
 -- ---- who is awaited still
-among_rest : (silo gone : Silo) (silos : List Silo) → is_among silo (filter (λ s. not (silo_eq s gone)) silos) ≡ true → is_among silo silos ≡ true
+among_rest : (silo gone : Silo) (silos : List Silo) → is_among silo (filter (λ s. not (silo_eq s gone)) silos) ≡ true
+    → is_among silo silos ≡ true
 among_rest silo gone [] is = is
 among_rest silo gone (s ∷ ss) is =
     on_bool (λ b. silo_eq silo s ≡ b → is_among silo (s ∷ ss) ≡ true) (silo_eq silo s)
     (λ t at. ap (λ b. b || is_among silo ss) at)
     (λ u at.
     let rest : is_among silo (filter (λ x. not (silo_eq x gone)) ss) ≡ true =
-    on_bool (λ b. is_among silo (cond b (s ∷ filter (λ x. not (silo_eq x gone)) ss) (filter (λ x. not (silo_eq x gone)) ss)) ≡ true → is_among silo (filter (λ x. not (silo_eq x gone)) ss) ≡ true) (not (silo_eq s gone))
+    on_bool (λ b. is_among silo (cond b (s ∷ filter (λ x. not (silo_eq x gone)) ss) (filter (λ x. not (silo_eq x gone)) ss)) ≡ true
+    → is_among silo (filter (λ x. not (silo_eq x gone)) ss) ≡ true) (not (silo_eq s gone))
     (λ t it. sym (ap (λ b. b || is_among silo (filter (λ x. not (silo_eq x gone)) ss)) at) ∙ it) (λ u it. it) is in
     ap (λ b. b || is_among silo ss) at ∙ among_rest silo gone ss rest)
     refl
@@ -51,7 +51,8 @@ among_rest silo gone (s ∷ ss) is =
 not_gone : (gone : Silo) (silos : List Silo) → is_among gone (filter (λ s. not (silo_eq s gone)) silos) ≡ false
 not_gone gone [] = refl
 not_gone gone (s ∷ ss) =
-    on_bool (λ b. silo_eq s gone ≡ b → is_among gone (cond (not b) (s ∷ filter (λ x. not (silo_eq x gone)) ss) (filter (λ x. not (silo_eq x gone)) ss)) ≡ false) (silo_eq s gone)
+    on_bool (λ b. silo_eq s gone ≡ b → is_among gone
+    (cond (not b) (s ∷ filter (λ x. not (silo_eq x gone)) ss) (filter (λ x. not (silo_eq x gone)) ss)) ≡ false) (silo_eq s gone)
     (λ t at. not_gone gone ss)
     (λ u at.
     let other : silo_eq gone s ≡ false =
@@ -60,22 +61,28 @@ not_gone gone (s ∷ ss) =
     ap (λ b. b || is_among gone (filter (λ x. not (silo_eq x gone)) ss)) other ∙ not_gone gone ss)
     refl
 
-still_among : (silo gone : Silo) (silos : List Silo) → silo ≢ gone → is_among silo silos ≡ true → is_among silo (filter (λ s. not (silo_eq s gone)) silos) ≡ true
+still_among : (silo gone : Silo) (silos : List Silo) → silo ≢ gone → is_among silo silos ≡ true
+    → is_among silo (filter (λ s. not (silo_eq s gone)) silos) ≡ true
 still_among silo gone [] apart is = is
 still_among silo gone (s ∷ ss) apart is =
-    on_bool (λ b. silo_eq s gone ≡ b → is_among silo (cond (not b) (s ∷ filter (λ x. not (silo_eq x gone)) ss) (filter (λ x. not (silo_eq x gone)) ss)) ≡ true) (silo_eq s gone)
+    on_bool (λ b. silo_eq s gone ≡ b → is_among silo
+    (cond (not b) (s ∷ filter (λ x. not (silo_eq x gone)) ss) (filter (λ x. not (silo_eq x gone)) ss)) ≡ true) (silo_eq s gone)
     (λ t at.
     let same = (Decides-silo s gone).0 at in
     let other : silo_eq silo s ≡ false =
-    on_bool (λ b. silo_eq silo s ≡ b → silo_eq silo s ≡ false) (silo_eq silo s) (λ t it. absurd (apart ((Decides-silo silo s).0 it ∙ same))) (λ u it. it) refl in
+    on_bool (λ b. silo_eq silo s ≡ b → silo_eq silo s ≡ false) (silo_eq silo s) (λ t it. absurd (apart ((Decides-silo silo s).0 it ∙ same)))
+    (λ u it. it) refl in
     still_among silo gone ss apart (sym (ap (λ b. b || is_among silo ss) other) ∙ is))
-    (λ u at. on_bool (λ b. silo_eq silo s ≡ b → (b || is_among silo (filter (λ x. not (silo_eq x gone)) ss)) ≡ true) (silo_eq silo s) (λ t it. refl)
+    (λ u at. on_bool (λ b. silo_eq silo s ≡ b → (b || is_among silo (filter (λ x. not (silo_eq x gone)) ss)) ≡ true) (silo_eq silo s)
+    (λ t it. refl)
     (λ v it. still_among silo gone ss apart (sym (ap (λ b. b || is_among silo ss) it) ∙ is)) refl)
     refl
 
-rest_false : (silo gone : Silo) (silos : List Silo) → is_among silo silos ≡ false → is_among silo (filter (λ s. not (silo_eq s gone)) silos) ≡ false
+rest_false : (silo gone : Silo) (silos : List Silo) → is_among silo silos ≡ false
+    → is_among silo (filter (λ s. not (silo_eq s gone)) silos) ≡ false
 rest_false silo gone silos is =
-    on_bool (λ b. is_among silo (filter (λ s. not (silo_eq s gone)) silos) ≡ b → b ≡ false) (is_among silo (filter (λ s. not (silo_eq s gone)) silos))
+    on_bool (λ b. is_among silo (filter (λ s. not (silo_eq s gone)) silos) ≡ b → b ≡ false)
+    (is_among silo (filter (λ s. not (silo_eq s gone)) silos))
     (λ t it. absurd (cc (sym is ∙ among_rest silo gone silos it))) (λ u it. refl) refl
 
 -- ---- the recovery with the report
@@ -89,7 +96,8 @@ some_count : (o : Option Entry) (count : ℕ) → Some count ≡ option_map (λ 
 some_count None count is = absurd (cc (is))
 some_count (Some e) count is = (e, refl)
 
-module _ (m : Setting) (sent : List _) (recovery : Recovery) (report : Report) (was : IsShownRecovery m sent recovery) (taken : IsTaken recovery report) (sound : IsSound m.hash report)
+module _ (m : Setting) (sent : List _) (recovery : Recovery) (report : Report) (was : IsShownRecovery m sent recovery)
+    (taken : IsTaken recovery report) (sound : IsSound m.hash report)
     (shown : IsShownReport m.hash sent report) where
   abbrev next : Recovery
   next = with_report recovery report
@@ -102,7 +110,12 @@ module _ (m : Setting) (sent : List _) (recovery : Recovery) (report : Report) (
       elim (union_came grain report.entries recovery.gathered e sound.table found) [
         | inl old ↦
             let had = was.gathered grain e old in
-            record { inside = had.inside; on_member = had.on_member; reported = rest_false e.activation.silo report.silo recovery.awaiting had.reported }
+            record {
+              inside = had.inside;
+              on_member = had.on_member;
+              reported = rest_false e.activation.silo report.silo recovery.awaiting
+                  had.reported;
+            }
         | inr new ↦
             let its = sound.own grain e new in
             record {
@@ -167,10 +180,12 @@ module _ (m : Setting) (sent : List _) (recovery : Recovery) (report : Report) (
 abbrev keyed : Entry → Grain × Entry
 keyed e = (e.grain, e)
 
-module _ (m : Setting) (f : World) (w : protocol.World) (silo : Silo) (node : Node) (here : Here m f w silo node) (letter : Letter) (report : Report) (taken : IsReportTaken node letter report) (comes : Comes m f w silo letter) where
+module _ (m : Setting) (f : World) (w : protocol.World) (silo : Silo) (node : Node) (here : Here m f w silo node) (letter : Letter)
+    (report : Report) (taken : IsReportTaken node letter report) (comes : Comes m f w silo letter) where
   pub recovery_shown : IsShownRecovery m w.reports (recovery_of node report.range)
   recovery_shown =
-      found_or (IsShownRecovery m w.reports) (is_at (nat_cmp report.range.start)) (new_recovery node.view report.range) node.recoveries (node_shown m f w silo node here).recoveries
+      found_or (IsShownRecovery m w.reports) (is_at (nat_cmp report.range.start)) (new_recovery node.view report.range) node.recoveries
+      (node_shown m f w silo node here).recoveries
       (recovery_begins m f w silo node here report.range)
 
   pub report_shown : IsShownReport m.hash w.reports report
@@ -185,18 +200,24 @@ module _ (m : Setting) (f : World) (w : protocol.World) (silo : Silo) (node : No
             let all = All-map (λ (x : Grain × Entry). holds report.range (hash_grain node.settings.hashing x.1.grain) ≡ true) keyed report.entries
             (all_from (λ (x : Entry). holds report.range (hash_grain node.settings.hashing x.grain)) report.entries taken.lie) in
             ap (λ hash. holds report.range (hash grain)) (hash_is m f w silo node here)
-            ∙ ap (λ g. holds report.range (hash_grain node.settings.hashing g)) (sym (found_own grain (table_of report.entries) e order.own_grain found))
-            ∙ found_holds (λ x. holds report.range (hash_grain node.settings.hashing x.1.grain) ≡ true) grain (table_of report.entries) e all found;
+            ∙ ap (λ g. holds report.range (hash_grain node.settings.hashing g))
+            (sym (found_own grain (table_of report.entries) e order.own_grain found))
+            ∙ found_holds (λ x. holds report.range (hash_grain node.settings.hashing x.1.grain) ≡ true) grain (table_of report.entries) e
+            all found;
         own = λ grain e found.
             let all = All-map (λ (x : Grain × Entry). silo_eq x.1.activation.silo letter.from ≡ true) keyed report.entries
             (all_from (λ (x : Entry). silo_eq x.activation.silo letter.from) report.entries taken.own) in
-            (Decides-silo e.activation.silo letter.from).0 (found_holds (λ x. silo_eq x.1.activation.silo letter.from ≡ true) grain (table_of report.entries) e all found) ∙ sym taken.sender;
+            (Decides-silo e.activation.silo letter.from).0
+            (found_holds (λ x. silo_eq x.1.activation.silo letter.from ≡ true) grain (table_of report.entries) e all found)
+            ∙ sym taken.sender;
       }
 
-  pub more_shown : IsTaken (recovery_of node report.range) report → IsShownRecovery m w.reports (with_report (recovery_of node report.range) report)
+  pub more_shown : IsTaken (recovery_of node report.range) report
+      → IsShownRecovery m w.reports (with_report (recovery_of node report.range) report)
   more_shown is = with_report_shown m w.reports (recovery_of node report.range) report recovery_shown is report_sound report_shown
 
-  pub collects : (recovery : Recovery) → recovered (recovery_of node report.range) report ≡ Awaits_more recovery → Moves m w silo (silently (with_recovery node recovery) effect.More)
+  pub collects : (recovery : Recovery) → recovered (recovery_of node report.range) report ≡ Awaits_more recovery
+      → Moves m w silo (silently (with_recovery node recovery) effect.More)
   collects recovery is =
       let so : TakenSo (recovery_of node report.range) report (Awaits_more recovery) = subst (TakenSo (recovery_of node report.range) report) is (taken_so (recovery_of node report.range) report) in
       let was = node_shown m f w silo node here in
@@ -206,6 +227,8 @@ module _ (m : Setting) (f : World) (w : protocol.World) (silo : Silo) (node : No
         holding = was.holding;
         shelf = was.shelf;
         gatherings = was.gatherings;
-        recoveries = all_put nat_cmp exact_unsigned (λ (e : ℕ × Recovery). IsShownRecovery m w.reports e.1) recovery.range.start recovery node.recoveries was.recoveries
+        recoveries =
+            all_put nat_cmp exact_unsigned (λ (e : ℕ × Recovery). IsShownRecovery m w.reports e.1) recovery.range.start recovery
+            node.recoveries was.recoveries
             (subst (IsShownRecovery m w.reports) (sym so.1) (more_shown so.0));
       }) (no_letters (IsShownLetter m.hash w))

@@ -27,14 +27,12 @@ use Rattle.directory_rules.specs.declared.reply.Reply.TheVariants as reply
 use Rattle.directory_rules.specs.declared.reply.Why.{Why}
 use Rattle.directory_rules.specs.declared.piece_state.PieceState.TheVariants.{Settled}
 use Rattle.directory_rules.specs.Table.{entry_at}
-use Rattle.directory_rules.specs.Piece.{Piece}
+use Rattle.directory_rules.specs.State.{Piece, Letter, Request_letter, Reply_letter, Node, World}
 use Rattle.directory_rules.specs.Answer.{is_numbered, Turned, turned, Answered, piece_with, last_served, serving_piece, after_numbered, served_by, answered_from, answered, found_reply}
-use Rattle.directory_rules.specs.Sent.{letter_to, grain_of}
-use Rattle.directory_rules.specs.Letter.{Letter, Request_letter, Reply_letter}
-use Rattle.directory_rules.specs.Node.{Node}
+use Rattle.directory_rules.specs.Sent.{letter_to}
+use Rattle.directory_rules.specs.Host.{grain_of}
 use Rattle.directory_rules.specs.Receive.{replying}
 use Rattle.directory_rules.specs.Sight.{is_settled}
-use Rattle.directory_rules.specs.World.{World}
 use Rattle.directory_rules.proofs.Ranges.{stands_at}
 use Rattle.directory_facts.specs.Own.{SaysOwn, NamesOwn, IsOwnRequest}
 use Rattle.directory_facts.specs.Whole.{LeavesOthers}
@@ -54,7 +52,8 @@ use Rattle.directory_headline.proofs.PieceSet.{set_found}
 use Rattle.directory_headline.proofs.HighHashes.{held_once}
 use Rattle.directory_headline.proofs.TableAnswers.{IsTurn, registers, deregisters}
 
-settled_by : (one other : Option Piece) → option_map (λ (p : Piece). p.state) one ≡ option_map (λ (p : Piece). p.state) other → is_settled_piece one ≡ is_settled_piece other
+settled_by : (one other : Option Piece) → option_map (λ (p : Piece). p.state) one ≡ option_map (λ (p : Piece). p.state) other
+    → is_settled_piece one ≡ is_settled_piece other
 settled_by None None same = refl
 settled_by None (Some other) same = absurd (cc (same))
 settled_by (Some one) None same = absurd (cc (same))
@@ -69,7 +68,8 @@ newer_number last number is = ltb-true last number (passes (nat_lt last number) 
     passes false is = absurd (cc (is))
 
 -- a request about an entry, which a piece serves
-record IsServed (m : Setting) (w : protocol.World) (node : Node) (request : Request) (piece : Piece) (purpose : letters.Purpose) (entry : Entry) (previous : Option ActivationId) (turn : Turned) : Type 0 where
+record IsServed (m : Setting) (w : protocol.World) (node : Node) (request : Request) (piece : Piece) (purpose : letters.Purpose)
+    (entry : Entry) (previous : Option ActivationId) (turn : Turned) : Type 0 where
   serves : Serves node.holding request piece
   newer : last_served request.sender node.holding.served < request.number
   sent : Sent (request_as request purpose entry previous) w.requests
@@ -83,15 +83,24 @@ module _ (m : Setting) (f : World) (w : protocol.World) (silo : Silo) (node : No
   pieces_are = (node_facts m f w silo node here).pieces
 
   grain_below : (grain : Grain) → m.hash grain < circle
-  grain_below grain = subst (λ hash. hash grain < circle) (sym (hash_is m f w silo node here)) (grains_have_hashes node.settings.hashing grain)
+  grain_below grain =
+      subst (λ hash. hash grain < circle) (sym (hash_is m f w silo node here)) (grains_have_hashes node.settings.hashing grain)
 
   piece_table : (hash : ℕ) (piece : Piece) → piece_with hash node.holding.pieces ≡ Some piece → InOrder piece.entries
   piece_table hash piece found = (of_found (λ e. IsPiece m.hash e.1) hash node.holding.pieces piece pieces_are.each found).1.table
 
   module _
-      (request : Request) (piece : Piece) (purpose : letters.Purpose) (entry : Entry) (previous : Option ActivationId) (turn : Turned) (is : IsServed m w node request piece purpose entry previous turn) where
+      (request : Request) (piece : Piece) (purpose : letters.Purpose) (entry : Entry) (previous : Option ActivationId) (turn : Turned)
+      (is : IsServed m w node request piece purpose entry previous turn) where
     abbrev service : Service
-    service = record { server = silo; request = request_as request purpose entry previous; answer = is.turns.answer; entry = activation_in (entry_at entry.grain turn.table) }
+    service =
+        record {
+          server = silo;
+          request = request_as request purpose entry previous;
+          answer = is.turns.answer;
+          entry = activation_in
+              (entry_at entry.grain turn.table);
+        }
 
     abbrev later : protocol.World
     later = after m w (Serve service)
@@ -116,11 +125,14 @@ module _ (m : Setting) (f : World) (w : protocol.World) (silo : Silo) (node : No
           same_version = seen_is m f w silo node here ∙ sym version;
           settled =
               was.settled (m.hash entry.grain) ∙ ap (λ o. is_settled_piece o && nat_lt (m.hash entry.grain) circle) found
-              ∙ ap (λ s. is_settled s && nat_lt (m.hash entry.grain) circle) is.serves.settled ∙ lt-ltb (m.hash entry.grain) circle (grain_below entry.grain);
+              ∙ ap (λ s. is_settled s && nat_lt (m.hash entry.grain) circle) is.serves.settled
+              ∙ lt-ltb (m.hash entry.grain) circle (grain_below entry.grain);
           new_number = subst (λ n. n < request.number) (sym (was.served request.sender)) is.newer;
           answered =
-              subst (λ a. IsAnswered purpose a previous (w.table silo entry.grain) is.turns.answer (activation_in (entry_at entry.grain turn.table))) (sym named)
-              (subst (λ before. IsAnswered purpose entry.activation previous before is.turns.answer (activation_in (entry_at entry.grain turn.table)))
+              subst (λ a. IsAnswered purpose a previous (w.table silo entry.grain) is.turns.answer
+              (activation_in (entry_at entry.grain turn.table))) (sym named)
+              (subst (λ before. IsAnswered purpose entry.activation previous before is.turns.answer
+              (activation_in (entry_at entry.grain turn.table)))
               (sym (was.table entry.grain piece found is.serves.settled)) is.turns.answered);
         }
 
@@ -130,11 +142,13 @@ module _ (m : Setting) (f : World) (w : protocol.World) (silo : Silo) (node : No
         let h = m.hash entry.grain in
         let ranged = All-weaker (λ e. IsPiece m.hash e.1) (λ (e : ℕ × Piece). IsRange e.1.range) (λ e its. its.range) node.holding.pieces pieces_are.each in
         set_found piece.range.start h node.holding.pieces piece (record piece { entries = turn.table })
-        (stands_at h node.holding.pieces piece (rising_ranges node.holding.pieces pieces_are.rising pieces_are.under_start) found) refl (found_holds h node.holding.pieces piece found)
+        (stands_at h node.holding.pieces piece (rising_ranges node.holding.pieces pieces_are.rising pieces_are.under_start) found) refl
+        (found_holds h node.holding.pieces piece found)
         (held_once node.ring.points node.host.silo node.holding.pieces own.once ranged h)
 
     -- another grain has its entry still
-    other_entry : (grain : Grain) (next : Piece) → grain ≢ entry.grain → piece_with (m.hash grain) made.holding.pieces ≡ Some next → next.state ≡ Settled → (before : Option Piece)
+    other_entry : (grain : Grain) (next : Piece) → grain ≢ entry.grain → piece_with (m.hash grain) made.holding.pieces ≡ Some next
+        → next.state ≡ Settled → (before : Option Piece)
         → piece_with (m.hash grain) node.holding.pieces ≡ before → w.table silo grain ≡ activation_in (entry_at grain next.entries)
     other_entry grain next apart there settled None was_there =
         let state = states_same (m.hash grain) node.holding.pieces made.holding.pieces is.leaves.outline in
@@ -147,7 +161,8 @@ module _ (m : Setting) (f : World) (w : protocol.World) (silo : Silo) (node : No
         let its : before.state ≡ next.state = cc (one) in
         (node_shown m f w silo node here).holding.table grain before was_there (its ∙ settled)
         ∙ ap activation_in
-        (ap (λ o. option_and_then (λ (p : Piece). entry_at grain p.entries) o) (sym was_there) ∙ sym (is.leaves.others (m.hash grain) grain apart)
+        (ap (λ o. option_and_then (λ (p : Piece). entry_at grain p.entries) o) (sym was_there)
+        ∙ sym (is.leaves.others (m.hash grain) grain apart)
         ∙ ap (λ o. option_and_then (λ (p : Piece). entry_at grain p.entries) o) there)
 
     holding_shown : IsShownHolding m.hash made.holding (state_of later silo)
@@ -157,7 +172,8 @@ module _ (m : Setting) (f : World) (w : protocol.World) (silo : Silo) (node : No
           settled = λ h.
               was.settled h
               ∙ ap (λ b. b && nat_lt h circle)
-              (settled_by (piece_with h node.holding.pieces) (piece_with h made.holding.pieces) (sym (states_same h node.holding.pieces made.holding.pieces is.leaves.outline)));
+              (settled_by (piece_with h node.holding.pieces) (piece_with h made.holding.pieces)
+              (sym (states_same h node.holding.pieces made.holding.pieces is.leaves.outline)));
           table = λ grain next there settled.
               elim (grain_cases grain entry.grain) [
                 | inl same ↦
@@ -166,18 +182,22 @@ module _ (m : Setting) (f : World) (w : protocol.World) (silo : Silo) (node : No
                     ∙ ap (λ o. activation_in (option_and_then (λ (p : Piece). entry_at entry.grain p.entries) o)) one
                     ∙ ap (λ g. activation_in (entry_at g next.entries)) (sym same)
                 | inr apart ↦
-                    put_at_other silo entry.grain service.entry w.table silo grain (λ its. apart) ∙ other_entry grain next apart there settled (piece_with (m.hash grain) node.holding.pieces) refl
+                    put_at_other silo entry.grain service.entry w.table silo grain (λ its. apart)
+                    ∙ other_entry grain next apart there settled (piece_with (m.hash grain) node.holding.pieces) refl
               ];
           served = λ sender.
               ap (λ s. s sender) (put_same silo (put request.sender request.number (w.served silo)) w.served)
               ∙ elim (silo_cases sender request.sender) [
                 | inl same ↦
-                    ap (λ s. put request.sender request.number (w.served silo) s) same ∙ put_same request.sender request.number (w.served silo)
-                    ∙ ap (λ o. unwrap_or o 0) (sym (found_put silo_cmp silo_cmp_total silo_cmp_exact request.sender request.number node.holding.served))
+                    ap (λ s. put request.sender request.number (w.served silo) s) same
+                    ∙ put_same request.sender request.number (w.served silo)
+                    ∙ ap (λ o. unwrap_or o 0) (sym (found_put silo_cmp silo_cmp_total silo_cmp_exact request.sender request.number
+                    node.holding.served))
                     ∙ ap (λ s. last_served s made.holding.served) (sym same)
                 | inr apart ↦
                     put_other request.sender request.number (w.served silo) sender apart ∙ was.served sender
-                    ∙ ap (λ o. unwrap_or o 0) (sym (found_beside_put silo_cmp silo_cmp_total silo_cmp_exact request.sender request.number node.holding.served sender apart))
+                    ∙ ap (λ o. unwrap_or o 0) (sym (found_beside_put silo_cmp silo_cmp_total silo_cmp_exact request.sender request.number
+                    node.holding.served sender apart))
               ];
         }
 
@@ -185,7 +205,10 @@ module _ (m : Setting) (f : World) (w : protocol.World) (silo : Silo) (node : No
         let one : letters.Reply = record { answer = is.turns.answer; version = v; number = request.number; receiver = request.sender } in
         let other : letters.Reply = record { answer = is.turns.answer; version = v'; number = request.number; receiver = request.sender } in
         one ≡ other
-    reply_is v v' same = ap (λ (x : ℕ). let y : letters.Reply = record { answer = is.turns.answer; version = x; number = request.number; receiver = request.sender } in y) same
+    reply_is v v' same =
+        ap (λ (x : ℕ).
+        let y : letters.Reply = record { answer = is.turns.answer; version = x; number = request.number; receiver = request.sender } in
+        y) same
 
     serves_so : Moves m w silo (replying node request made)
     serves_so =
@@ -199,15 +222,19 @@ module _ (m : Setting) (f : World) (w : protocol.World) (silo : Silo) (node : No
           shelf = shelf_still m w later grows node.shelf was.shelf;
           gatherings = gatherings_still m w later grows node.gatherings was.gatherings;
           recoveries = recoveries_still m w later grows node.recoveries was.recoveries;
-        }) (one_letter (IsShownLetter m.hash later) letter (is.turns.shown later.replies letter request.number (inl (reply_is node.view.version request.version (sym version)))))
+        }) (one_letter (IsShownLetter m.hash later) letter
+        (is.turns.shown later.replies letter request.number (inl (reply_is node.view.version request.version (sym version)))))
 
   -- a request that isn't served, or that only asks, changes nothing
-  unchanged : (request : Request) (its : Reply) → ((letter : Letter) → IsShownReply w.replies letter request.number its) → Moves m w silo (replying node request (record { reply = its; holding = node.holding }))
+  unchanged : (request : Request) (its : Reply) → ((letter : Letter) → IsShownReply w.replies letter request.number its)
+      → Moves m w silo (replying node request (record { reply = its; holding = node.holding }))
   unchanged request its shown =
       let letter = letter_to request.sender node (Reply_letter request.number its) in
-      stays m w silo (replying node request (record { reply = its; holding = node.holding })) (node_shown m f w silo node here) (one_letter (IsShownLetter m.hash w) letter (shown letter))
+      stays m w silo (replying node request (record { reply = its; holding = node.holding })) (node_shown m f w silo node here)
+      (one_letter (IsShownLetter m.hash w) letter (shown letter))
 
-  finds : (request : Request) (there : Option Entry) → Moves m w silo (replying node request (record { reply = found_reply there; holding = node.holding }))
+  finds : (request : Request) (there : Option Entry)
+      → Moves m w silo (replying node request (record { reply = found_reply there; holding = node.holding }))
   finds request None = unchanged request (found_reply None) (λ letter. tt)
   finds request (Some there) = unchanged request (found_reply (Some there)) (λ letter. tt)
 
@@ -226,12 +253,16 @@ module _ (m : Setting) (f : World) (w : protocol.World) (silo : Silo) (node : No
 
     by_act :
         (piece : Piece) → serving_piece node.holding request ≡ Ok piece → (its : Act) → request.act ≡ its
-        → LeavesOthers (grain_of its) node.holding (served_by its piece node.holding request).holding → Moves m w silo (replying node request (served_by its piece node.holding request))
+        → LeavesOthers (grain_of its) node.holding (served_by its piece node.holding request).holding
+        → Moves m w silo (replying node request (served_by its piece node.holding request))
     by_act piece is (act.Register entry previous) same leaves =
         let its = serves node.holding request piece is in
         serves_so request piece letters.Register entry previous (turned (act.Register entry previous) piece.entries) (record {
           serves = its;
-          newer = newer_number (last_served request.sender node.holding.served) request.number (ap (λ a. is_numbered a && not (nat_lt (last_served request.sender node.holding.served) request.number)) (sym same) ∙ its.newer);
+          newer =
+              newer_number (last_served request.sender node.holding.served) request.number
+              (ap (λ a. is_numbered a && not (nat_lt (last_served request.sender node.holding.served) request.number)) (sym same)
+              ∙ its.newer);
           sent = shown_so (act.Register entry previous) same;
           hash = hash_so (act.Register entry previous) same;
           own = own_so (act.Register entry previous) same;
@@ -242,7 +273,10 @@ module _ (m : Setting) (f : World) (w : protocol.World) (silo : Silo) (node : No
         let its = serves node.holding request piece is in
         serves_so request piece letters.Deregister entry None (turned (act.Deregister entry) piece.entries) (record {
           serves = its;
-          newer = newer_number (last_served request.sender node.holding.served) request.number (ap (λ a. is_numbered a && not (nat_lt (last_served request.sender node.holding.served) request.number)) (sym same) ∙ its.newer);
+          newer =
+              newer_number (last_served request.sender node.holding.served) request.number
+              (ap (λ a. is_numbered a && not (nat_lt (last_served request.sender node.holding.served) request.number)) (sym same)
+              ∙ its.newer);
           sent = shown_so (act.Deregister entry) same;
           hash = hash_so (act.Deregister entry) same;
           own = own_so (act.Deregister entry) same;
@@ -251,11 +285,13 @@ module _ (m : Setting) (f : World) (w : protocol.World) (silo : Silo) (node : No
         })
     by_act piece is (act.Find grain) same leaves = finds request (entry_at grain piece.entries)
 
-    by_serving : (serving : Result Piece Why) → serving_piece node.holding request ≡ serving → Moves m w silo (replying node request (answered_from serving node.holding request))
+    by_serving : (serving : Result Piece Why) → serving_piece node.holding request ≡ serving
+        → Moves m w silo (replying node request (answered_from serving node.holding request))
     by_serving (Err why) is = unchanged request (reply.Retry why) (λ letter. tt)
     by_serving (Ok piece) is =
         let leaves = answers_leave_others node.holding request pieces_are.under_start (keys_rise node.holding.pieces pieces_are.rising) in
-        by_act piece is request.act refl (subst (λ r. LeavesOthers (grain_of request.act) node.holding (answered_from r node.holding request).holding) is leaves)
+        by_act piece is request.act refl (subst (λ r. LeavesOthers (grain_of request.act) node.holding
+        (answered_from r node.holding request).holding) is leaves)
 
     pub answers : Moves m w silo (replying node request (answered node.holding request))
     answers = by_serving (serving_piece node.holding request) refl

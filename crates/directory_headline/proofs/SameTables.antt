@@ -11,7 +11,8 @@ use Rattle.silo_address.specs.declared.ActivationId.{ActivationId}
 use Rattle.silo_address.specs.declared.Entry.{Entry}
 use Rattle.silo_address.proofs.Order.{grain_cmp_total, grain_cmp_exact}
 use Rattle.ring_range.specs.Range.{Range, holds}
-use Rattle.directory_rules.specs.Table.{Table, entry_at, entries_of, table_of}
+use Rattle.directory_rules.specs.State.{Table}
+use Rattle.directory_rules.specs.Table.{entry_at, entries_of, table_of}
 use Rattle.texts.proofs.Entries.{all_above}
 use Rattle.directory_rules.proofs.Cases.{on_bool}
 use Rattle.directory_rules.proofs.RisingTables.{entries_again}
@@ -22,12 +23,15 @@ use Rattle.directory_headline.proofs.TableEntries.{table_tail, head_apart, found
 use Rattle.directory_protocol.proofs.Changes.{grain_cases}
 
 -- a grain below the first one has no entry
-none_below : (grain : Grain) (e : Grain × Entry) (es : Table) → InOrder (e ∷ es) → grain_cmp grain e.0 ≡ Less → entry_at grain (e ∷ es) ≡ None
+none_below : (grain : Grain) (e : Grain × Entry) (es : Table) → InOrder (e ∷ es) → grain_cmp grain e.0 ≡ Less
+    → entry_at grain (e ∷ es) ≡ None
 unfolding IsStrictlySortedBy
 none_below grain e es is less =
-    ap (λ r. cond (is_eq r) (Some e.1) (entry_at grain es)) less ∙ none_above grain es (all_above grain_cmp_total grain e.0 es less is.by_grain.0)
+    ap (λ r. cond (is_eq r) (Some e.1) (entry_at grain es)) less
+    ∙ none_above grain es (all_above grain_cmp_total grain e.0 es less is.by_grain.0)
 
-pub same_tables : (one other : Table) → InOrder one → InOrder other → ((grain : Grain) → entry_at grain one ≡ entry_at grain other) → one ≡ other
+pub same_tables : (one other : Table) → InOrder one → InOrder other → ((grain : Grain) → entry_at grain one ≡ entry_at grain other)
+    → one ≡ other
 same_tables [] [] is its same = refl
 same_tables [] (y ∷ ys) is its same = absurd (cc (same y.0 ∙ lookup_first grain_cmp grain_cmp_total y.0 y.1 ys))
 same_tables (x ∷ xs) [] is its same = absurd (cc (sym (same x.0) ∙ lookup_first grain_cmp grain_cmp_total x.0 x.1 xs))
@@ -68,14 +72,16 @@ module _ (hash : Grain → ℕ) (range : Range) (says : Grain → Option Activat
   list_table entries is = order_rising entries is.rising
 
   -- an entry of the list is of the range
-  lies_in : (entries : List Entry) → IsListOf hash range says entries → (grain : Grain) (e : Entry) → entry_at grain (table_of entries) ≡ Some e → holds range (hash grain) ≡ true
+  lies_in : (entries : List Entry) → IsListOf hash range says entries → (grain : Grain) (e : Entry)
+      → entry_at grain (table_of entries) ≡ Some e → holds range (hash grain) ≡ true
   lies_in entries is grain e found =
       let table = list_table entries is in
       ap (λ g. holds range (hash g)) (sym (found_own grain (table_of entries) e table.own_grain found))
       ∙ found_holds (λ x. holds range (hash x.1.grain) ≡ true) grain (table_of entries) e
       (All-map (λ (x : Grain × Entry). holds range (hash x.1.grain) ≡ true) (λ entry. (entry.grain, entry)) entries is.inside) found
 
-  same_entry_of : (grain : Grain) (a b : Option Entry) → ((e : Entry) → a ≡ Some e → e.grain ≡ grain) → ((e : Entry) → b ≡ Some e → e.grain ≡ grain) → activation_in a ≡ activation_in b → a ≡ b
+  same_entry_of : (grain : Grain) (a b : Option Entry) → ((e : Entry) → a ≡ Some e → e.grain ≡ grain)
+      → ((e : Entry) → b ≡ Some e → e.grain ≡ grain) → activation_in a ≡ activation_in b → a ≡ b
   same_entry_of grain None None own its same = refl
   same_entry_of grain None (Some e) own its same = absurd (cc (same))
   same_entry_of grain (Some e) None own its same = absurd (cc (same))
@@ -85,7 +91,8 @@ module _ (hash : Grain → ℕ) (range : Range) (says : Grain → Option Activat
       ap (λ (g : Grain). let y : Entry = record { grain = g; activation = e.activation } in Some y) grains
       ∙ ap (λ (a : ActivationId). let y : Entry = record { grain = x.grain; activation = a } in Some y) activations
 
-  outside : (entries : List Entry) → IsListOf hash range says entries → (grain : Grain) → holds range (hash grain) ≡ false → entry_at grain (table_of entries) ≡ None
+  outside : (entries : List Entry) → IsListOf hash range says entries → (grain : Grain) → holds range (hash grain) ≡ false
+      → entry_at grain (table_of entries) ≡ None
   outside entries is grain apart = by (entry_at grain (table_of entries)) refl
     where
       by : (o : Option Entry) → entry_at grain (table_of entries) ≡ o → o ≡ None
@@ -96,9 +103,11 @@ module _ (hash : Grain → ℕ) (range : Range) (says : Grain → Option Activat
   one_list one other is its =
       sym (entries_again one)
       ∙ ap entries_of (same_tables (table_of one) (table_of other) (list_table one is) (list_table other its) (λ grain.
-      on_bool (λ b. holds range (hash grain) ≡ b → entry_at grain (table_of one) ≡ entry_at grain (table_of other)) (holds range (hash grain))
+      on_bool (λ b. holds range (hash grain) ≡ b → entry_at grain (table_of one) ≡ entry_at grain (table_of other))
+      (holds range (hash grain))
       (λ t held. same_entry_of grain (entry_at grain (table_of one)) (entry_at grain (table_of other))
-      (λ e found. found_own grain (table_of one) e (list_table one is).own_grain found) (λ e found. found_own grain (table_of other) e (list_table other its).own_grain found)
+      (λ e found. found_own grain (table_of one) e (list_table one is).own_grain found)
+      (λ e found. found_own grain (table_of other) e (list_table other its).own_grain found)
       (sym (is.exact grain held) ∙ its.exact grain held))
       (λ u apart. outside one is grain apart ∙ sym (outside other its grain apart)) refl))
       ∙ entries_again other

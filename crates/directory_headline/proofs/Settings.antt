@@ -25,7 +25,7 @@ use Rattle.hash_ring.proofs.Lawful.{points_are, is_sorted_anew}
 use Rattle.range_moves.specs.Arcs.{owner_silo}
 use Rattle.directory_protocol.specs.Setting.{Setting}
 use Rattle.directory_rules.specs.Members.{is_known_dead}
-use Rattle.directory_rules.specs.World.{World}
+use Rattle.directory_rules.specs.State.{World}
 use Rattle.directory_rules.specs.Laws.{is_live}
 use Rattle.directory_rules.proofs.Cases.{on_bool}
 use Rattle.directory_headline.specs.Setting.{is_member_in, is_alive_in, owner_in, view_up_to, IsSettingOf}
@@ -49,7 +49,8 @@ up_to-rises : (views : ViewsValue) (j k : ℕ) → j ≤ k → up_to views j ≤
 unfolding up_to
 up_to-rises views j k le =
     on_bool (λ b. nat_le k views.version ≡ b → up_to views j ≤ (if b then k else views.version)) (nat_le k views.version)
-    (λ t is. let within : k ≤ views.version = leb-true k views.version is in let same = up_to-within views j (omega arith) in subst (λ n. n ≤ k) (sym same) le)
+    (λ t is. let within : k ≤ views.version = leb-true k views.version is in let same = up_to-within views j (omega arith) in
+    subst (λ n. n ≤ k) (sym same) le)
     (λ f is. up_to-made views j) refl
 
 view_up_to-is : (views : ViewsValue) (version : ℕ) → view_up_to views version ≡ view_at views (up_to views version)
@@ -71,14 +72,16 @@ none_is o x none some = absurd (cc)
 no_owner : (view : ViewValue) (places : PlacesValue) (hash : ℕ) → view.rows ≡ [] → owner_in view places hash ≡ None
 no_owner view places hash none = ap (λ rows. owner_in (record view { rows = rows }) places hash) none
 
-pub owner_active : (views : ViewsValue) (version : ℕ) (places : PlacesValue) (hash : ℕ) (silo : Silo) → IsViews views → owner_in (view_at views version) places hash ≡ Some silo
+pub owner_active : (views : ViewsValue) (version : ℕ) (places : PlacesValue) (hash : ℕ) (silo : Silo) → IsViews views
+    → owner_in (view_at views version) places hash ≡ Some silo
     → status_at views version silo ≡ Some Active
 owner_active views version places hash silo whole is = by (owner_of (sorted_ring view places) hash) refl is
   where
     view : ViewValue
     view = view_at views version
 
-    by : (o : Option Point) → owner_of (sorted_ring (view_at views version) places) hash ≡ o → option_map (λ p. p.silo) o ≡ Some silo → status_at views version silo ≡ Some Active
+    by : (o : Option Point) → owner_of (sorted_ring (view_at views version) places) hash ≡ o → option_map (λ p. p.silo) o ≡ Some silo
+        → status_at views version silo ≡ Some Active
     by None found its = absurd (cc (its))
     by (Some p) found its =
         let there : Contains (sorted_points (points_of (view_at views version) places)) p = (owner_is (sorted_ring (view_at views version) places) hash p found).there in
@@ -87,7 +90,8 @@ owner_active views version places hash silo whole is = by (owner_of (sorted_ring
         subst (λ s. status_at views version s ≡ Some Active) same of_view.active
 
 -- ---- statuses
-alive_before : (before after : Option Status) → (before ≡ Some Dead → after ≡ Some Dead) → not (is_known_dead after) ≡ true → not (is_known_dead before) ≡ true
+alive_before : (before after : Option Status) → (before ≡ Some Dead → after ≡ Some Dead) → not (is_known_dead after) ≡ true
+    → not (is_known_dead before) ≡ true
 alive_before None after stays alive = refl
 alive_before (Some Active) after stays alive = refl
 alive_before (Some Leaving) after stays alive = refl
@@ -102,7 +106,8 @@ setting_of end whole = record {
   alive = λ version silo. is_alive_in (view_up_to end.views version) silo;
   no_owner_at_first = λ hash silo.
       none_is (owner_in (view_up_to end.views 0) end.places hash) silo
-      (ap (λ view. owner_in view end.places hash) (view_within end.views 0 (omega arith)) ∙ no_owner (view_at end.views 0) end.places hash (first_is_empty end.views whole));
+      (ap (λ view. owner_in view end.places hash) (view_within end.views 0 (omega arith))
+      ∙ no_owner (view_at end.views 0) end.places hash (first_is_empty end.views whole));
   owner_is_member = λ version hash silo is.
       let active = owner_active end.views (up_to end.views version) end.places hash silo whole (ap (λ view. owner_in view end.places hash) (sym (view_up_to-is end.views version)) ∙ is) in
       ap (λ view. is_member_in view silo) (view_up_to-is end.views version) ∙ ap is_live active;
@@ -110,7 +115,8 @@ setting_of end whole = record {
   dead_stays_dead = λ j k silo le alive.
       let later = subst (λ view. is_alive_in view silo ≡ true) (view_up_to-is end.views k) alive in
       let before = alive_before (status_at end.views (up_to end.views j) silo) (status_at end.views (up_to end.views k) silo)
-      (dead_stays_dead end.views whole silo (up_to end.views j) (up_to end.views k) (up_to-rises end.views j k le) (up_to-made end.views k)) later in
+      (dead_stays_dead end.views whole silo (up_to end.views j) (up_to end.views k) (up_to-rises end.views j k le) (up_to-made end.views k))
+      later in
       subst (λ view. is_alive_in view silo ≡ true) (sym (view_up_to-is end.views j)) before;
   member_until_death = λ j k silo le member alive.
       let before = subst (λ view. is_member_in view silo ≡ true) (view_up_to-is end.views j) member in
@@ -145,5 +151,7 @@ setting_before m f later on is =
       hash = is.hash ∙ ap (λ s. hash_grain s.hashing) on.settings;
       member = λ k silo within. is.member k silo (omega arith) ∙ ap (λ view. is_member_in view silo) (on.views k within);
       alive = λ k silo within. is.alive k silo (omega arith) ∙ ap (λ view. is_alive_in view silo) (on.views k within);
-      owner = λ k hash within. is.owner k hash (omega arith) ∙ ap (λ view. owner_in view later.places hash) (on.views k within) ∙ ap (λ ring. owner_silo ring hash) (on.rings k within);
+      owner =
+          λ k hash within. is.owner k hash (omega arith) ∙ ap (λ view. owner_in view later.places hash) (on.views k within)
+          ∙ ap (λ ring. owner_silo ring hash) (on.rings k within);
     }

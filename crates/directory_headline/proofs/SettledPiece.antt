@@ -16,15 +16,11 @@ use Rattle.directory_protocol.specs.Effects.{after_settling}
 use Rattle.directory_protocol.proofs.Changes.{put_same}
 use Rattle.directory_rules.specs.declared.piece_state.PieceState.{PieceState}
 use Rattle.directory_rules.specs.declared.piece_state.PieceState.TheVariants as state
-use Rattle.directory_rules.specs.Table.{Table, entry_at}
-use Rattle.directory_rules.specs.Piece.{Piece}
-use Rattle.directory_rules.specs.Gatherings.{Gathering}
-use Rattle.directory_rules.specs.Recovery.{Recovery}
+use Rattle.directory_rules.specs.State.{Table, Piece, Gathering, Recovery, Node, World}
+use Rattle.directory_rules.specs.Table.{entry_at}
 use Rattle.directory_rules.specs.Answer.{piece_with}
 use Rattle.directory_rules.specs.Sight.{is_settled, is_owner}
-use Rattle.directory_rules.specs.Node.{Node}
 use Rattle.directory_rules.specs.Transfer.{with_state, with_settled}
-use Rattle.directory_rules.specs.World.{World}
 use Rattle.directory_rules.proofs.Cases.{on_bool}
 use Rattle.directory_facts.proofs.Entries.{all_removed}
 use Rattle.directory_facts.proofs.Hashes.{grains_have_hashes}
@@ -55,11 +51,13 @@ module _ (m : Setting) (f : World) (w : protocol.World) (silo : Silo) (node : No
       held_once node.ring.points node.host.silo node.holding.pieces facts.once (λ k d below. (facts.pieces.each k d below).range)
 
   pub grain_below : (grain : Grain) → m.hash grain < circle
-  grain_below grain = subst (λ hash. hash grain < circle) (sym (hash_is m f w silo node here)) (grains_have_hashes node.settings.hashing grain)
+  grain_below grain =
+      subst (λ hash. hash grain < circle) (sym (hash_is m f w silo node here)) (grains_have_hashes node.settings.hashing grain)
 
   pub part_grain : (range : Range) (grain : Grain) → part_of_range range (m.hash grain) ≡ holds range (m.hash grain)
   part_grain range grain =
-      on_bool (λ b. (b && nat_lt (m.hash grain) circle) ≡ b) (holds range (m.hash grain)) (λ t. lt_from (m.hash grain) circle (grain_below grain)) (λ f. refl)
+      on_bool (λ b. (b && nat_lt (m.hash grain) circle) ≡ b) (holds range (m.hash grain))
+      (λ t. lt_from (m.hash grain) circle (grain_below grain)) (λ f. refl)
 
   module _ (version : ℕ) (range : Range) (piece : Piece) (has : HasPiece node version range piece) where
     held_by_piece : (h : ℕ) → holds range h ≡ true → holds piece.range h ≡ true
@@ -70,7 +68,8 @@ module _ (m : Setting) (f : World) (w : protocol.World) (silo : Silo) (node : No
     owns_piece h below held =
         let counted = looked_counted range.start h node.holding.pieces piece has.found (held_by_piece h held) in
         let owner = some_counted (is_owner node.host.silo (owner_silo node.ring.points h)) _ ((node_facts m f w silo node here).once h below) counted in
-        ap (λ v. m.owner v h) (seen_is m f w silo node here) ∙ owner_is m f w silo node here h ∙ owner_silo_is node.host.silo (owner_silo node.ring.points h) owner
+        ap (λ v. m.owner v h) (seen_is m f w silo node here) ∙ owner_is m f w silo node here h
+        ∙ owner_silo_is node.host.silo (owner_silo node.ring.points h) owner
         ∙ ap Some (host_is m f w silo node here)
 
     piece_has : (h : ℕ) → h < circle → holds range h ≡ true → piece_with h node.holding.pieces ≡ Some piece
@@ -80,13 +79,17 @@ module _ (m : Setting) (f : World) (w : protocol.World) (silo : Silo) (node : No
     abbrev changed : PieceState → Table → Piece
     changed its table = record { range = range; state = its; entries = table }
 
-    pub changed_has : (its : PieceState) (table : Table) (h : ℕ) → h < circle → holds range h ≡ true → piece_with h (with_state node range its table).holding.pieces ≡ Some (changed its table)
+    pub changed_has : (its : PieceState) (table : Table) (h : ℕ) → h < circle → holds range h ≡ true
+        → piece_with h (with_state node range its table).holding.pieces ≡ Some (changed its table)
     changed_has its table h below held =
-        set_found range.start h node.holding.pieces piece (changed its table) has.found (sym has.same) (held_by_piece h held) (in_one_piece h)
+        set_found range.start h node.holding.pieces piece (changed its table) has.found (sym has.same) (held_by_piece h held)
+        (in_one_piece h)
 
-    pub others_have : (its : PieceState) (table : Table) (h : ℕ) → holds range h ≡ false → piece_with h (with_state node range its table).holding.pieces ≡ piece_with h node.holding.pieces
+    pub others_have : (its : PieceState) (table : Table) (h : ℕ) → holds range h ≡ false
+        → piece_with h (with_state node range its table).holding.pieces ≡ piece_with h node.holding.pieces
     others_have its table h apart =
-        set_elsewhere range.start h node.holding.pieces piece (changed its table) has.found (sym has.same) (ap (λ r. holds r h) has.same ∙ apart)
+        set_elsewhere range.start h node.holding.pieces piece (changed its table) has.found (sym has.same)
+        (ap (λ r. holds r h) has.same ∙ apart)
 
     above : (b c : Bool) (h : ℕ) → nat_lt h circle ≡ false → (b && nat_lt h circle) ≡ (c && nat_lt h circle)
     above b c h is = ap (λ l. b && l) is ∙ never b ∙ sym (never c) ∙ ap (λ l. c && l) (sym is)
@@ -96,26 +99,35 @@ module _ (m : Setting) (f : World) (w : protocol.World) (silo : Silo) (node : No
         never false = refl
 
     -- which hashes are settled then
-    pub settled_changed : (its : PieceState) (table : Table) → is_settled its ≡ is_settled piece.state → (h : ℕ) → has_settled (with_state node range its table).holding.pieces h ≡ has_settled node.holding.pieces h
+    pub settled_changed : (its : PieceState) (table : Table) → is_settled its ≡ is_settled piece.state → (h : ℕ)
+        → has_settled (with_state node range its table).holding.pieces h ≡ has_settled node.holding.pieces h
     settled_changed its table same h =
-        on_bool (λ b. nat_lt h circle ≡ b → has_settled (with_state node range its table).holding.pieces h ≡ has_settled node.holding.pieces h) (nat_lt h circle)
-        (λ t below. on_bool (λ b. holds range h ≡ b → has_settled (with_state node range its table).holding.pieces h ≡ has_settled node.holding.pieces h) (holds range h)
+        on_bool (λ b. nat_lt h circle ≡ b → has_settled (with_state node range its table).holding.pieces h ≡ has_settled node.holding.pieces
+        h) (nat_lt h circle)
+        (λ t below. on_bool (λ b. holds range h ≡ b → has_settled (with_state node range its table).holding.pieces h ≡ has_settled
+        node.holding.pieces h) (holds range h)
         (λ t held.
-        ap (λ p. is_settled_piece p && nat_lt h circle) (changed_has its table h (lt_true h circle below) held) ∙ ap (λ b. b && nat_lt h circle) same
+        ap (λ p. is_settled_piece p && nat_lt h circle) (changed_has its table h (lt_true h circle below) held)
+        ∙ ap (λ b. b && nat_lt h circle) same
         ∙ ap (λ p. is_settled_piece p && nat_lt h circle) (sym (piece_has h (lt_true h circle below) held)))
         (λ f apart. ap (λ p. is_settled_piece p && nat_lt h circle) (others_have its table h apart)) refl)
-        (λ f is. above (is_settled_piece (piece_with h (with_state node range its table).holding.pieces)) (is_settled_piece (piece_with h node.holding.pieces)) h is) refl
+        (λ f is. above (is_settled_piece (piece_with h (with_state node range its table).holding.pieces))
+        (is_settled_piece (piece_with h node.holding.pieces)) h is) refl
 
-    settled_more : (table : Table) → (h : ℕ) → has_settled (with_state node range state.Settled table).holding.pieces h ≡ cond (part_of_range range h) true (has_settled node.holding.pieces h)
+    settled_more : (table : Table) → (h : ℕ) → has_settled (with_state node range state.Settled table).holding.pieces h ≡ cond
+        (part_of_range range h) true (has_settled node.holding.pieces h)
     settled_more table h =
-        on_bool (λ b. nat_lt h circle ≡ b → has_settled (with_state node range state.Settled table).holding.pieces h ≡ cond (part_of_range range h) true (has_settled node.holding.pieces h)) (nat_lt h circle)
-        (λ t below. on_bool (λ b. holds range h ≡ b → has_settled (with_state node range state.Settled table).holding.pieces h ≡ cond (b && nat_lt h circle) true (has_settled node.holding.pieces h)) (holds range h)
+        on_bool (λ b. nat_lt h circle ≡ b → has_settled (with_state node range state.Settled table).holding.pieces h ≡ cond
+        (part_of_range range h) true (has_settled node.holding.pieces h)) (nat_lt h circle)
+        (λ t below. on_bool (λ b. holds range h ≡ b → has_settled (with_state node range state.Settled table).holding.pieces h ≡ cond
+        (b && nat_lt h circle) true (has_settled node.holding.pieces h)) (holds range h)
         (λ t held.
         ap (λ p. is_settled_piece p && nat_lt h circle) (changed_has state.Settled table h (lt_true h circle below) held) ∙ below
         ∙ ap (λ b. cond b true (has_settled node.holding.pieces h)) (sym below))
         (λ f apart. ap (λ p. is_settled_piece p && nat_lt h circle) (others_have state.Settled table h apart)) refl)
         (λ f is.
-        above (is_settled_piece (piece_with h (with_state node range state.Settled table).holding.pieces)) (is_settled_piece (piece_with h node.holding.pieces)) h is
+        above (is_settled_piece (piece_with h (with_state node range state.Settled table).holding.pieces))
+        (is_settled_piece (piece_with h node.holding.pieces)) h is
         ∙ ap (λ b. cond b true (has_settled node.holding.pieces h)) (sym (nothing (holds range h) h is))) refl
       where
         nothing : (b : Bool) (h : ℕ) → nat_lt h circle ≡ false → (b && nat_lt h circle) ≡ false
@@ -134,7 +146,8 @@ module _ (m : Setting) (f : World) (w : protocol.World) (silo : Silo) (node : No
         unsettled = λ h is.
             let so = both (holds range h) (nat_lt h circle) is in
             (node_shown m f w silo node here).holding.settled h
-            ∙ ap (λ p. is_settled_piece p && nat_lt h circle) (piece_has h (lt_true h circle so.1) so.0) ∙ ap (λ b. b && nat_lt h circle) waits;
+            ∙ ap (λ p. is_settled_piece p && nat_lt h circle) (piece_has h (lt_true h circle so.1) so.0)
+            ∙ ap (λ b. b && nat_lt h circle) waits;
       }
 
       abbrev pub settled_world : protocol.World
@@ -150,7 +163,8 @@ module _ (m : Setting) (f : World) (w : protocol.World) (silo : Silo) (node : No
             table = λ grain its found is.
                 ap (λ t. t grain) (put_same silo (λ g. cond (part_of_range range (m.hash g)) (entries g) (w.table silo g)) w.table)
                 ∙ ap (λ b. cond b (entries grain) (w.table silo grain)) (part_grain range grain)
-                ∙ on_bool (λ b. holds range (m.hash grain) ≡ b → cond b (entries grain) (w.table silo grain) ≡ activation_in (entry_at grain its.entries)) (holds range (m.hash grain))
+                ∙ on_bool (λ b. holds range (m.hash grain) ≡ b
+                → cond b (entries grain) (w.table silo grain) ≡ activation_in (entry_at grain its.entries)) (holds range (m.hash grain))
                 (λ t held.
                 let one : Some (changed state.Settled table) ≡ Some its = sym (changed_has state.Settled table (m.hash grain) (grain_below grain) held) ∙ found in
                 let same : changed state.Settled table ≡ its = cc (one) in
@@ -168,6 +182,10 @@ module _ (m : Setting) (f : World) (w : protocol.World) (silo : Silo) (node : No
             host = record { held = was.host.held; next_number = was.host.next_number; next_count = was.host.next_count };
             holding = holding_settled;
             shelf = was.shelf;
-            gatherings = all_removed (λ (e : ℕ × Gathering). IsShownGathering m.hash w.snapshots e.1) (is_at (nat_cmp range.start)) node.gatherings was.gatherings;
-            recoveries = all_removed (λ (e : ℕ × Recovery). IsShownRecovery m w.reports e.1) (is_at (nat_cmp range.start)) node.recoveries was.recoveries;
+            gatherings =
+                all_removed (λ (e : ℕ × Gathering). IsShownGathering m.hash w.snapshots e.1) (is_at (nat_cmp range.start)) node.gatherings
+                was.gatherings;
+            recoveries =
+                all_removed (λ (e : ℕ × Recovery). IsShownRecovery m w.reports e.1) (is_at (nat_cmp range.start)) node.recoveries
+                was.recoveries;
           }

@@ -1,7 +1,7 @@
 -- A silo sees a version: what it keeps settled and what it seals is shown, what it awaits begins anew, and its outstanding
 -- requests are sent again.
 use Rattle.std.proofs.Common.{◌≡◌, ℕ, ◌<◌, List, [], ◌∷◌, inl, refl, sym, ap, subst, ◌∙◌}
-use Rattle.std.specs.Prelude.{◌&&◌, ◌||◌, Bool, true, false, not, nat_lt, filter, All}
+use Rattle.std.specs.Prelude.{◌&&◌, ◌||◌, Bool, true, false, not, nat_lt, filter, length, All}
 use Rattle.std.specs.List.{list_any, cons_option}
 use Rattle.std.proofs.lemmas.Bool.{lt-ltb}
 use Rattle.std.proofs.lemmas.List.Elements.{All-nil, All-cons, All-append, All-filter, All-weaker}
@@ -23,15 +23,13 @@ use Rattle.directory_rules.specs.declared.piece_state.PieceState.{PieceState}
 use Rattle.directory_rules.specs.declared.piece_state.PieceState.TheVariants as state
 use Rattle.directory_rules.specs.Members.{is_dead_in}
 use Rattle.directory_rules.specs.Table.{entry_at, entries_of}
-use Rattle.directory_rules.specs.Piece.{Piece}
-use Rattle.directory_rules.specs.Snapshot.{Snapshot}
-use Rattle.directory_rules.specs.Gatherings.{Gathering, new_gathering}
-use Rattle.directory_rules.specs.Recovery.{Recovery, new_recovery}
+use Rattle.directory_rules.specs.State.{Piece, Snapshot, Gathering, Recovery, Node, World}
+use Rattle.directory_rules.specs.Gatherings.{new_gathering}
+use Rattle.directory_rules.specs.Recovery.{new_recovery}
 use Rattle.directory_rules.specs.Sight.{was_settled, kept_entries, shelf_after}
-use Rattle.directory_rules.specs.Node.{Node}
+use Rattle.directory_rules.specs.Host.{outstanding, new_number, renewed}
 use Rattle.directory_rules.specs.Sent.{all_requests, all_wants}
 use Rattle.directory_rules.specs.Step.{gathering_in, recovery_in, new_gatherings, new_recoveries, node_after, sight}
-use Rattle.directory_rules.specs.World.{World}
 use Rattle.directory_rules.proofs.Cases.{on_bool}
 use Rattle.directory_facts.proofs.Carried.{IsSight}
 use Rattle.directory_facts.proofs.Served.{found_holds}
@@ -48,7 +46,8 @@ use Rattle.directory_headline.proofs.NewRecoveries.{new_recovery_shown}
 use Rattle.directory_headline.proofs.KeptEntries.{kept_at, kept_rises, kept_again, kept_inside}
 use Rattle.directory_headline.proofs.SettledPiece.{grain_below}
 use Rattle.directory_headline.proofs.SightPieces.{IsSealed}
-use Rattle.directory_headline.proofs.Renewals.{IsSentAnew, sends_anew}
+use Rattle.directory_headline.proofs.Renewals.{sends_anew}
+use Rattle.directory_headline.proofs.Distinct.{all_renewed}
 use Rattle.directory_headline.proofs.Nudges.{requests_shown, all_wants_shown}
 use Rattle.directory_headline.proofs.Sights as sights
 
@@ -58,10 +57,12 @@ module _ (m : Setting) (w : protocol.World) (view : ViewValue) where
   gatherings_anew [] = All-nil (λ (e : ℕ × Gathering). IsShownGathering m.hash w.snapshots e.1)
   gatherings_anew (e ∷ es) = by e.1.state (gatherings_anew es)
     where
-      by : (its : PieceState) → All (λ x. IsShownGathering m.hash w.snapshots x.1) (new_gatherings view es) → All (λ x. IsShownGathering m.hash w.snapshots x.1) (cons_option (gathering_in its view e.1) (new_gatherings view es))
+      by : (its : PieceState) → All (λ x. IsShownGathering m.hash w.snapshots x.1) (new_gatherings view es)
+          → All (λ x. IsShownGathering m.hash w.snapshots x.1) (cons_option (gathering_in its view e.1) (new_gatherings view es))
       by state.Settled later = later
       by (state.Awaiting from) later =
-          All-cons (λ (x : ℕ × Gathering). IsShownGathering m.hash w.snapshots x.1) (e.1.range.start, new_gathering view.version e.1.range) (new_gatherings view es)
+          All-cons (λ (x : ℕ × Gathering). IsShownGathering m.hash w.snapshots x.1) (e.1.range.start, new_gathering view.version e.1.range)
+          (new_gatherings view es)
           (record { next = refl; entries = refl }) later
       by state.Recovering later = later
 
@@ -70,11 +71,13 @@ module _ (m : Setting) (w : protocol.World) (view : ViewValue) where
     recoveries_anew [] = All-nil (λ (e : ℕ × Recovery). IsShownRecovery m w.reports e.1)
     recoveries_anew (e ∷ es) = by e.1.state (recoveries_anew es)
       where
-        by : (its : PieceState) → All (λ x. IsShownRecovery m w.reports x.1) (new_recoveries view es) → All (λ x. IsShownRecovery m w.reports x.1) (cons_option (recovery_in its view e.1) (new_recoveries view es))
+        by : (its : PieceState) → All (λ x. IsShownRecovery m w.reports x.1) (new_recoveries view es)
+            → All (λ x. IsShownRecovery m w.reports x.1) (cons_option (recovery_in its view e.1) (new_recoveries view es))
         by state.Settled later = later
         by (state.Awaiting from) later = later
         by state.Recovering later =
-            All-cons (λ (x : ℕ × Recovery). IsShownRecovery m w.reports x.1) (e.1.range.start, new_recovery view e.1.range) (new_recoveries view es) (new_recovery_shown m w view e.1.range by_address member) later
+            All-cons (λ (x : ℕ × Recovery). IsShownRecovery m w.reports x.1) (e.1.range.start, new_recovery view e.1.range)
+            (new_recoveries view es) (new_recovery_shown m w view e.1.range by_address member) later
 
 -- ---- a hash that one of them has, some of them have
 module _ {X : Type 0} (test : ℕ → X → Bool) where
@@ -85,7 +88,8 @@ module _ {X : Type 0} (test : ℕ → X → Bool) where
   each_has [] = All-nil _
   each_has (x ∷ xs) =
       All-cons (λ y. (h : ℕ) → test h y ≡ true → list_any (test h) (x ∷ xs) ≡ true) x xs (λ h is. ap (λ b. b || list_any (test h) xs) is)
-      (All-weaker (λ y. (h : ℕ) → test h y ≡ true → list_any (test h) xs ≡ true) (λ y. (h : ℕ) → test h y ≡ true → list_any (test h) (x ∷ xs) ≡ true)
+      (All-weaker (λ y. (h : ℕ) → test h y ≡ true → list_any (test h) xs ≡ true)
+      (λ y. (h : ℕ) → test h y ≡ true → list_any (test h) (x ∷ xs) ≡ true)
       (λ y so h is. later_has x h xs (so h is)) xs (each_has xs))
 
 -- both facts of each
@@ -93,7 +97,8 @@ both_all : {X : Type 0} (P Q R : X → Type 0) (xs : List X) → ((x : X) → P 
 both_all P Q R xs so p q = λ k d below. so _ (p k d below) (q k d below)
 
 -- what a sight does
-module _ (m : Setting) (f : World) (w : protocol.World) (silo : Silo) (node : Node) (here : Here m f w silo node) (before view : ViewValue) (places : PlacesValue) (newer : node.view.version < view.version) (brings : IsSight f.views f.places silo before view places) where
+module _ (m : Setting) (f : World) (w : protocol.World) (silo : Silo) (node : Node) (here : Here m f w silo node) (before view : ViewValue)
+    (places : PlacesValue) (newer : node.view.version < view.version) (brings : IsSight f.views f.places silo before view places) where
   abbrev next : Bool
   next = sights.next m f w silo node here before view places newer brings
 
@@ -110,21 +115,25 @@ module _ (m : Setting) (f : World) (w : protocol.World) (silo : Silo) (node : No
   seen = effects.after m w (See (sights.sight_as m f w silo node here before view places newer brings))
 
   abbrev made : Node
-  made = node_after next node view places (arcs_of (sights.old m f w silo node here before view places newer brings) (sights.new m f w silo node here before view places newer brings))
+  made =
+      node_after next node view places (arcs_of (sights.old m f w silo node here before view places newer brings)
+      (sights.new m f w silo node here before view places newer brings))
 
   facts : NodeFacts m.hash f silo node
   facts = node_facts m f w silo node here
 
   -- what survives of a grain's entry, where its hash was settled
   survives : (range : Range) → IsRange range → was_settled pieces range ≡ true → (grain : Grain) → holds range (m.hash grain) ≡ true
-      → surviving m view.version (w.table silo grain) ≡ activation_in (entry_at grain (kept_entries node.settings.hashing view pieces range))
+      → surviving m view.version (w.table silo grain) ≡ activation_in
+      (entry_at grain (kept_entries node.settings.hashing view pieces range))
   survives range is was grain held =
       let its = hash_is m f w silo node here in
       let below = grain_below m f w silo node here grain in
       let has = sights.had_settled m f w silo node here before view places newer brings range is was (m.hash grain) below held in
       let piece = (of_found (λ e. IsPiece m.hash e.1) (m.hash grain) pieces has.piece facts.pieces.each has.found).1 in
       ap (surviving m view.version) ((node_shown m f w silo node here).holding.table grain has.piece has.found has.settled)
-      ∙ sym (kept_at m node.settings.hashing its view view.version (sights.alive_there m f w silo node here before view places newer brings) pieces range grain has.piece facts.pieces.each
+      ∙ sym (kept_at m node.settings.hashing its view view.version (sights.alive_there m f w silo node here before view places newer brings)
+      pieces range grain has.piece facts.pieces.each
       (sights.once_before m f w silo node here before view places newer brings (m.hash grain)) has.found piece.table held)
 
   holding_shown : IsShownHolding m.hash made.holding (state_of seen silo)
@@ -141,7 +150,9 @@ module _ (m : Setting) (f : World) (w : protocol.World) (silo : Silo) (node : No
       }
 
   -- ---- what is sealed
-  snapshot_shown : (s : Snapshot) → IsSealed node.settings.hashing view pieces s → ((h : ℕ) → holds s.range h ≡ true → list_any (λ y. holds y.range h) (given_where next) ≡ true) → IsShownSnapshot m.hash seen.snapshots s
+  snapshot_shown : (s : Snapshot) → IsSealed node.settings.hashing view pieces s
+      → ((h : ℕ) → holds s.range h ≡ true → list_any (λ y. holds y.range h) (given_where next) ≡ true)
+      → IsShownSnapshot m.hash seen.snapshots s
   snapshot_shown s is has =
       let its = hash_is m f w silo node here in
       let some = is.range.present in
@@ -149,7 +160,10 @@ module _ (m : Setting) (f : World) (w : protocol.World) (silo : Silo) (node : No
       let given = λ (h : ℕ) (below : h < circle) (held : holds s.range h ≡ true). ap (λ b. b && nat_lt h circle) (has h held) ∙ lt-ltb h circle below in
       let list : IsListOf m.hash s.range (effects.kept_entries m w (sights.sight_as m f w silo node here before view places newer brings)) (entries_of (kept_entries node.settings.hashing view pieces s.range)) = record {
         rising = kept_rises node.settings.hashing view pieces s.range;
-        inside = subst (λ h. All (λ (e : Entry). holds s.range (h e.grain) ≡ true) (entries_of (kept_entries node.settings.hashing view pieces s.range))) (sym its) (kept_inside node.settings.hashing view pieces s.range);
+        inside =
+            subst (λ h. All (λ (e : Entry). holds s.range (h e.grain) ≡ true)
+            (entries_of (kept_entries node.settings.hashing view pieces s.range))) (sym its)
+            (kept_inside node.settings.hashing view pieces s.range);
         exact = λ grain held.
             survives s.range is.range.is is.settled grain held
             ∙ ap (λ t. activation_in (entry_at grain t)) (sym (kept_again node.settings.hashing view pieces s.range));
@@ -157,17 +171,25 @@ module _ (m : Setting) (f : World) (w : protocol.World) (silo : Silo) (node : No
       record {
         snapshot = effects.sealed_by m w (sights.sight_as m f w silo node here before view places newer brings);
         was_sent = inl refl;
-        for_version = sym (sights.given_next m f w silo node here before view places newer brings s.range.start (given s.range.start is.range.is.start_below first)) ∙ sym is.version;
+        for_version =
+            sym (sights.given_next m f w silo node here before view places newer brings s.range.start
+            (given s.range.start is.range.is.start_below first)) ∙ sym is.version;
         covers = given;
-        list = subst (IsListOf m.hash s.range (effects.kept_entries m w (sights.sight_as m f w silo node here before view places newer brings))) (sym is.entries) list;
+        list =
+            subst (IsListOf m.hash s.range (effects.kept_entries m w
+            (sights.sight_as m f w silo node here before view places newer brings))) (sym is.entries) list;
       }
 
   given_shown : All (IsShownSnapshot m.hash seen.snapshots) (given_where next)
   given_shown =
-      both_all (IsSealed node.settings.hashing view pieces) (λ s. (h : ℕ) → holds s.range h ≡ true → list_any (λ y. holds y.range h) (given_where next) ≡ true) (IsShownSnapshot m.hash seen.snapshots) (given_where next)
-      snapshot_shown (sights.each_sealed m f w silo node here before view places newer brings) (each_has (λ h s. holds s.range h) (given_where next))
+      both_all (IsSealed node.settings.hashing view pieces)
+      (λ s. (h : ℕ) → holds s.range h ≡ true → list_any (λ y. holds y.range h) (given_where next) ≡ true)
+      (IsShownSnapshot m.hash seen.snapshots) (given_where next)
+      snapshot_shown (sights.each_sealed m f w silo node here before view places newer brings)
+      (each_has (λ h s. holds s.range h) (given_where next))
 
-  shelf_where : (b : Bool) → All (IsShownSnapshot m.hash seen.snapshots) (given_where b) → All (IsShownSnapshot m.hash seen.snapshots) (shelf_after b view node.shelf (given_where true))
+  shelf_where : (b : Bool) → All (IsShownSnapshot m.hash seen.snapshots) (given_where b)
+      → All (IsShownSnapshot m.hash seen.snapshots) (shelf_after b view node.shelf (given_where true))
   shelf_where true given =
       let x = sights.sight_as m f w silo node here before view places newer brings in
       All-append (IsShownSnapshot m.hash seen.snapshots) (filter (λ s. not (is_dead_in view s.to)) node.shelf) (given_where true)
@@ -181,7 +203,9 @@ module _ (m : Setting) (f : World) (w : protocol.World) (silo : Silo) (node : No
       let was = (node_shown m f w silo node here).host in
       let its = host_is m f w silo node here in
       let host : IsShownHost node.host (state_of seen silo) = record { held = was.held; next_number = was.next_number; next_count = was.next_count } in
-      let sends = sends_anew m node.host silo seen (alive m f w silo node here) facts.numbered facts.own.once host in
+      let sends =
+      sends_anew m node.host (renewed node.host) (λ grain. true) (new_number node.host) (length (outstanding node.host))
+      (all_renewed node.host facts.numbered) facts.own.once silo seen (alive m f w silo node here) host in
       let later = effects.run m sends.actions seen in
       let grows = (leaves_run m sends.actions seen silo sends.by).grows in
       let version = put_same silo view.version w.seen in
@@ -206,6 +230,5 @@ module _ (m : Setting) (f : World) (w : protocol.World) (silo : Silo) (node : No
         };
         letters =
             All-append (IsShownLetter m.hash later) (all_wants made) (all_requests made) (all_wants_shown m later made)
-            (requests_shown m node.host silo made later its refl facts.own.once (λ grain held there.
-            subst (λ v. IsSentAnew held.phase node.host v silo grain held later.requests) version (sends.sent grain held there)));
+            (requests_shown m made later (seen.seen silo) silo version (sym its) sends.sent);
       }

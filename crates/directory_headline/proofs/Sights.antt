@@ -18,13 +18,10 @@ use Rattle.range_moves.proofs.Between.{arcs_whole}
 use Rattle.directory_protocol.specs.Setting.{Setting}
 use Rattle.directory_protocol.specs.World as protocol
 use Rattle.directory_protocol.specs.Actions.{Sight, MaySee}
-use Rattle.directory_rules.specs.Piece.{Piece}
-use Rattle.directory_rules.specs.Snapshot.{Snapshot}
+use Rattle.directory_rules.specs.State.{Piece, Snapshot, Node, World}
 use Rattle.directory_rules.specs.Answer.{piece_with}
 use Rattle.directory_rules.specs.Sight.{is_next, is_owner, was_settled, pieces_after, sealed}
-use Rattle.directory_rules.specs.Node.{Node}
 use Rattle.directory_rules.specs.Step.{compared_points}
-use Rattle.directory_rules.specs.World.{World}
 use Rattle.directory_rules.specs.Laws.{HoldOnce}
 use Rattle.directory_rules.proofs.Cases.{on_bool}
 use Rattle.directory_rules.proofs.Pieces.{pieces_are_owned}
@@ -46,10 +43,12 @@ use Rattle.directory_headline.proofs.HighHashes.{held_once}
 module _ (points : List Point) (s : Silo) (pieces : List (ℕ × Piece)) (once : HoldOnce points s pieces) (h : ℕ) (below : h < circle) where
   held_owned : (piece : Piece) → piece_with h pieces ≡ Some piece → owner_silo points h ≡ Some s
   held_owned piece found =
-      owner_silo_is s (owner_silo points h) (some_counted (is_owner s (owner_silo points h)) (holding h pieces) (once h below) (found_counted h pieces piece found))
+      owner_silo_is s (owner_silo points h) (some_counted (is_owner s (owner_silo points h)) (holding h pieces) (once h below)
+      (found_counted h pieces piece found))
 
 -- ---- some of them
-some_of : {X : Type 0} (P : X → Type 0) (test : X → Bool) (xs : List X) → All P xs → list_any test xs ≡ true → (x : X) × P x × (test x ≡ true)
+some_of : {X : Type 0} (P : X → Type 0) (test : X → Bool) (xs : List X) → All P xs → list_any test xs ≡ true
+    → (x : X) × P x × (test x ≡ true)
 some_of P test [] all some = absurd (cc (some))
 some_of {X} P test (x ∷ xs) all some =
     on_bool (λ b. test x ≡ b → (b || list_any test xs) ≡ true → (y : X) × P y × (test y ≡ true)) (test x)
@@ -60,7 +59,8 @@ either_true true b is = inl refl
 either_true false b is = inr is
 
 -- what a sight does
-module _ (m : Setting) (f : World) (w : protocol.World) (silo : Silo) (node : Node) (here : Here m f w silo node) (before view : ViewValue) (places : PlacesValue) (newer : node.view.version < view.version) (brings : IsSight f.views f.places silo before view places) where
+module _ (m : Setting) (f : World) (w : protocol.World) (silo : Silo) (node : Node) (here : Here m f w silo node) (before view : ViewValue)
+    (places : PlacesValue) (newer : node.view.version < view.version) (brings : IsSight f.views f.places silo before view places) where
   abbrev pub next : Bool
   next = is_next node.view before view node.host.silo
 
@@ -107,7 +107,8 @@ module _ (m : Setting) (f : World) (w : protocol.World) (silo : Silo) (node : No
 
   owner_there : (h : ℕ) → m.owner view.version h ≡ owner_silo new h
   owner_there h =
-      here.setting.owner view.version h within ∙ ap (λ v. owner_in v f.places h) (sym view_is) ∙ ap (λ p. owner_in view p h) (sym brings.is_brought)
+      here.setting.owner view.version h within ∙ ap (λ v. owner_in v f.places h) (sym view_is)
+      ∙ ap (λ p. owner_in view p h) (sym brings.is_brought)
 
   member : m.member view.version silo ≡ true
   member =
@@ -138,7 +139,9 @@ module _ (m : Setting) (f : World) (w : protocol.World) (silo : Silo) (node : No
   each_made = all_made next node.settings.hashing view node.host.silo pieces (arcs_of old new) are.ranges
 
   sealed_where : (b : Bool) → All (IsSealed node.settings.hashing view pieces) (given_where b)
-  sealed_where true = all_sealed node.settings.hashing view node.host.silo pieces (arcs_of old new) (λ k d below. record { is = are.ranges k d below; present = are.present k d below })
+  sealed_where true =
+      all_sealed node.settings.hashing view node.host.silo pieces (arcs_of old new)
+      (λ k d below. record { is = are.ranges k d below; present = are.present k d below })
   sealed_where false = All-nil (IsSealed node.settings.hashing view pieces)
 
   pub each_sealed : All (IsSealed node.settings.hashing view pieces) (given_where next)
@@ -151,8 +154,10 @@ module _ (m : Setting) (f : World) (w : protocol.World) (silo : Silo) (node : No
   pub once_before : (h : ℕ) → holding h pieces ≤ 1
   once_before = held_once node.ring.points node.host.silo pieces facts.once ranged
 
-  pub had_settled : (range : Range) → IsRange range → was_settled pieces range ≡ true → (h : ℕ) → h < circle → holds range h ≡ true → HasSettledPiece h pieces
-  had_settled range is was h below held = lies_in_one h pieces (once_before h) ((settled_both pieces facts.pieces.under_start ranged range is).0 was h below held)
+  pub had_settled : (range : Range) → IsRange range → was_settled pieces range ≡ true → (h : ℕ) → h < circle → holds range h ≡ true
+      → HasSettledPiece h pieces
+  had_settled range is was h below held =
+      lies_in_one h pieces (once_before h) ((settled_both pieces facts.pieces.under_start ranged range is).0 was h below held)
 
   settled_so : (h : ℕ) → HasSettledPiece h pieces → h < circle → w.settled silo h ≡ true
   settled_so h has below = (node_shown m f w silo node here).holding.settled h ∙ has_piece h pieces has below
@@ -164,12 +169,14 @@ module _ (m : Setting) (f : World) (w : protocol.World) (silo : Silo) (node : No
   kept_settled h kept =
       let has = of_settled h after kept in
       let made = made_of h has.0.piece has.0.found in
-      settled_so h (had_settled has.0.piece.range made.range (made.settled has.0.settled) h has.1 (found_holds h after has.0.piece has.0.found)) has.1
+      settled_so h (had_settled has.0.piece.range made.range (made.settled has.0.settled) h has.1
+      (found_holds h after has.0.piece has.0.found)) has.1
 
   kept_owned : (h : ℕ) → has_settled after h ≡ true → m.owner view.version h ≡ Some silo
   kept_owned h kept =
       let has = of_settled h after kept in
-      owner_there h ∙ held_owned new node.host.silo after once_after h has.1 has.0.piece has.0.found ∙ ap Some (host_is m f w silo node here)
+      owner_there h ∙ held_owned new node.host.silo after once_after h has.1 has.0.piece has.0.found
+      ∙ ap Some (host_is m f w silo node here)
 
   given_settled : (h : ℕ) → is_given h ≡ true → HasSettledPiece h pieces × (h < circle)
   given_settled h given =
@@ -193,7 +200,8 @@ module _ (m : Setting) (f : World) (w : protocol.World) (silo : Silo) (node : No
       let seen = seen_is m f w silo node here in
       let has = given_settled h given in
       on_bool (λ b. next ≡ b → view.version ≡ suc (w.seen silo)) next
-      (λ t is. elim (either_true (view.version == node.view.version + 1) ((node.view.version == 0) && is_none (status_of before node.host.silo) && is_some (status_of view node.host.silo)) is) [
+      (λ t is. elim (either_true (view.version == node.view.version + 1)
+      ((node.view.version == 0) && is_none (status_of before node.host.silo) && is_some (status_of view node.host.silo)) is) [
         | inl one ↦ let same = eqb-true view.version (node.view.version + 1) one in omega (same, seen, arith)
         | inr first ↦
             let two = both ((node.view.version == 0) && is_none (status_of before node.host.silo)) (is_some (status_of view node.host.silo)) first in

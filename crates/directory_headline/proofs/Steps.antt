@@ -4,11 +4,9 @@ use Rattle.directory_protocol.specs.Setting.{Setting}
 use Rattle.directory_protocol.specs.World as protocol
 use Rattle.directory_rules.specs.declared.effect.Effect.TheVariants as effect
 use Rattle.directory_rules.specs.Cache.{in_front, learnt, without_pair}
-use Rattle.directory_rules.specs.Letter.{Missing_letter, Behind_letter, Ahead_letter}
-use Rattle.directory_rules.specs.Node.{Node}
+use Rattle.directory_rules.specs.State.{Missing_letter, Behind_letter, Ahead_letter, Node, World}
 use Rattle.directory_rules.specs.Step.{Stepped}
 use Rattle.directory_rules.specs.Input.{Input}
-use Rattle.directory_rules.specs.World.{World}
 use Rattle.directory_facts.proofs.Ways.{Ways}
 use Rattle.directory_facts.proofs.EachStep.{by_way}
 use Rattle.directory_headline.proofs.Frame.{Here, Brings, Moves}
@@ -16,7 +14,7 @@ use Rattle.directory_headline.proofs.Runs.{AllMove}
 use Rattle.directory_headline.proofs.NoActions.{nothing, cache_changes, find_ends, answers_so, forgoes}
 use Rattle.directory_headline.proofs.Finds.{finds}
 use Rattle.directory_headline.proofs.Beginnings.{wakes, takes_over}
-use Rattle.directory_headline.proofs.Closes.{closes, offers}
+use Rattle.directory_headline.proofs.Closes.{closes, cancels, offers}
 use Rattle.directory_headline.proofs.Replies.{confirms, yields, removes, misses}
 use Rattle.directory_headline.proofs.Queries.{reports}
 use Rattle.directory_headline.proofs.Requests.{answers}
@@ -25,7 +23,7 @@ use Rattle.directory_headline.proofs.LastPage.{installs}
 use Rattle.directory_headline.proofs.MissingSnapshot.{turns}
 use Rattle.directory_headline.proofs.Reports.{collects}
 use Rattle.directory_headline.proofs.LastReport.{completes}
-use Rattle.directory_headline.proofs.Nudges.{nudges}
+use Rattle.directory_headline.proofs.Nudges.{nudges, nudges_grain, nudges_ranges}
 use Rattle.directory_headline.proofs.SightSteps.{sees}
 
 -- what is to be shown of a way
@@ -38,11 +36,17 @@ ways m f w silo node here = record {
   sees = λ before view places newer numbers brings. sees m f w silo node here before view places newer brings;
   wakes = λ grain may brings. wakes m f w silo node here grain may;
   closes = λ grain held may brings. closes m f w silo node here grain held may;
+  cancels = λ grain held may brings. cancels m f w silo node here grain held may;
   offers = λ grain held to may active other brings. offers m f w silo node here grain held may to;
-  uses_hint = λ grain activation hint brings. cache_changes m f w silo node here (in_front node.cache grain activation) (effect.Cached (record { grain = grain; activation = activation }));
+  uses_hint =
+      λ grain activation hint brings. cache_changes m f w silo node here (in_front node.cache grain activation)
+      (effect.Cached (record { grain = grain; activation = activation }));
   finds = λ grain room numbers brings. finds m f w silo node here grain;
-  forgets = λ grain activation hint brings. cache_changes m f w silo node here (without_pair node.cache grain activation) (effect.Forgot grain);
+  forgets =
+      λ grain activation hint brings. cache_changes m f w silo node here (without_pair node.cache grain activation) (effect.Forgot grain);
   nudges = λ numbers brings. nudges m f w silo node here;
+  nudges_grain = λ grain numbers brings. nudges_grain m f w silo node here grain;
+  nudges_ranges = λ brings. nudges_ranges m f w silo node here;
   answers = λ letter request body sender version brings. answers m f w silo node here letter request body brings;
   confirms = λ letter number entry e is there brings. confirms m f w silo node here letter number entry e is there brings;
   yields = λ letter number entry e is there brings. yields m f w silo node here letter number entry e is there brings;

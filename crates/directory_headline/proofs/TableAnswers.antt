@@ -15,19 +15,22 @@ use Rattle.directory_protocol.specs.Actions.{IsAnswered}
 use Rattle.directory_protocol.proofs.Changes.{not_both}
 use Rattle.directory_rules.specs.declared.reply.Reply.{Reply}
 use Rattle.directory_rules.specs.declared.reply.Reply.TheVariants as reply
-use Rattle.directory_rules.specs.Table.{Table, entry_at, with_entry, without_grain}
+use Rattle.directory_rules.specs.State.{Table, Letter}
+use Rattle.directory_rules.specs.Table.{entry_at, with_entry, without_grain}
 use Rattle.directory_rules.specs.Answer.{Turned, registered_over, deregistered_from, is_previous}
-use Rattle.directory_rules.specs.Letter.{Letter}
 use Rattle.directory_rules.proofs.Cases.{on_bool}
 use Rattle.directory_rules.proofs.Removed.{lookup_removed}
 use Rattle.directory_headline.specs.Shown.{activation_in, reply_as, IsShownReply}
 use Rattle.directory_facts.proofs.Lookups.{found_put}
 
 -- the table's turn at a request about an entry, as the protocol has it
-pub record IsTurn (purpose : letters.Purpose) (entry : Entry) (previous : Option ActivationId) (table : Table) (turn : Turned) : Type 0 where
+pub record IsTurn (purpose : letters.Purpose) (entry : Entry) (previous : Option ActivationId) (table : Table) (turn : Turned) : Type
+    0 where
   pub answer : letters.Answer
-  pub answered : IsAnswered purpose entry.activation previous (activation_in (entry_at entry.grain table)) answer (activation_in (entry_at entry.grain turn.table))
-  pub shown : (sent : List letters.Reply) (letter : Letter) (number : ℕ) → Sent (reply_as letter number answer) sent → IsShownReply sent letter number turn.reply
+  pub answered : IsAnswered purpose entry.activation previous (activation_in (entry_at entry.grain table)) answer
+      (activation_in (entry_at entry.grain turn.table))
+  pub shown : (sent : List letters.Reply) (letter : Letter) (number : ℕ) → Sent (reply_as letter number answer) sent
+      → IsShownReply sent letter number turn.reply
 
 abbrev turned : Reply → Table → Turned
 turned its table = record { reply = its; table = table }
@@ -55,18 +58,29 @@ module _ (entry : Entry) (previous : Option ActivationId) (table : Table) where
   abbrev Registers : Turned → Type 0
   Registers turn = IsTurn letters.Register entry previous table turn
 
-  entry_put : (activation_in (entry_at entry.grain table) ≡ None) ⊎ (activation_in (entry_at entry.grain table) ≡ Some entry.activation) ⊎ (activation_in (entry_at entry.grain table) ≡ previous)
+  entry_put : (activation_in (entry_at entry.grain table) ≡ None) ⊎ (activation_in (entry_at entry.grain table) ≡ Some entry.activation)
+      ⊎ (activation_in (entry_at entry.grain table) ≡ previous)
       → Registers (turned (reply.Registered entry) (with_entry table entry))
-  entry_put before = record { answer = letters.Registered; answered = inl (refl, entered table entry, before); shown = λ sent letter number is. is }
+  entry_put before =
+      record { answer = letters.Registered; answered = inl (refl, entered table entry, before); shown = λ sent letter number is. is }
 
   entry_stays : activation_in (entry_at entry.grain table) ≡ Some entry.activation → Registers (turned (reply.Registered entry) table)
-  entry_stays before = record { answer = letters.Registered; answered = inl (refl, before, inr (inl before)); shown = λ sent letter number is. is }
+  entry_stays before =
+      record { answer = letters.Registered; answered = inl (refl, before, inr (inl before)); shown = λ sent letter number is. is }
 
-  other_stays : (there : Entry) → activation_in (entry_at entry.grain table) ≡ Some there.activation → Some there.activation ≢ Some entry.activation → Some there.activation ≢ previous
+  other_stays : (there : Entry) → activation_in (entry_at entry.grain table) ≡ Some there.activation
+      → Some there.activation ≢ Some entry.activation → Some there.activation ≢ previous
       → Registers (turned (reply.Taken there) table)
   other_stays there before not_it not_previous = record {
     answer = letters.Taken;
-    answered = inr (refl, refl, (λ none. absurd (cc (before, none))), (λ same. not_it (sym before ∙ same)), (λ same. not_previous (sym before ∙ same)));
+    answered =
+        inr (
+          refl,
+          refl,
+          (λ none. absurd (cc (before, none))),
+          (λ same. not_it (sym before ∙ same)),
+          (λ same. not_previous (sym before ∙ same)),
+        );
     shown = λ sent letter number is. is;
   }
 
@@ -75,11 +89,14 @@ module _ (entry : Entry) (previous : Option ActivationId) (table : Table) where
   registers_over (Some there) is =
       let before = ap activation_in is in
       on_bool (λ b. activation_eq there.activation entry.activation ≡ b
-      → Registers (cond b (turned (reply.Registered entry) table) (cond (is_previous previous there) (turned (reply.Registered entry) (with_entry table entry)) (turned (reply.Taken there) table))))
+      → Registers (cond b (turned (reply.Registered entry) table)
+      (cond (is_previous previous there) (turned (reply.Registered entry) (with_entry table entry)) (turned (reply.Taken there) table))))
       (activation_eq there.activation entry.activation)
       (λ t same. entry_stays (before ∙ named_same there.activation entry.activation same))
       (λ f other.
-      on_bool (λ b. is_previous previous there ≡ b → Registers (cond b (turned (reply.Registered entry) (with_entry table entry)) (turned (reply.Taken there) table))) (is_previous previous there)
+      on_bool (λ b. is_previous previous there ≡ b → Registers
+      (cond b (turned (reply.Registered entry) (with_entry table entry)) (turned (reply.Taken there) table)))
+      (is_previous previous there)
       (λ t was. entry_put (inr (inr (before ∙ was_previous previous there was))))
       (λ g not. other_stays there before (named_other there.activation entry.activation other) (not_previous previous there not))
       refl)
@@ -100,11 +117,19 @@ module _ (entry : Entry) (table : Table) (rising : IsStrictlySortedBy grain_cmp 
   deregisters_from None is = absent (λ some. let none = ap activation_in is in absurd (cc (some)))
   deregisters_from (Some there) is =
       let before = ap activation_in is in
-      on_bool (λ b. activation_eq there.activation entry.activation ≡ b → Deregisters (cond b (turned reply.Removed (without_grain entry.grain table)) (turned reply.Absent table)))
+      on_bool (λ b. activation_eq there.activation entry.activation ≡ b
+      → Deregisters (cond b (turned reply.Removed (without_grain entry.grain table)) (turned reply.Absent table)))
       (activation_eq there.activation entry.activation)
       (λ t same. record {
         answer = letters.Removed;
-        answered = (refl, inl (before ∙ named_same there.activation entry.activation same, ap activation_in (lookup_removed grain_cmp grain_cmp_total entry.grain table rising)));
+        answered = (
+          refl,
+          inl (
+            before ∙ named_same there.activation entry.activation same,
+            ap activation_in
+                (lookup_removed grain_cmp grain_cmp_total entry.grain table rising),
+          ),
+        );
         shown = λ sent letter number is. is;
       })
       (λ f other. absent (λ some. named_other there.activation entry.activation other (sym before ∙ some)))

@@ -6,7 +6,7 @@ use Rattle.hash_ring.specs.Hash.{hash_grain}
 use Rattle.directory_protocol.specs.Setting.{Setting}
 use Rattle.directory_rules.specs.Settings.{Settings, AreSettings}
 use Rattle.directory_rules.specs.Event.{Event, IsEvent}
-use Rattle.directory_rules.specs.World.{World, Accepted}
+use Rattle.directory_rules.specs.State.{World, Accepted}
 use Rattle.directory_rules.specs.Happens.{happens}
 use Rattle.directory_rules.specs.Run.{world_after}
 use Rattle.directory_rules.specs.Laws.{ArePeopled}
@@ -36,7 +36,9 @@ module _ (settings : Settings) (events : List Event) (are : AreSettings settings
   is_its = is_setting_of f (facts_hold settings events are named).peopled.whole
 
   facts : WorldFacts setting.hash f
-  facts = subst (λ hash. WorldFacts hash f) (sym (is_its.hash ∙ ap (λ (s : Settings). hash_grain s.hashing) (settings_stay settings events))) (facts_hold settings events are named)
+  facts =
+      subst (λ hash. WorldFacts hash f) (sym (is_its.hash ∙ ap (λ (s : Settings). hash_grain s.hashing) (settings_stay settings events)))
+      (facts_hold settings events are named)
 
   carried : Carried setting f
   carried = carried_after facts_hold settings are setting all_move events named is_its
@@ -63,11 +65,13 @@ refined_after settings events are named =
 
 pub headline_after : AfterAnyEvents Headline
 headline_after settings events are named =
-    headline (setting settings events are named) (world_by settings events) (is_its settings events are named) (facts settings events are named) (carried settings events are named)
+    headline (setting settings events are named) (world_by settings events) (is_its settings events are named)
+    (facts settings events are named) (carried settings events are named)
 
 -- the world after one event more is one that events make too
 then_so :
-    (settings : Settings) (events : List Event) → AreSettings settings → All IsEvent events → (event : Event) (accepted : Accepted) → IsEvent event
+    (settings : Settings) (events : List Event) → AreSettings settings → All IsEvent events → (event : Event) (accepted : Accepted)
+    → IsEvent event
     → happens (world_by settings events) event ≡ Ok accepted → Then (world_by settings events) accepted.world
 then_so settings events are named event accepted is ok =
     let f = world_by settings events in
@@ -81,4 +85,5 @@ then_so settings events are named event accepted is ok =
     }
 
 pub plain_after : AfterAnyEvents MovesPlainly
-plain_after settings events are named = moves_plainly _ (world_by settings events) (facts_hold settings events are named) (then_so settings events are named)
+plain_after settings events are named =
+    moves_plainly _ (world_by settings events) (facts_hold settings events are named) (then_so settings events are named)

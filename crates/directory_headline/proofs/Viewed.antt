@@ -26,9 +26,9 @@ use Rattle.directory_protocol.specs.Safety.{IsReached}
 use Rattle.directory_protocol.proofs.Changes.{silo_cases}
 use Rattle.directory_protocol.proofs.Runs.{reached_after}
 use Rattle.directory_rules.proofs.Decided.{died}
-use Rattle.directory_rules.specs.Node.{Node, new_node}
+use Rattle.directory_rules.specs.State.{Node, World, Posted}
+use Rattle.directory_rules.specs.Node.{new_node}
 use Rattle.directory_rules.specs.Settings.{Settings}
-use Rattle.directory_rules.specs.World.{World, Posted}
 use Rattle.directory_rules.specs.Happens.{node_of, after_joining, without_replaced, counted}
 use Rattle.directory_rules.specs.Laws.{ArePeopled}
 use Rattle.directory_rules.proofs.Removed.{lookup_removed}
@@ -88,7 +88,8 @@ nothing_was None none = refl
 nothing_was (Some status) none = absurd (cc)
 
 -- who had no status before a join
-was_absent : (silo : Silo) (views next : ViewsValue) → Joins silo (view_at views views.version) (view_at next next.version) → (q : Silo) → status_at next next.version q ≡ None
+was_absent : (silo : Silo) (views next : ViewsValue) → Joins silo (view_at views views.version) (view_at next next.version) → (q : Silo)
+    → status_at next next.version q ≡ None
     → status_at views views.version q ≡ None
 was_absent silo views next step q none =
     elim (silo_cases q silo) [
@@ -100,7 +101,8 @@ was_absent silo views next step q none =
     ]
 
 -- who joins wasn't there
-pub newcomer : (silo : Silo) (views next : ViewsValue) → Joins silo (view_at views views.version) (view_at next next.version) → status_at views views.version silo ≡ None
+pub newcomer : (silo : Silo) (views next : ViewsValue) → Joins silo (view_at views views.version) (view_at next next.version)
+    → status_at views views.version silo ≡ None
 newcomer silo views next step = by (status_at views views.version silo) refl
   where
     by : (status : Option Status) → status_at views views.version silo ≡ status → status ≡ None
@@ -112,7 +114,8 @@ newcomer silo views next step = by (status_at views views.version silo) refl
 -- ---- nodes
 module _ (f : World) (peopled : ArePeopled f.views f.nodes) where
   -- a node that is there after another was taken out was there
-  pub still_there : (taken silo : Silo) (node : Node) → lookup (is_at (silo_cmp silo)) (remove_entry (is_at (silo_cmp taken)) f.nodes) ≡ Some node → node_of f silo ≡ Some node
+  pub still_there : (taken silo : Silo) (node : Node)
+      → lookup (is_at (silo_cmp silo)) (remove_entry (is_at (silo_cmp taken)) f.nodes) ≡ Some node → node_of f silo ≡ Some node
   still_there taken silo node there =
       elim (silo_cases silo taken) [
         | inl same ↦
@@ -122,24 +125,28 @@ module _ (f : World) (peopled : ArePeopled f.views f.nodes) where
         | inr apart ↦ sym (found_beside_removed silo_cmp silo_cmp_total silo_cmp_exact taken f.nodes silo apart) ∙ there
       ]
 
-  pub replaced_there : (old : Option Silo) (silo : Silo) (node : Node) → node_of (without_replaced f old) silo ≡ Some node → node_of f silo ≡ Some node
+  pub replaced_there : (old : Option Silo) (silo : Silo) (node : Node) → node_of (without_replaced f old) silo ≡ Some node
+      → node_of f silo ≡ Some node
   replaced_there None silo node there = there
   replaced_there (Some old) silo node there = still_there old silo node there
 
   -- a node that is there after a join is that of the silo that joins, or was there
   pub joining_node :
-      (silo : Silo) (next : ViewsValue) (added : PlacesValue) (old : Option Silo) (q : Silo) (node : Node) → node_of (after_joining f silo old next added) q ≡ Some node
+      (silo : Silo) (next : ViewsValue) (added : PlacesValue) (old : Option Silo) (q : Silo) (node : Node)
+      → node_of (after_joining f silo old next added) q ≡ Some node
       → ((q ≡ silo) × (node ≡ new_node f.settings silo)) ⊎ (node_of f q ≡ Some node)
   joining_node silo next added old q node there =
       elim (silo_cases q silo) [
         | inl same ↦
             let one : Some (new_node f.settings silo) ≡ Some node =
             sym (found_put silo_cmp silo_cmp_total silo_cmp_exact silo (new_node f.settings silo) (without_replaced f old).nodes)
-            ∙ ap (λ s. lookup (is_at (silo_cmp s)) (insert_entry silo_cmp (without_replaced f old).nodes silo (new_node f.settings silo))) (sym same) ∙ made old there in
+            ∙ ap (λ s. lookup (is_at (silo_cmp s)) (insert_entry silo_cmp (without_replaced f old).nodes silo (new_node f.settings silo)))
+            (sym same) ∙ made old there in
             let its : new_node f.settings silo ≡ node = cc (one) in
             inl (same, sym its)
         | inr apart ↦
-            inr (replaced_there old q node (sym (found_beside_put silo_cmp silo_cmp_total silo_cmp_exact silo (new_node f.settings silo) (without_replaced f old).nodes q apart) ∙ made old there))
+            inr (replaced_there old q node (sym (found_beside_put silo_cmp silo_cmp_total silo_cmp_exact silo (new_node f.settings silo)
+            (without_replaced f old).nodes q apart) ∙ made old there))
       ]
     where
       made : (old : Option Silo) → node_of (after_joining f silo old next added) q ≡ Some node
@@ -155,13 +162,15 @@ module _ (m : Setting) (f : World) (facts : WorldFacts m.hash f) (carried : Carr
       let next = change.with_leave f.views silo in
       let accepts : Accepts f.views (change.Leave silo) next = record { whole = facts.peopled.whole; is = is } in
       let step : Leaves silo (view_at f.views f.views.version) (view_at next next.version) = changes_are_steps f.views (change.Leave silo) next accepts in
-      view_shown m carried.world f (counted (record f { views = next })) carried.shown (versions_rise f.views (change.Leave silo) next accepts) refl carried.shown.live (λ q none.
+      view_shown m carried.world f (counted (record f { views = next })) carried.shown
+      (versions_rise f.views (change.Leave silo) next accepts) refl carried.shown.live (λ q none.
       elim (silo_cases q silo) [
         | inl same ↦ let left = step.left in let nothing = subst (λ s. status_at next next.version s ≡ None) same none in absurd (cc)
         | inr apart ↦ sym (step.others q apart) ∙ none
       ])
 
-  pub shown_death : (silo : Silo) → change.after f.views (change.Die silo) ≡ Ok (change.with_death f.views silo) → Shown m (died f silo).world (viewed m carried.world)
+  pub shown_death : (silo : Silo) → change.after f.views (change.Die silo) ≡ Ok (change.with_death f.views silo)
+      → Shown m (died f silo).world (viewed m carried.world)
   shown_death silo is =
       let next = change.with_death f.views silo in
       let accepts : Accepts f.views (change.Die silo) next = record { whole = facts.peopled.whole; is = is } in
@@ -173,16 +182,19 @@ module _ (m : Setting) (f : World) (facts : WorldFacts m.hash f) (carried : Carr
         | inr apart ↦ sym (step.others q apart) ∙ none
       ])
 
-  pub shown_joining : (silo : Silo) (next : ViewsValue) (added : PlacesValue) → change.after_join f.views silo ≡ Ok next → (old : Option Silo)
+  pub shown_joining : (silo : Silo) (next : ViewsValue) (added : PlacesValue) → change.after_join f.views silo ≡ Ok next
+      → (old : Option Silo)
       → Shown m (counted (after_joining f silo old next added)) (viewed m carried.world)
   shown_joining silo next added is old =
       let accepts : Accepts f.views (change.Join silo) next = record { whole = facts.peopled.whole; is = is } in
       let step : Joins silo (view_at f.views f.views.version) (view_at next next.version) = changes_are_steps f.views (change.Join silo) next accepts in
-      view_shown m carried.world f (counted (after_joining f silo old next added)) carried.shown (versions_rise f.views (change.Join silo) next accepts) (mail_same old) (λ q node there.
+      view_shown m carried.world f (counted (after_joining f silo old next added)) carried.shown
+      (versions_rise f.views (change.Join silo) next accepts) (mail_same old) (λ q node there.
       elim (joining_node f facts.peopled silo next added old q node there) [
         | inl its ↦
             let first : state_of carried.world q ≡ first_state = ap (state_of carried.world) its.0 ∙ carried.shown.absent silo (newcomer silo f.views next step) in
-            subst (λ n. IsShownNode m carried.world n (state_of carried.world q)) (sym its.1) (subst (IsShownNode m carried.world (new_node f.settings silo)) (sym first) (new_shown m carried.world f.settings silo))
+            subst (λ n. IsShownNode m carried.world n (state_of carried.world q)) (sym its.1)
+            (subst (IsShownNode m carried.world (new_node f.settings silo)) (sym first) (new_shown m carried.world f.settings silo))
         | inr was ↦ carried.shown.live q node was
       ]) (was_absent silo f.views next step)
     where
@@ -191,13 +203,17 @@ module _ (m : Setting) (f : World) (facts : WorldFacts m.hash f) (carried : Carr
       mail_same (Some old) = refl
 
   go_on : (later : World) → Shown m later (viewed m carried.world) → Carried m later
-  go_on later shown = record { world = viewed m carried.world; reached = reached_after m carried.world New_view carried.reached tt; shown = shown }
+  go_on later shown =
+      record { world = viewed m carried.world; reached = reached_after m carried.world New_view carried.reached tt; shown = shown }
 
-  pub carried_leaving : (silo : Silo) → change.after f.views (change.Leave silo) ≡ Ok (change.with_leave f.views silo) → Carried m (counted (record f { views = change.with_leave f.views silo }))
+  pub carried_leaving : (silo : Silo) → change.after f.views (change.Leave silo) ≡ Ok (change.with_leave f.views silo)
+      → Carried m (counted (record f { views = change.with_leave f.views silo }))
   carried_leaving silo is = go_on (counted (record f { views = change.with_leave f.views silo })) (shown_leaving silo is)
 
-  pub carried_death : (silo : Silo) → change.after f.views (change.Die silo) ≡ Ok (change.with_death f.views silo) → Carried m (died f silo).world
+  pub carried_death : (silo : Silo) → change.after f.views (change.Die silo) ≡ Ok (change.with_death f.views silo)
+      → Carried m (died f silo).world
   carried_death silo is = go_on (died f silo).world (shown_death silo is)
 
-  pub carried_joining : (silo : Silo) (next : ViewsValue) (added : PlacesValue) → change.after_join f.views silo ≡ Ok next → (old : Option Silo) → Carried m (counted (after_joining f silo old next added))
+  pub carried_joining : (silo : Silo) (next : ViewsValue) (added : PlacesValue) → change.after_join f.views silo ≡ Ok next
+      → (old : Option Silo) → Carried m (counted (after_joining f silo old next added))
   carried_joining silo next added is old = go_on (counted (after_joining f silo old next added)) (shown_joining silo next added is old)

@@ -2,7 +2,7 @@
 use Rattle.directory_protocol.specs.Setting.{Setting}
 use Rattle.directory_protocol.specs.World as protocol
 use Rattle.directory_protocol.specs.Safety.{IsReached}
-use Rattle.directory_rules.specs.World.{World}
+use Rattle.directory_rules.specs.State.{World}
 use Rattle.directory_headline.specs.Setting.{IsSettingOf}
 use Rattle.directory_headline.specs.Shown.{Shown}
 

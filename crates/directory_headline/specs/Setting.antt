@@ -10,7 +10,7 @@ use Rattle.range_moves.specs.Arcs.{owner_silo}
 use Rattle.directory_protocol.specs.Setting.{Setting}
 use Rattle.directory_rules.specs.Members.{is_dead_in}
 use Rattle.directory_rules.specs.Laws.{is_live}
-use Rattle.directory_rules.specs.World.{World}
+use Rattle.directory_rules.specs.State.{World}
 
 -- the silo is in the view and isn't Dead there
 abbrev pub is_member_in : ViewValue → Silo → Bool

@@ -23,16 +23,12 @@ use Rattle.directory_rules.specs.declared.reply.Reply.TheVariants as reply
 use Rattle.directory_rules.specs.declared.piece_state.PieceState.TheVariants.{Settled}
 use Rattle.directory_rules.specs.Settings.{page_size}
 use Rattle.directory_rules.specs.Table.{entry_at, table_of, rise_by_grain}
-use Rattle.directory_rules.specs.Piece.{Piece, Holding}
-use Rattle.directory_rules.specs.Snapshot.{Snapshot, Page, page_count, page_entries, digest_of}
-use Rattle.directory_rules.specs.Gatherings.{Gathering, Whole}
-use Rattle.directory_rules.specs.Recovery.{Report, Recovery, is_among}
-use Rattle.directory_rules.specs.Host.{Host, held_of}
+use Rattle.directory_rules.specs.State.{Piece, Holding, Snapshot, Page, Gathering, Whole, Report, Recovery, Host, Letter, Body, Request_letter, Reply_letter, Ask_letter, Page_letter, Missing_letter, Done_letter, Query_letter, Report_letter, Behind_letter, Ahead_letter, Offer_letter, Node, World}
+use Rattle.directory_rules.specs.Snapshot.{page_count, page_entries, digest_of}
+use Rattle.directory_rules.specs.Recovery.{is_among}
+use Rattle.directory_rules.specs.Host.{held_of}
 use Rattle.directory_rules.specs.Answer.{piece_with, last_served}
 use Rattle.directory_rules.specs.Sight.{is_settled}
-use Rattle.directory_rules.specs.Letter.{Letter, Body, Request_letter, Reply_letter, Ask_letter, Page_letter, Missing_letter, Done_letter, Query_letter, Report_letter, Behind_letter, Ahead_letter, Offer_letter}
-use Rattle.directory_rules.specs.Node.{Node}
-use Rattle.directory_rules.specs.World.{World}
 use Rattle.directory_rules.specs.Happens.{node_of}
 use Rattle.directory_headline.specs.SiloState.{SiloState, state_of, first_state}
 

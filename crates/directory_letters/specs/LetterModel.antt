@@ -1,5 +1,5 @@
 -- How a letter's body of the code is one of the rule.
-use Rattle.directory_rules.specs.Letter as rule
+use Rattle.directory_rules.specs.State as rule
 use Rattle.directory_letters.specs.declared.letter.Body.{Body}
 use Rattle.directory_letters.specs.declared.letter.Body.TheVariants.{Request, Reply, Ask, Page, Missing, Done, Query, Report, Behind, Ahead, Offer}
 

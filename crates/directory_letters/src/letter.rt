@@ -108,7 +108,7 @@ pub struct Letter {
 }
 
 impl Model for Letter {
-    ghost use Rattle.directory_rules.specs.Letter.{Letter};
+    ghost use Rattle.directory_rules.specs.State.{Letter};
 
     ghost Value = { Letter };
 

@@ -12,7 +12,8 @@ use Rattle.node_plans.specs.Numbers.{step_refusal_number}
 use Rattle.node_plans.specs.declared.refusal.StepRefusal.{StepRefusal}
 use Rattle.node_plans.specs.declared.refusal.StepRefusal.TheVariants as node
 
-pub views_numbered : (Unnumbered : Type 0) (refusal : ViewsError) → refusal ≢ views.OutOfMemory → IfNone (views_error_number refusal) Unnumbered
+pub views_numbered : (Unnumbered : Type 0) (refusal : ViewsError) → refusal ≢ views.OutOfMemory
+    → IfNone (views_error_number refusal) Unnumbered
 views_numbered Unnumbered views.OldGeneration other = tt
 views_numbered Unnumbered views.UnknownSilo other = tt
 views_numbered Unnumbered views.NotActive other = tt
@@ -27,10 +28,12 @@ ring_numbered Unnumbered ring.PointsMissing other = tt
 ring_numbered Unnumbered ring.AlreadyAdded other = tt
 ring_numbered Unnumbered ring.OutOfMemory other = absurd (other refl)
 
-pub node_numbered : (Unnumbered : Type 0) (refusal : StepRefusal) → refusal ≢ node.OutOfMemory → IfNone (step_refusal_number refusal) Unnumbered
+pub node_numbered : (Unnumbered : Type 0) (refusal : StepRefusal) → refusal ≢ node.OutOfMemory
+    → IfNone (step_refusal_number refusal) Unnumbered
 node_numbered Unnumbered node.AlreadyHere other = tt
 node_numbered Unnumbered node.NotHere other = tt
 node_numbered Unnumbered node.NotFirm other = tt
+node_numbered Unnumbered node.NotAsking other = tt
 node_numbered Unnumbered node.NotActiveSilo other = tt
 node_numbered Unnumbered node.NumbersSpent other = tt
 node_numbered Unnumbered node.HostFull other = tt

@@ -5,8 +5,7 @@ use Rattle.membership_view.specs.View.{ViewValue}
 use Rattle.hash_ring.specs.Places.{PlacesValue}
 use Rattle.hash_ring.specs.Ring.{RingValue, ring_of}
 use Rattle.range_moves.specs.Arcs.{arcs_of}
-use Rattle.directory_rules.specs.Letter.{Letter}
-use Rattle.directory_rules.specs.Node.{Node}
+use Rattle.directory_rules.specs.State.{Letter, Node}
 use Rattle.directory_rules.specs.Sent.{all_requests, all_wants}
 use Rattle.directory_rules.specs.Sight.{is_next}
 use Rattle.directory_rules.specs.Step.{Stepped, compared_points, having_seen, node_after, sight}
@@ -25,7 +24,8 @@ stepped node letters effect = record { node = node; letters = letters; effect = 
 abbrev placed : ViewValue → PlacesValue → Sight → Sight
 placed view places sight = record sight { transition = record sight.transition { ring = ring_of view places } }
 
-placed_fits : (view : ViewValue) (places : PlacesValue) (sight : Sight) (node : Node) → FitsSight sight node → FitsSight (placed view places sight) node
+placed_fits : (view : ViewValue) (places : PlacesValue) (sight : Sight) (node : Node) → FitsSight sight node
+    → FitsSight (placed view places sight) node
 placed_fits view places sight node fits = record {
   newer = fits.newer;
   arcs = fits.arcs;
@@ -36,8 +36,11 @@ placed_fits view places sight node fits = record {
 }
 
 -- a sight that fits makes just that
-pub seen_by_is : (node : Node) (its : Sight) → FitsSight its node → (before view : ViewValue) (places : PlacesValue) (transition : TransitionValue) (letters : List Letter) (effect : Effect)
-    → its.next ≡ is_next node.view before view node.host.silo → its.view ≡ view → its.transition ≡ transition → letters ≡ all_wants (seen_by its node) ++ all_requests (seen_by its node) → effect ≡ cond (is_next node.view before view node.host.silo) Next Skip
+pub seen_by_is : (node : Node) (its : Sight) → FitsSight its node
+    → (before view : ViewValue) (places : PlacesValue) (transition : TransitionValue) (letters : List Letter) (effect : Effect)
+    → its.next ≡ is_next node.view before view node.host.silo → its.view ≡ view → its.transition ≡ transition
+    → letters ≡ all_wants (seen_by its node) ++ all_requests (seen_by its node)
+    → effect ≡ cond (is_next node.view before view node.host.silo) Next Skip
     → stepped (seen_by its node) letters effect ≡ sight_by node before view places transition
 seen_by_is node its fits before view places transition letters effect n v t sent told =
     let next = is_next node.view before view node.host.silo in
@@ -47,7 +50,8 @@ seen_by_is node its fits before view places transition letters effect n v t sent
     ∙ (λ i. having_seen next (record (node_after (n i) node view places (t i).arcs) { ring = (t i).ring }))
 
 -- by the transition of the sight it is the rule's
-pub of_sight : (node : Node) (before view : ViewValue) (places : PlacesValue) (transition : TransitionValue) → IsOfSight node before view places transition
+pub of_sight : (node : Node) (before view : ViewValue) (places : PlacesValue) (transition : TransitionValue)
+    → IsOfSight node before view places transition
     → sight_by node before view places transition ≡ sight (is_next node.view before view node.host.silo) node before view places
 of_sight node before view places transition of =
     let next = is_next node.view before view node.host.silo in

@@ -1,6 +1,6 @@
 -- How the fields of the code's node are the rule's node.
 use Rattle.std.specs.Arc.{arc_value}
-use Rattle.directory_rules.specs.Node.{Node}
+use Rattle.directory_rules.specs.State.{Node}
 use Rattle.node_plans.specs.CacheModel.{cache_of}
 use Rattle.directory_node.specs.declared.node.Node.TheInside.{Inside}
 

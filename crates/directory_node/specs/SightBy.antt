@@ -1,7 +1,7 @@
 -- What a node's sight of a view is by a transition, whatever that is between.
 use Rattle.membership_view.specs.View.{ViewValue}
 use Rattle.hash_ring.specs.Places.{PlacesValue}
-use Rattle.directory_rules.specs.Node.{Node}
+use Rattle.directory_rules.specs.State.{Node}
 use Rattle.directory_rules.specs.Sight.{is_next}
 use Rattle.directory_rules.specs.Step.{Stepped, having_seen, node_after}
 use Rattle.node_plans.specs.Transition.{TransitionValue}

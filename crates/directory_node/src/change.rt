@@ -25,6 +25,7 @@ impl Node {
                 self.renew(renewal);
                 Ok(())
             }
+            Change::RenewsAbout(grain) => self.renew_about(&grain),
             Change::Starts { grain, previous } => self.host.start(grain, previous),
             Change::Closes(grain) => self.host.begin_to_close(&grain),
             Change::Asks(grain) => self.host.ask(grain),

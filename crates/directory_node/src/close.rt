@@ -1,8 +1,8 @@
-//! Closing an activation, and offering it to another silo.
+//! Closing an activation, giving one up, and offering one to another silo.
 ghost use Rattle.std.specs.Prelude.{◌≡◌, IfOk, OnErr, Some, length};
 ghost use Rattle.directory_rules.specs.Host.{held_of};
 ghost use Rattle.directory_rules.specs.Receive.{offered_to, takes_offer};
-ghost use Rattle.directory_rules.specs.Step.{close, closing, offer, offered};
+ghost use Rattle.directory_rules.specs.Step.{cancel, close, closing, offer, offered};
 ghost use Rattle.node_plans.specs.Follows.{Follows};
 ghost use Rattle.node_plans.specs.Numbers.{step_refusal_number};
 ghost use Rattle.node_plans.specs.Plans.{Fits, Sends, step_by};
@@ -10,7 +10,7 @@ ghost use Rattle.node_plans.specs.Plans.{Fits, Sends, step_by};
 use crate::{Change, Node, Plan, StepRefusal};
 use directory_letters::{Body, Letter};
 use directory_rules::{Act, Effect, Held};
-use node_plans::{is_firm, offer_effect};
+use node_plans::{is_asking, is_firm, offer_effect};
 use silo_address::{Entry, GrainId, SiloAddress};
 use std::alloc::{AllocError, Global};
 
@@ -30,16 +30,45 @@ impl Node {
         if !self.host.has_numbers(&self.settings, 1) {
             return Err(StepRefusal::NumbersSpent);
         }
-        match self.closing(alloc, grain, &held) {
+        let told = Effect::Closing(self.entry_of(grain, held.count));
+        match self.closing(alloc, grain, &held, told) {
             Ok(plan) => Ok(plan),
             Err(_) => Err(StepRefusal::OutOfMemory),
         }
     }
 
-    // A firm activation asks to be taken out.
-    fn closing(&self, alloc: Global, grain: &GrainId, held: &Held) -> Result<Plan, AllocError>
+    // The silo gives up an activation that asks: 802, 808, 805. Needs memory for the one letter that it sends, if it sends one.
+    pub(crate) fn plan_cancel(&self, alloc: Global, grain: &GrainId) -> Result<Plan, StepRefusal>
+        ensures planned { Follows (step_by self.now) step_refusal_number (Sends 1) (cancel self.now grain.now) result }
+        ensures fits { IfOk result (λ plan. Fits plan.change self.now) }
+    {
+        self.settings.in_range();
+        let Some(held) = self.host.held(grain) else {
+            return Err(StepRefusal::NotHere);
+        };
+        if !is_asking(&held.phase) {
+            return Err(StepRefusal::NotAsking);
+        }
+        if !self.host.has_numbers(&self.settings, 1) {
+            return Err(StepRefusal::NumbersSpent);
+        }
+        let told = Effect::Cancelled(self.entry_of(grain, held.count));
+        match self.closing(alloc, grain, &held, told) {
+            Ok(plan) => Ok(plan),
+            Err(_) => Err(StepRefusal::OutOfMemory),
+        }
+    }
+
+    // The grain's activation asks to be taken out, and this is told.
+    fn closing(
+        &self,
+        alloc: Global,
+        grain: &GrainId,
+        held: &Held,
+        told: Effect,
+    ) -> Result<Plan, AllocError>
         requires there { held_of self.now.host grain.now ≡ Some held.now }
-        ensures planned { IfOk result (λ plan. step_by self.now plan ≡ closing self.now grain.now held.now) }
+        ensures planned { IfOk result (λ plan. step_by self.now plan ≡ record (closing self.now grain.now held.now) { effect = told }) }
         ensures change { IfOk result (λ plan. plan.change ≡ Change.Closes grain.now) }
         ensures one { OnErr result (length (closing self.now grain.now held.now).letters ≡ 1) }
     {
@@ -47,7 +76,7 @@ impl Node {
         let deregister = Act::Deregister { entry };
         Ok(Plan {
             letters: self.request_letters(alloc, self.host.next_number(), deregister)?,
-            effect: Effect::Closing(entry),
+            effect: told,
             change: Change::Closes(*grain),
         })
     }

@@ -4,9 +4,11 @@
 
 mod change;
 mod close;
+mod counts;
 mod listed;
 mod membership;
 mod node;
+mod nudges;
 mod own_steps;
 mod pieces;
 mod recoveries;

@@ -39,7 +39,7 @@ pub struct Node {
 }
 
 impl Model for Node {
-    ghost use Rattle.directory_rules.specs.Node.{Node};
+    ghost use Rattle.directory_rules.specs.State.{Node};
 
     ghost Value = { Node };
 
@@ -67,7 +67,7 @@ impl Node {
             shelf: Shelf::new(alloc),
             gatherings: BTreeMap::new(alloc),
             recoveries: BTreeMap::new(alloc),
-            host: Host::new(alloc, silo, &settings),
+            host: Host::new(alloc, silo, 1, &settings),
             cache,
         })
     }

@@ -17,7 +17,7 @@ pub struct SharedNode {
 }
 
 impl Model for SharedNode {
-    ghost use Rattle.directory_rules.specs.Node.{Node};
+    ghost use Rattle.directory_rules.specs.State.{Node};
     ghost use Rattle.std.specs.Arc.{arc_value};
 
     ghost Value = { Node };

@@ -1,9 +1,9 @@
 //! A sight as a plan: what it sends, and the change that it makes.
 ghost use Rattle.std.specs.Prelude.{◌≡◌, ◌&&◌, ◌==◌, ◌<◌, ◌+◌, ◌++◌, if◌then◌else◌, IfErr, IfOk, IsOk, flat_map, length, true};
 ghost use Rattle.directory_rules.specs.Host.{has_numbers, outstanding, renewed};
-ghost use Rattle.directory_rules.specs.Sent.{all_wants, request_letters};
+ghost use Rattle.directory_rules.specs.Sent.{request_letters};
 ghost use Rattle.directory_rules.specs.Sight.{is_next, sealed};
-ghost use Rattle.directory_rules.specs.Step.{compared_points, having_nudged, nudge, see, sight};
+ghost use Rattle.directory_rules.specs.Step.{compared_points, see, sight};
 ghost use Rattle.grain_partition.specs.Holdings.{ArePieces};
 ghost use Rattle.grain_partition.specs.Seen.{pieces_seen};
 ghost use Rattle.hash_ring.specs.Ring.{are_added, ring_of};
@@ -22,7 +22,7 @@ ghost use Rattle.membership_view.specs.View.{ViewValue};
 
 use crate::{Change, Node, Plan, Sight, StepRefusal, Transition};
 use directory_letters::Letter;
-use directory_rules::{Act, Effect};
+use directory_rules::Act;
 use grain_partition::{ArcsBySilo, Piece};
 use hash_ring::{Places, Ring};
 use host_activations::Renewal;
@@ -287,7 +287,7 @@ impl Node {
     }
 
     // A new number for every outstanding request.
-    fn renewal(&self, alloc: Global) -> Result<Renewal, AllocError>
+    pub(crate) fn renewal(&self, alloc: Global) -> Result<Renewal, AllocError>
         requires { has_numbers self.now.settings self.now.host (length (outstanding self.now.host)) ≡ true }
         ensures { IfOk result (λ renewal. renewal ≡ renewal_of self.now.host) }
     {
@@ -296,7 +296,7 @@ impl Node {
     }
 
     // The outstanding requests under their new numbers.
-    fn renewed_requests(
+    pub(crate) fn renewed_requests(
         &self,
         alloc: Global,
         renewal: &Renewal,
@@ -327,46 +327,5 @@ impl Node {
             recoveries: &sight.recoveries,
         };
         sender.sight_letters(alloc, pieces, &requests)
-    }
-}
-
-// A nudge.
-impl Node {
-    // All that is outstanding is sent again under new numbers: 805.
-    pub(crate) fn plan_nudge(&self, alloc: Global) -> Result<Plan, StepRefusal>
-        ensures planned { Follows (step_by self.now) step_refusal_number IsOk (nudge self.now) result }
-        ensures fits { IfOk result (λ plan. Fits plan.change self.now) }
-    {
-        if !self.can_renew() {
-            return Err(StepRefusal::NumbersSpent);
-        }
-        match self.plan_again(alloc) {
-            Ok(plan) => Ok(plan),
-            Err(_) => Err(StepRefusal::OutOfMemory),
-        }
-    }
-
-    // The outstanding requests under new numbers, and then what the pieces want.
-    fn plan_again(&self, alloc: Global) -> Result<Plan, AllocError>
-        requires numbers { has_numbers self.now.settings self.now.host (length (outstanding self.now.host)) ≡ true }
-        ensures planned { IfOk result (λ plan. step_by self.now plan ≡ having_nudged (record self.now { host = renewed self.now.host })) }
-        ensures fits { IfOk result (λ plan. Fits plan.change self.now) }
-    {
-        let renewal = self.renewal(alloc)?;
-        let letters = self.letters_again(alloc, &renewal)?;
-        Ok(Plan {
-            letters,
-            effect: Effect::Nudged,
-            change: Change::Renews(renewal),
-        })
-    }
-
-    // The outstanding requests under their new numbers, and then what the pieces want.
-    fn letters_again(&self, alloc: Global, renewal: &Renewal) -> Result<Vec<Letter>, AllocError>
-        requires { renewal.now ≡ renewal_of self.now.host }
-        ensures { IfOk result (λ letters. letters.items ≡ flat_map (λ e. request_letters self.now e.0 e.1) (outstanding (renewed self.now.host)) ++ all_wants self.now) }
-    {
-        let requests = self.renewed_requests(alloc, renewal)?;
-        self.sender().nudge_letters(alloc, &requests, &self.holding)
     }
 }

@@ -47,9 +47,12 @@ impl Node {
         match step {
             OwnStep::Wake(grain) => self.plan_wake(alloc, grain),
             OwnStep::Close(grain) => self.plan_close(alloc, grain),
+            OwnStep::Cancel(grain) => self.plan_cancel(alloc, grain),
             OwnStep::Find(grain) => self.plan_find(alloc, grain),
             OwnStep::Forget(grain) => Ok(self.plan_forget(alloc, grain)),
             OwnStep::Nudge => self.plan_nudge(alloc),
+            OwnStep::NudgeGrain(grain) => self.plan_nudge_grain(alloc, grain),
+            OwnStep::NudgeRanges => self.plan_nudge_ranges(alloc),
             OwnStep::Offer { grain, to } => self.plan_offer(alloc, grain, to),
         }
     }

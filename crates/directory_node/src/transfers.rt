@@ -5,7 +5,7 @@ ghost use Rattle.directory_rules.specs.Sent.{gathering_of};
 ghost use Rattle.directory_rules.specs.Table.{rise_by_grain};
 ghost use Rattle.directory_rules.specs.Transfer.{asked, awaits, done, gathered_by, is_awaiting_from, is_page_awaited, missing, paged};
 ghost use Rattle.node_plans.specs.Plans.{Fits, answer_count, step_by};
-ghost use Rattle.directory_rules.specs.Letter.{Missing_letter};
+ghost use Rattle.directory_rules.specs.State.{Missing_letter};
 ghost use Rattle.seal_snapshot.specs.Progress.{progress_of};
 ghost use Rattle.seal_snapshot.specs.declared.progress.GatheringProgress.TheVariants.{Complete, More};
 ghost use Rattle.grain_partition.specs.Holdings.{HasPiece};

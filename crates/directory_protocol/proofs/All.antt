@@ -61,7 +61,8 @@ settled_is_right m w k g s i =
       held = λ a e l. k.backed.entries.held_there g a (sym right ∙ e);
       live = λ a e now.
           let member : m.member (w.level (m.hash g)) a.silo ≡ true = k.backed.entries.on_member g a (sym right ∙ e) in
-          m.member_is_alive w.now a.silo (subst (λ v. m.member v a.silo ≡ true) (k.placed.levels.at_level s (m.hash g) i.alive i.settled ∙ now) member);
+          m.member_is_alive w.now a.silo (subst (λ v. m.member v a.silo ≡ true)
+          (k.placed.levels.at_level s (m.hash g) i.alive i.settled ∙ now) member);
     }
   where
     right : w.table s g ≡ w.authority g
@@ -85,7 +86,7 @@ pub only_settled_answer : (m : Setting) (w : World) (a : Action) → SettledServ
 only_settled_answer m w New_view may y q = inl q
 only_settled_answer m w (See x) may y q = inl q
 only_settled_answer m w (Start s g previous) may y q = inl q
-only_settled_answer m w (Close s g c) may y q = inl q
+only_settled_answer m w (Close s g x) may y q = inl q
 only_settled_answer m w (Offer_away s g c) may y q = inl q
 only_settled_answer m w (Renew s g x purpose) may y q = inl q
 only_settled_answer m w (Find s) may y q = inl q

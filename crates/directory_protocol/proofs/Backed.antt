@@ -81,12 +81,16 @@ module _ (m : Setting) (w : World) (k : Asked m w) (b : Backed m w) (s : Silo) (
       still :
           (q : Silo) (h : Grain) (x : Held) → w.held q h ≡ Some x → w.authority h ≡ Some (activation_on q (count_of x))
           → (x' : Held) × (put_at s g o w.held q h ≡ Some x') × (count_of x' ≡ count_of x)
-      still = put_at_all (λ q h o. (x : Held) → w.held q h ≡ Some x → w.authority h ≡ Some (activation_on q (count_of x)) → (x' : Held) × (o ≡ Some x') × (count_of x' ≡ count_of x)) s g o w.held r.keeps (λ q h n x e a. (x, e, refl))
+      still =
+          put_at_all (λ q h o. (x : Held) → w.held q h ≡ Some x → w.authority h ≡ Some (activation_on q (count_of x))
+          → (x' : Held) × (o ≡ Some x') × (count_of x' ≡ count_of x)) s g o w.held r.keeps (λ q h n x e a. (x, e, refl))
 
   confirmed_turn : Confirmed m w.now w.seen (put_at s g o w.held) w.replies w.authority
   confirmed_turn =
       record {
-        firm = put_at_all (λ q h o. (c : ℕ) → m.alive w.now q ≡ true → o ≡ Some (Firm c) → w.authority h ≡ Some (activation_on q c)) s g o w.held (λ c a e. r.firm c e) (λ q h n. b.confirmed.firm q h);
+        firm =
+            put_at_all (λ q h o. (c : ℕ) → m.alive w.now q ≡ true → o ≡ Some (Firm c) → w.authority h ≡ Some (activation_on q c)) s g o
+            w.held (λ c a e. r.firm c e) (λ q h n. b.confirmed.firm q h);
         registered = λ y h x q e a c. b.confirmed.registered y h x q e a (counts_turn m w k.numbers s g o r.fresh y h x q c);
         refused = λ y h x q e c. b.confirmed.refused y h x q e (counts_turn m w k.numbers s g o r.fresh y h x q c);
       }
@@ -135,7 +139,8 @@ turned_confirm m w y g x may p k b =
           let same : x ≡ z = cc in
           (Firm (count_of x), refl, ap count_of same);
       firm = λ c e. let same : count_of x ≡ c = cc in
-          b.confirmed.registered y g x may.accepted.sent may.answer may.accepted.alive may.accepted.counts ∙ ap (λ n. Some (activation_on y.receiver n)) same;
+          b.confirmed.registered y g x may.accepted.sent may.answer may.accepted.alive may.accepted.counts
+          ∙ ap (λ n. Some (activation_on y.receiver n)) same;
       told = λ z c e q d l.
           let told_seen : z.version ≤ w.seen z.sender = p.levels.told_seen z q in
           let saw : w.seen z.sender ≡ w.seen y.receiver = ap w.seen d in
@@ -153,7 +158,8 @@ turned_leave m w y g x may b =
       keeps = λ z e a.
           let there : w.held y.receiver g ≡ Some x = may.accepted.counts.held_there in
           let same : z ≡ x = cc in
-          absurd (b.confirmed.refused y g x may.accepted.sent may.answer may.accepted.counts (a ∙ ap (λ n. Some (activation_on y.receiver n)) (ap count_of same)));
+          absurd (b.confirmed.refused y g x may.accepted.sent may.answer may.accepted.counts
+          (a ∙ ap (λ n. Some (activation_on y.receiver n)) (ap count_of same)));
       firm = λ c e. absurd cc;
       told = λ z c e. absurd cc;
       fresh = λ z purpose i e. absurd cc;
@@ -183,7 +189,8 @@ backed_told m w s a p b =
       confirmed = b.confirmed;
       reported = record {
         right = λ x g c q.
-            sent_all (λ x. w.level (m.hash g) < x.version → x.firm g ≡ Some c → w.authority g ≡ Some (activation_on x.sender c)) (reported w s) w.reports
+            sent_all (λ x. w.level (m.hash g) < x.version → x.firm g ≡ Some c → w.authority g ≡ Some (activation_on x.sender c))
+            (reported w s) w.reports
             (λ l e. b.confirmed.firm s g c a (firm_count_inv (w.held s g) c e))
             (λ x q. b.reported.right x g c q)
             x q;
@@ -200,39 +207,46 @@ backed_told m w s a p b =
         (g : Grain) (c : ℕ) (x : Report) → Sent x (reported w s ∷ w.reports) → (y : Report) → Sent y (reported w s ∷ w.reports)
         → y.sender ≡ x.sender → x.version < y.version → w.level (m.hash g) < x.version → y.firm g ≡ Some c → x.firm g ≡ Some c
     shrinks g c =
-        sent_all (λ x. (y : Report) → Sent y (reported w s ∷ w.reports) → y.sender ≡ x.sender → x.version < y.version → w.level (m.hash g) < x.version → y.firm g ≡ Some c → x.firm g ≡ Some c) (reported w s) w.reports
-        (sent_all (λ y. y.sender ≡ s → w.seen s < y.version → w.level (m.hash g) < w.seen s → y.firm g ≡ Some c → firm_count (w.held s g) ≡ Some c) (reported w s) w.reports
+        sent_all (λ x. (y : Report) → Sent y (reported w s ∷ w.reports) → y.sender ≡ x.sender → x.version < y.version
+        → w.level (m.hash g) < x.version → y.firm g ≡ Some c → x.firm g ≡ Some c) (reported w s) w.reports
+        (sent_all (λ y. y.sender ≡ s → w.seen s < y.version → w.level (m.hash g) < w.seen s → y.firm g ≡ Some c
+        → firm_count (w.held s g) ≡ Some c) (reported w s) w.reports
         (λ d l. absurd (omega arith))
         (λ y q d l. let told_seen : y.version ≤ w.seen y.sender = p.levels.told_seen y q in
         let saw : w.seen y.sender ≡ w.seen s = ap w.seen d in
         absurd (omega arith)))
-        (λ x q. sent_all (λ y. y.sender ≡ x.sender → x.version < y.version → w.level (m.hash g) < x.version → y.firm g ≡ Some c → x.firm g ≡ Some c) (reported w s) w.reports
+        (λ x q. sent_all (λ y. y.sender ≡ x.sender → x.version < y.version → w.level (m.hash g) < x.version → y.firm g ≡ Some c
+        → x.firm g ≡ Some c) (reported w s) w.reports
         (λ d l i e. b.reported.all_firm x g c q i (sym (ap (λ q. w.held q g) d) ∙ firm_count_inv (w.held s g) c e))
         (λ y t d l i e. b.reported.shrinking x y g c q t d l i e))
 
 backed_closing :
-    (m : Setting) (w : World) → Asked m w → Backed m w → (s : Silo) (g : Grain) (c : ℕ) → w.held s g ≡ Some (Firm c)
-    → Backed m (record w { held = put_at s g (Some (Closing c (w.next_number s))) w.held })
-backed_closing m w k b s g c firm =
-    backed_turn m w k b s g (Some (Closing c (w.next_number s)))
-    (turned_open m w s g (Closing c (w.next_number s)) (λ y e. let same : Firm c ≡ y = cc in
-    ap count_of same) (λ d f. cc) (closing_number c (w.next_number s)))
+    (m : Setting) (w : World) → Asked m w → Backed m w → (s : Silo) (g : Grain) (x : Held) → w.held s g ≡ Some x
+    → Backed m (record w { held = put_at s g (Some (Closing (count_of x) (w.next_number s))) w.held })
+backed_closing m w k b s g x held =
+    backed_turn m w k b s g (Some (Closing (count_of x) (w.next_number s)))
+    (turned_open m w s g (Closing (count_of x) (w.next_number s)) (λ y e. let same : x ≡ y = cc in
+    ap count_of same) (λ d f. cc) (closing_number (count_of x) (w.next_number s)))
 
 pub backed_after : (m : Setting) (w : World) (a : Action) → Allowed m w a → Placed m w → Asked m w → Backed m w → Backed m (after m w a)
 backed_after m w New_view may p k b = backed_view m w b
 backed_after m w (See x) may p k b = backed_sight m w x may p k b
 backed_after m w (Start s g previous) may p k b =
-    backed_alike m (record w { held = put_at s g (Some (Asking (w.next_count s) (w.next_number s) previous)) w.held }) (after m w (Start s g previous)) (λ e. e) (λ c. c) (λ r. r)
+    backed_alike m (record w { held = put_at s g (Some (Asking (w.next_count s) (w.next_number s) previous)) w.held })
+    (after m w (Start s g previous)) (λ e. e) (λ c. c) (λ r. r)
     (backed_turn m w k b s g (Some (Asking (w.next_count s) (w.next_number s) previous))
     (turned_open m w s g (Asking (w.next_count s) (w.next_number s) previous) (λ y e.
     let free : w.held s g ≡ None = may.free in
     absurd cc) (λ c f. cc) (asking_number (w.next_count s) (w.next_number s) previous)))
-backed_after m w (Close s g c) may p k b =
-    backed_alike m (record w { held = put_at s g (Some (Closing c (w.next_number s))) w.held }) (after m w (Close s g c)) (λ e. e) (λ c. c) (λ r. r) (backed_closing m w k b s g c may.firm)
+backed_after m w (Close s g x) may p k b =
+    backed_alike m (record w { held = put_at s g (Some (Closing (count_of x) (w.next_number s))) w.held }) (after m w (Close s g x))
+    (λ e. e) (λ c. c) (λ r. r) (backed_closing m w k b s g x may.held)
 backed_after m w (Offer_away s g c) may p k b =
-    backed_alike m (record w { held = put_at s g (Some (Closing c (w.next_number s))) w.held }) (after m w (Offer_away s g c)) (λ e. e) (λ c. c) (λ r. r) (backed_closing m w k b s g c may.firm)
+    backed_alike m (record w { held = put_at s g (Some (Closing c (w.next_number s))) w.held }) (after m w (Offer_away s g c)) (λ e. e)
+    (λ c. c) (λ r. r) (backed_closing m w k b s g (Firm c) may.held)
 backed_after m w (Renew s g x purpose) may p k b =
-    backed_alike m (record w { held = put_at s g (Some (renumbered (w.next_number s) x)) w.held }) (after m w (Renew s g x purpose)) (λ e. e) (λ c. c) (λ r. r)
+    backed_alike m (record w { held = put_at s g (Some (renumbered (w.next_number s) x)) w.held }) (after m w (Renew s g x purpose))
+    (λ e. e) (λ c. c) (λ r. r)
     (backed_turn m w k b s g (Some (renumbered (w.next_number s) x))
     (turned_open m w s g (renumbered (w.next_number s) x)
     (λ y e. let there : w.held s g ≡ Some x = may.held in let same : x ≡ y = cc in renumbered_count (w.next_number s) x ∙ ap count_of same)
@@ -240,7 +254,8 @@ backed_after m w (Renew s g x purpose) may p k b =
     (renumbered_number (w.next_number s) x)))
 backed_after m w (Find s) may p k b = record { entries = b.entries; confirmed = b.confirmed; reported = b.reported }
 backed_after m w (Serve x) may p k b = backed_served m w x may p k b
-backed_after m w (Confirm y g x) may p k b = backed_turn m w k b y.receiver g (Some (Firm (count_of x))) (turned_confirm m w y g x may p k b)
+backed_after m w (Confirm y g x) may p k b =
+    backed_turn m w k b y.receiver g (Some (Firm (count_of x))) (turned_confirm m w y g x may p k b)
 backed_after m w (Leave y g x) may p k b = backed_turn m w k b y.receiver g None (turned_leave m w y g x may b)
 backed_after m w (Tell s) may p k b = backed_told m w s may p b
 backed_after m w (Install x snapshot) may p k b = backed_install m w x snapshot may p b

@@ -41,7 +41,9 @@ module _ (m : Setting) (w : World) (x : Service) (may : MayServe m w x) (p : Pla
   at = p.levels.at_level x.server (m.hash x.request.grain) may.alive may.settled ∙ may.same_version
 
   owner : m.owner x.request.version (m.hash x.request.grain) ≡ Some x.server
-  owner = subst (λ j. m.owner j (m.hash x.request.grain) ≡ Some x.server) may.same_version (p.structure.owned x.server (m.hash x.request.grain) may.settled)
+  owner =
+      subst (λ j. m.owner j (m.hash x.request.grain) ≡ Some x.server) may.same_version
+      (p.structure.owned x.server (m.hash x.request.grain) may.settled)
 
   before : w.table x.server x.request.grain ≡ w.authority x.request.grain
   before = b.entries.right x.server x.request.grain may.alive may.settled
@@ -66,7 +68,9 @@ module _ (m : Setting) (w : World) (x : Service) (may : MayServe m w x) (p : Pla
   -- ---- the table changes: there was no entry, or one that has a closing notice
 
   IsVacant : Type 0
-  IsVacant = (a : ActivationId) → w.authority x.request.grain ≡ Some a → IsGivenUp w.held w.next_count w.reports a x.request.grain x.request.version
+  IsVacant =
+      (a : ActivationId) → w.authority x.request.grain ≡ Some a
+      → IsGivenUp w.held w.next_count w.reports a x.request.grain x.request.version
 
   none_firm : IsVacant → (s : Silo) (c : ℕ) → m.alive w.now s ≡ true → w.held s x.request.grain ≡ Some (Firm c) → ⊥
   unfolding IsVacant
@@ -104,7 +108,9 @@ module _ (m : Setting) (w : World) (x : Service) (may : MayServe m w x) (p : Pla
       ]
 
   named_member : m.member (w.level (m.hash x.request.grain)) x.request.sender ≡ true
-  named_member = subst (λ v. m.member v x.request.sender ≡ true) (sym at) (k.numbers.request_member x.request may.sent (positive x.request.version owner))
+  named_member =
+      subst (λ v. m.member v x.request.sender ≡ true) (sym at)
+      (k.numbers.request_member x.request may.sent (positive x.request.version owner))
     where
       positive : (v : ℕ) → m.owner v (m.hash x.request.grain) ≡ Some x.server → 1 ≤ v
       positive zero o = absurd (m.no_owner_at_first (m.hash x.request.grain) x.server o)
@@ -122,7 +128,8 @@ module _ (m : Setting) (w : World) (x : Service) (may : MayServe m w x) (p : Pla
       let saw : w.seen x.request.sender ≡ w.seen y.receiver = ap w.seen sender in
       let version : x.request.version ≤ y.version = omega (arith, k.numbers.request_seen x.request may.sent, c.same_version) in
       let spent : IsSpent m w.now w.seen w.served w.level x.request.sender (m.hash x.request.grain) y.version y.number = subst (λ s. IsSpent m w.now w.seen w.served w.level s (m.hash x.request.grain) y.version y.number) (sym sender) (k.spent.replied y x.request.grain z q c) in
-      not_spent m w x p may (spent_lower m w.now w.seen w.served w.level x.request.sender (m.hash x.request.grain) y.version y.number x.request.version x.request.number version number spent)
+      not_spent m w x p may (spent_lower m w.now w.seen w.served w.level x.request.sender (m.hash x.request.grain) y.version y.number
+      x.request.version x.request.number version number spent)
 
   served_entered : x.request.purpose ≡ Register → x.answer ≡ Registered → x.entry ≡ Some (named x.request) → IsVacant → IsServed
   served_entered register answer e vacant =
@@ -174,7 +181,8 @@ module _ (m : Setting) (w : World) (x : Service) (may : MayServe m w x) (p : Pla
                 (λ a e.
                 let same : named x.request ≡ a = (let t : w.authority x.request.grain ≡ Some (named x.request) = sym before ∙ j.0 in
                 cc) in
-                subst (λ a. IsGivenUp w.held w.next_count w.reports a x.request.grain x.request.version) same (k.notices.deregistered x.request may.sent q))
+                subst (λ a. IsGivenUp w.held w.next_count w.reports a x.request.grain x.request.version) same
+                (k.notices.deregistered x.request may.sent q))
             | inr j ↦ served_same j.1 (λ e. let a : x.answer ≡ Removed = i.0 in absurd cc) (λ n e. j.0 (sym j.1 ∙ e))
           ]
 
@@ -197,8 +205,11 @@ module _ (m : Setting) (w : World) (x : Service) (may : MayServe m w x) (p : Pla
       elim (grain_cases g x.request.grain) [
         | inl e ↦
             (let same : s ≡ x.server = one_settles m w p (m.hash g) s x.server (record { alive = a; settled = t }) (record { alive = may.alive; settled = ap (λ g. w.settled x.server (m.hash g)) e ∙ may.settled }) in
-            ap (λ s. put_at x.server x.request.grain x.entry w.table s g) same ∙ ap (put_at x.server x.request.grain x.entry w.table x.server) e ∙ put_at_same x.server x.request.grain x.entry w.table ∙ sym (entry_now g e))
-        | inr n ↦ put_at_other x.server x.request.grain x.entry w.table s g (λ e. n) ∙ b.entries.right s g a t ∙ sym (put_grain_other x.request.grain x.entry w.authority g n)
+            ap (λ s. put_at x.server x.request.grain x.entry w.table s g) same
+            ∙ ap (put_at x.server x.request.grain x.entry w.table x.server) e ∙ put_at_same x.server x.request.grain x.entry w.table
+            ∙ sym (entry_now g e))
+        | inr n ↦ put_at_other x.server x.request.grain x.entry w.table s g (λ e. n) ∙ b.entries.right s g a t
+            ∙ sym (put_grain_other x.request.grain x.entry w.authority g n)
       ]
 
   pub backed_served : Backed m (after m w (Serve x))
@@ -206,10 +217,15 @@ module _ (m : Setting) (w : World) (x : Service) (may : MayServe m w x) (p : Pla
       record {
         entries = record {
           right = served_right;
-          on_member = put_grain_all (λ g o. (a : ActivationId) → o ≡ Some a → m.member (w.level (m.hash g)) a.silo ≡ true) x.request.grain x.entry w.authority served.on_member (λ g n. b.entries.on_member g);
-          held_there = put_grain_all (λ g o. (a : ActivationId) → o ≡ Some a → IsHeld w.held g a) x.request.grain x.entry w.authority served.held_there (λ g n. b.entries.held_there g);
+          on_member =
+              put_grain_all (λ g o. (a : ActivationId) → o ≡ Some a → m.member (w.level (m.hash g)) a.silo ≡ true) x.request.grain x.entry
+              w.authority served.on_member (λ g n. b.entries.on_member g);
+          held_there =
+              put_grain_all (λ g o. (a : ActivationId) → o ≡ Some a → IsHeld w.held g a) x.request.grain x.entry w.authority
+              served.held_there (λ g n. b.entries.held_there g);
           sealed = λ y g q c e.
-              put_grain_all (λ g o. y.covers (m.hash g) ≡ true → w.level (m.hash g) ≡ y.sealed_at → y.entries g ≡ surviving m (suc y.sealed_at) o) x.request.grain x.entry w.authority
+              put_grain_all (λ g o. y.covers (m.hash g) ≡ true → w.level (m.hash g) ≡ y.sealed_at
+              → y.entries g ≡ surviving m (suc y.sealed_at) o) x.request.grain x.entry w.authority
               (λ c e.
               let same : y.sealed_at ≡ x.request.version = sym e ∙ at in
               let gone : y.sealed_at < w.seen x.server = p.levels.sealed_left y (m.hash x.request.grain) q c x.server (subst (λ v. m.owner v (m.hash x.request.grain) ≡ Some x.server) (sym same) owner) may.alive in
@@ -218,20 +234,31 @@ module _ (m : Setting) (w : World) (x : Service) (may : MayServe m w x) (p : Pla
               g c e;
         };
         confirmed = record {
-          firm = λ s g. put_grain_all (λ g o. (c : ℕ) → m.alive w.now s ≡ true → w.held s g ≡ Some (Firm c) → o ≡ Some (activation_on s c)) x.request.grain x.entry w.authority (served.has_firm s) (λ g n. b.confirmed.firm s g) g;
+          firm =
+              λ s g. put_grain_all (λ g o. (c : ℕ) → m.alive w.now s ≡ true → w.held s g ≡ Some (Firm c) → o ≡ Some (activation_on s c))
+              x.request.grain x.entry w.authority (served.has_firm s) (λ g n. b.confirmed.firm s g) g;
           registered = λ y g z q.
-              sent_all (λ y. y.answer ≡ Registered → m.alive w.now y.receiver ≡ true → Counts w.seen w.held y g z → put_grain x.request.grain x.entry w.authority g ≡ Some (activation_on y.receiver (count_of z))) (replied x) w.replies
-              (λ e a c. entry_now g (about g z c).0 ∙ served.registered e ∙ ap (λ n. Some (activation_on x.request.sender n)) (sym (about g z c).1))
-              (λ y q e a. put_grain_all (λ g o. Counts w.seen w.held y g z → o ≡ Some (activation_on y.receiver (count_of z))) x.request.grain x.entry w.authority (served.has_registered y z q e a) (λ g n. b.confirmed.registered y g z q e a) g)
+              sent_all (λ y. y.answer ≡ Registered → m.alive w.now y.receiver ≡ true → Counts w.seen w.held y g z
+              → put_grain x.request.grain x.entry w.authority g ≡ Some (activation_on y.receiver (count_of z))) (replied x) w.replies
+              (λ e a c. entry_now g (about g z c).0 ∙ served.registered e
+              ∙ ap (λ n. Some (activation_on x.request.sender n)) (sym (about g z c).1))
+              (λ y q e a. put_grain_all (λ g o. Counts w.seen w.held y g z → o ≡ Some (activation_on y.receiver (count_of z)))
+              x.request.grain x.entry w.authority (served.has_registered y z q e a) (λ g n. b.confirmed.registered y g z q e a) g)
               y q;
           refused = λ y g z q.
-              sent_all (λ y. y.answer ≢ Registered → Counts w.seen w.held y g z → put_grain x.request.grain x.entry w.authority g ≢ Some (activation_on y.receiver (count_of z))) (replied x) w.replies
-              (λ e c i. served.refused e (sym (entry_now g (about g z c).0) ∙ i ∙ ap (λ n. Some (activation_on x.request.sender n)) (about g z c).1))
-              (λ y q e. put_grain_all (λ g o. Counts w.seen w.held y g z → o ≢ Some (activation_on y.receiver (count_of z))) x.request.grain x.entry w.authority (served.not_refused y z q e) (λ g n. b.confirmed.refused y g z q e) g)
+              sent_all (λ y. y.answer ≢ Registered → Counts w.seen w.held y g z
+              → put_grain x.request.grain x.entry w.authority g ≢ Some (activation_on y.receiver (count_of z))) (replied x) w.replies
+              (λ e c i. served.refused e (sym (entry_now g (about g z c).0) ∙ i
+              ∙ ap (λ n. Some (activation_on x.request.sender n)) (about g z c).1))
+              (λ y q e. put_grain_all (λ g o. Counts w.seen w.held y g z → o ≢ Some (activation_on y.receiver (count_of z))) x.request.grain
+              x.entry w.authority (served.not_refused y z q e) (λ g n. b.confirmed.refused y g z q e) g)
               y q;
         };
         reported = record {
-          right = λ y g. put_grain_all (λ g o. (c : ℕ) → Sent y w.reports → w.level (m.hash g) < y.version → y.firm g ≡ Some c → o ≡ Some (activation_on y.sender c)) x.request.grain x.entry w.authority (served.has_reported y) (λ g n. b.reported.right y g) g;
+          right =
+              λ y g. put_grain_all (λ g o. (c : ℕ) → Sent y w.reports → w.level (m.hash g) < y.version → y.firm g ≡ Some c
+              → o ≡ Some (activation_on y.sender c)) x.request.grain x.entry w.authority (served.has_reported y)
+              (λ g n. b.reported.right y g) g;
           all_firm = b.reported.all_firm;
           shrinking = b.reported.shrinking;
         };

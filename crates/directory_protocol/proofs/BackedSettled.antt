@@ -43,7 +43,8 @@ module _ (m : Setting) (w : World) (x : Sight) (may : MaySee m w x) (p : Placed 
       there n =
           let old : w.settled s (m.hash g) ≡ true = sym (ap (λ f. f (m.hash g)) (put_other x.silo x.kept w.settled s n)) ∙ t in
           on_bool (λ t. (after_sight m w x).table s g ≡ cond t (kept_entries m w x g) (w.authority g)) (x.kept (m.hash g))
-          (λ u. absurd (n (one_settles m w p (m.hash g) s x.silo (record { alive = a; settled = old }) (record { alive = may.alive; settled = may.kept_settled (m.hash g) u }))))
+          (λ u. absurd (n (one_settles m w p (m.hash g) s x.silo (record { alive = a; settled = old })
+          (record { alive = may.alive; settled = may.kept_settled (m.hash g) u }))))
           (λ u. ap (λ f. f g) (put_other x.silo (kept_entries m w x) w.table s n) ∙ b.entries.right s g a old)
 
   -- what is sealed was settled, and has the authority less what is dead
@@ -51,9 +52,11 @@ module _ (m : Setting) (w : World) (x : Sight) (may : MaySee m w x) (p : Placed 
       (g : Grain) → x.sealed (m.hash g) ≡ true → (after_sight m w x).level (m.hash g) ≡ w.seen x.silo
       → kept_entries m w x g ≡ surviving m (suc (w.seen x.silo)) ((after_sight m w x).authority g)
   sealed_right g u =
-      on_bool (λ t. cond t x.version (w.level (m.hash g)) ≡ w.seen x.silo → kept_entries m w x g ≡ surviving m (suc (w.seen x.silo)) (cond t (kept_entries m w x g) (w.authority g))) (x.kept (m.hash g))
+      on_bool (λ t. cond t x.version (w.level (m.hash g)) ≡ w.seen x.silo
+      → kept_entries m w x g ≡ surviving m (suc (w.seen x.silo)) (cond t (kept_entries m w x g) (w.authority g))) (x.kept (m.hash g))
       (λ v e. absurd (omega (arith, may.newer)))
-      (λ v e. ap (surviving m x.version) (b.entries.right x.silo g may.alive (may.sealed_settled (m.hash g) u)) ∙ ap (λ k. surviving m k (w.authority g)) (may.sealed_next (m.hash g) u))
+      (λ v e. ap (surviving m x.version) (b.entries.right x.silo g may.alive (may.sealed_settled (m.hash g) u))
+      ∙ ap (λ k. surviving m k (w.authority g)) (may.sealed_next (m.hash g) u))
 
   pub backed_sight : Backed m (after m w (See x))
   backed_sight =
@@ -63,7 +66,8 @@ module _ (m : Setting) (w : World) (x : Sight) (may : MaySee m w x) (p : Placed 
           on_member = on_member_risen m w p b x.kept (kept_entries m w x) x.version sight_backed;
           held_there = held_risen m w p b x.kept (kept_entries m w x) x.version sight_backed;
           sealed = λ y g q.
-              sent_all (λ y. y.covers (m.hash g) ≡ true → (after_sight m w x).level (m.hash g) ≡ y.sealed_at → y.entries g ≡ surviving m (suc y.sealed_at) ((after_sight m w x).authority g)) (sealed_by m w x) w.snapshots
+              sent_all (λ y. y.covers (m.hash g) ≡ true → (after_sight m w x).level (m.hash g) ≡ y.sealed_at
+              → y.entries g ≡ surviving m (suc y.sealed_at) ((after_sight m w x).authority g)) (sealed_by m w x) w.snapshots
               (sealed_right g)
               (λ y q. sealed_risen m w p b x.kept (kept_entries m w x) x.version sight_backed y g q)
               y q;
@@ -105,7 +109,8 @@ backed_settling m w x alive p b one r =
     here s g e t =
         ap (λ s. (after_settling m w x).table s g) e
         ∙ ap (λ f. f g) (put_same x.silo (where_true (λ g. x.part (m.hash g)) x.entries (w.table x.silo)) w.table)
-        ∙ on_bool (λ t. cond t true (w.settled x.silo (m.hash g)) ≡ true → cond t (x.entries g) (w.table x.silo g) ≡ cond t (x.entries g) (w.authority g)) (x.part (m.hash g))
+        ∙ on_bool (λ t. cond t true (w.settled x.silo (m.hash g)) ≡ true
+        → cond t (x.entries g) (w.table x.silo g) ≡ cond t (x.entries g) (w.authority g)) (x.part (m.hash g))
         (λ u i. refl)
         (λ u i. b.entries.right x.silo g alive i)
         (sym (settled_here (m.hash g)) ∙ sym (ap (λ s. (after_settling m w x).settled s (m.hash g)) e) ∙ t)
@@ -117,14 +122,16 @@ backed_settling m w x alive p b one r =
         let old : w.settled s (m.hash g) ≡ true = sym (ap (λ f. f (m.hash g)) (put_other x.silo (where_true x.part (λ h. true) (w.settled x.silo)) w.settled s n)) ∙ t in
         ap (λ f. f g) (put_other x.silo (where_true (λ g. x.part (m.hash g)) x.entries (w.table x.silo)) w.table s n)
         ∙ on_bool (λ t. w.table s g ≡ cond t (x.entries g) (w.authority g)) (x.part (m.hash g))
-        (λ u. absurd (n (one (m.hash g) s x.silo (record { alive = a; settled = t }) (record { alive = alive; settled = settled_here (m.hash g) ∙ ap (λ t. cond t true (w.settled x.silo (m.hash g))) u }))))
+        (λ u. absurd (n (one (m.hash g) s x.silo (record { alive = a; settled = t })
+        (record { alive = alive; settled = settled_here (m.hash g) ∙ ap (λ t. cond t true (w.settled x.silo (m.hash g))) u }))))
         (λ u. b.entries.right s g a old)
 
 pub backed_install :
     (m : Setting) (w : World) (x : Settling) (snapshot : Snapshot) → MayInstall m w x snapshot → Placed m w → Backed m w
     → Backed m (after m w (Install x snapshot))
 backed_install m w x snapshot may p b =
-    backed_settling m w x may.settles.alive p b (one_settles m (after m w (Install x snapshot)) (placed_after m w (Install x snapshot) may p))
+    backed_settling m w x may.settles.alive p b (one_settles m (after m w (Install x snapshot))
+    (placed_after m w (Install x snapshot) may p))
     (backed_by_surviving m w p b x.part x.entries (w.seen x.silo) (p.structure.known x.silo)
     (λ h u. let at : w.level h ≡ snapshot.sealed_at = install_level m w x snapshot may p h u in omega (arith, may.same_version))
     (λ g u.
@@ -134,7 +141,8 @@ backed_install m w x snapshot may p b =
 
 -- ---- the reports of all members
 
-module _ (m : Setting) (w : World) (x : Settling) (told : Silo → Report) (may : MayRecover m w x told) (p : Placed m w) (k : Asked m w) (b : Backed m w) where
+module _ (m : Setting) (w : World) (x : Settling) (told : Silo → Report) (may : MayRecover m w x told) (p : Placed m w) (k : Asked m w)
+    (b : Backed m w) where
   -- a report's version is above the levels of the part
   above : (g : Grain) (r : Silo) → x.part (m.hash g) ≡ true → m.member (w.seen x.silo) r ≡ true → w.level (m.hash g) < (told r).version
   above g r u i =
@@ -189,10 +197,12 @@ module _ (m : Setting) (w : World) (x : Settling) (told : Silo → Report) (may 
             let lives : m.alive (w.seen x.silo) y.sender ≡ true = m.dead_stays_dead (w.seen x.silo) y.version y.sender (omega arith) (m.member_is_alive y.version y.sender member) in
             let i : m.member (w.seen x.silo) y.sender ≡ true = member_then g (activation_on y.sender c) u is lives in
             told_enters g y.sender c u i is
-            (b.reported.shrinking (told y.sender) y g c (may.sent y.sender i) q (sym (may.own_report y.sender i)) (let at : (told y.sender).version ≡ w.seen x.silo = may.same_version y.sender i in
+            (b.reported.shrinking (told y.sender) y g c (may.sent y.sender i) q (sym (may.own_report y.sender i))
+            (let at : (told y.sender).version ≡ w.seen x.silo = may.same_version y.sender i in
             omega arith) (above g y.sender u i) e);
       }
 
   pub backed_recover : Backed m (after m w (Recover x told))
   backed_recover =
-      backed_settling m w x may.settles.alive p b (one_settles m (after m w (Recover x told)) (placed_after m w (Recover x told) may p)) recover_backed
+      backed_settling m w x may.settles.alive p b (one_settles m (after m w (Recover x told)) (placed_after m w (Recover x told) may p))
+      recover_backed

@@ -41,7 +41,8 @@ pub put_all :
     → P q (put s x f q)
 unfolding put
 put_all P s x f here there q =
-    on_bool (λ b. P q (cond b x (f q))) (silo_eq q s) (λ t. subst (λ k. P k x) (sym ((Decides-silo q s).0 t)) here) (λ t. there q (λ e. not_both ((Decides-silo q s).1 e) t))
+    on_bool (λ b. P q (cond b x (f q))) (silo_eq q s) (λ t. subst (λ k. P k x) (sym ((Decides-silo q s).0 t)) here)
+    (λ t. there q (λ e. not_both ((Decides-silo q s).1 e) t))
 
 pub put_same : {X : Type 0} (s : Silo) (x : X) (f : Silo → X) → put s x f s ≡ x
 unfolding put
@@ -57,7 +58,8 @@ pub put_grain_all :
     → (r : Grain) → P r (put_grain g x f r)
 unfolding put_grain
 put_grain_all P g x f here there r =
-    on_bool (λ b. P r (cond b x (f r))) (grain_eq r g) (λ t. subst (λ k. P k x) (sym ((Decides-grain r g).0 t)) here) (λ t. there r (λ e. not_both ((Decides-grain r g).1 e) t))
+    on_bool (λ b. P r (cond b x (f r))) (grain_eq r g) (λ t. subst (λ k. P k x) (sym ((Decides-grain r g).0 t)) here)
+    (λ t. there r (λ e. not_both ((Decides-grain r g).1 e) t))
 
 pub put_grain_same : {X : Type 0} (g : Grain) (x : X) (f : Grain → X) → put_grain g x f g ≡ x
 unfolding put_grain
@@ -89,7 +91,8 @@ put_at_all P s g x f here there q r =
 pub put_at_same : {X : Type 0} (s : Silo) (g : Grain) (x : X) (f : Silo → Grain → X) → put_at s g x f s g ≡ x
 unfolding put_at
 put_at_same s g x f =
-    ap (λ b. cond (b && grain_eq g g) x (f s g)) ((Decides-silo s s).1 refl) ∙ ap (λ b. cond (true && b) x (f s g)) ((Decides-grain g g).1 refl)
+    ap (λ b. cond (b && grain_eq g g) x (f s g)) ((Decides-silo s s).1 refl)
+    ∙ ap (λ b. cond (true && b) x (f s g)) ((Decides-grain g g).1 refl)
 
 pub put_at_other :
     {X : Type 0} (s : Silo) (g : Grain) (x : X) (f : Silo → Grain → X) (q : Silo) (r : Grain) → (q ≡ s → r ≢ g)

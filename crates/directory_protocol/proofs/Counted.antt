@@ -22,7 +22,12 @@ counts_seen m w x may n y g z q c =
           let old : y.version ≤ w.seen y.receiver = n.reply_seen y q in
           let same : w.seen y.receiver ≡ w.seen x.silo = ap w.seen e in
           absurd (omega (arith, c.same_version, may.newer)))
-      | inr e ↦ record { held_there = c.held_there; same_number = c.same_number; same_version = c.same_version ∙ put_other x.silo x.version w.seen y.receiver e }
+      | inr e ↦ record {
+        held_there = c.held_there;
+        same_number = c.same_number;
+        same_version = c.same_version
+            ∙ put_other x.silo x.version w.seen y.receiver e;
+      }
     ]
 
 -- where what is held of a grain changes, none counts for it: its number, if it has one, is new

@@ -21,10 +21,13 @@ histories_unread m w (See x) level authority = (
       },
   refl,
 )
-histories_unread m w (Start s g previous) level authority = (λ may. record { alive = may.alive; member = may.member; free = may.free; offered = may.offered }, refl)
-histories_unread m w (Close s g count) level authority = (λ may. record { alive = may.alive; firm = may.firm }, refl)
-histories_unread m w (Offer_away s g count) level authority = (λ may. record { alive = may.alive; firm = may.firm }, refl)
-histories_unread m w (Renew s g x purpose) level authority = (λ may. record { alive = may.alive; held = may.held; outstanding = may.outstanding }, refl)
+histories_unread m w (Start s g previous) level authority =
+    (λ may. record { alive = may.alive; member = may.member; free = may.free; offered = may.offered }, refl)
+histories_unread m w (Close s g x) level authority = (λ may. record { alive = may.alive; held = may.held; not_yet = may.not_yet }, refl)
+histories_unread m w (Offer_away s g count) level authority =
+    (λ may. record { alive = may.alive; held = may.held; not_yet = may.not_yet }, refl)
+histories_unread m w (Renew s g x purpose) level authority =
+    (λ may. record { alive = may.alive; held = may.held; outstanding = may.outstanding }, refl)
 histories_unread m w (Find s) level authority = (λ may. may, refl)
 histories_unread m w (Serve x) level authority = (
   λ may.
@@ -38,10 +41,20 @@ histories_unread m w (Serve x) level authority = (
       },
   refl,
 )
-histories_unread m w (Confirm y g x) level authority =
-    (λ may. record { accepted = record { alive = may.accepted.alive; sent = may.accepted.sent; counts = may.accepted.counts }; answer = may.answer }, refl)
-histories_unread m w (Leave y g x) level authority =
-    (λ may. record { accepted = record { alive = may.accepted.alive; sent = may.accepted.sent; counts = may.accepted.counts }; answer = may.answer }, refl)
+histories_unread m w (Confirm y g x) level authority = (
+  λ may. record {
+    accepted = record { alive = may.accepted.alive; sent = may.accepted.sent; counts = may.accepted.counts };
+    answer = may.answer;
+  },
+  refl,
+)
+histories_unread m w (Leave y g x) level authority = (
+  λ may. record {
+    accepted = record { alive = may.accepted.alive; sent = may.accepted.sent; counts = may.accepted.counts };
+    answer = may.answer;
+  },
+  refl,
+)
 histories_unread m w (Tell s) level authority = (λ may. may, refl)
 histories_unread m w (Install x snapshot) level authority = (
   λ may.

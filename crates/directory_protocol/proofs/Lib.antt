@@ -25,3 +25,4 @@ pub mod StoryTwo
 pub mod StoryBroken
 pub mod StoryReports
 pub mod StoryEntries
+pub mod StoryGivenUp

@@ -49,7 +49,10 @@ given_up_later held next_count reports p g j k l u =
     }
 
 -- what a silo holds of one grain changes: what has a closing notice there stays closing or goes
-module _ (seen : Silo → ℕ) (held : Silo → Grain → Option Held) (count count' : Silo → ℕ) (reports : List Report) (rises : (q : Silo) → count q ≤ count' q) (s : Silo) (g : Grain) (o : Option Held) (closes : (c : ℕ) → c < count s → ((x : Held) → held s g ≡ Some x → count_of x ≡ c → is_closing x ≡ true) → (x : Held) → o ≡ Some x → count_of x ≡ c → is_closing x ≡ true) where
+module _ (seen : Silo → ℕ) (held : Silo → Grain → Option Held) (count count' : Silo → ℕ) (reports : List Report)
+    (rises : (q : Silo) → count q ≤ count' q) (s : Silo) (g : Grain) (o : Option Held)
+    (closes : (c : ℕ) → c < count s → ((x : Held) → held s g ≡ Some x → count_of x ≡ c → is_closing x ≡ true) → (x : Held) → o ≡ Some x
+    → count_of x ≡ c → is_closing x ≡ true) where
   given_up_turn :
       (p : ActivationId) (h : Grain) (k : ℕ) → IsGivenUp held count reports p h k
       → IsGivenUp (put_at s g o held) count' reports p h k
@@ -57,7 +60,8 @@ module _ (seen : Silo → ℕ) (held : Silo → Grain → Option Held) (count co
       record {
         started = (let a : p.count < count p.silo = u.started in let b : count p.silo ≤ count' p.silo = rises p.silo in omega arith);
         closing = put_at_all (λ q r o. q ≡ p.silo → r ≡ h → (x : Held) → o ≡ Some x → count_of x ≡ p.count → is_closing x ≡ true) s g o held
-            (λ d i. closes p.count (let a : p.count < count p.silo = u.started in let b : count s ≡ count p.silo = ap count d in omega arith)
+            (λ d i. closes p.count (let a : p.count < count p.silo = u.started in let b : count s ≡ count p.silo = ap count d in
+            omega arith)
             (λ x e. u.closing x (sym (ap (λ q. held q h) d) ∙ sym (ap (λ r. held s r) i) ∙ e)))
             (λ q r n d i x e. u.closing x (sym (ap (λ q. held q h) d) ∙ sym (ap (λ r. held q r) i) ∙ e))
             p.silo h refl refl;
@@ -77,7 +81,8 @@ module _ (seen : Silo → ℕ) (held : Silo → Grain → Option Held) (count co
         offered = λ f q. given_up_turn f.activation f.grain f.version (k.offered f q);
         replacing = λ q r c n p e.
             given_up_turn p r (seen q)
-            (put_at_all (λ q r o. o ≡ Some (Asking c n (Some p)) → IsGivenUp held count reports p r (seen q)) s g o held (replacing c n p) (λ q r d e. k.replacing q r c n p e) q r e);
+            (put_at_all (λ q r o. o ≡ Some (Asking c n (Some p)) → IsGivenUp held count reports p r (seen q)) s g o held (replacing c n p)
+            (λ q r d e. k.replacing q r c n p e) q r e);
       }
 
 notices_request :
@@ -88,9 +93,12 @@ notices_request :
 notices_request seen held count requests offers reports r deregistered replaced k =
     record {
       counted = k.counted;
-      deregistered = sent_all (λ r. r.purpose ≡ Deregister → IsGivenUp held count reports (named r) r.grain r.version) r requests deregistered k.deregistered;
+      deregistered =
+          sent_all (λ r. r.purpose ≡ Deregister → IsGivenUp held count reports (named r) r.grain r.version) r requests deregistered
+          k.deregistered;
       replaced = λ r' p q.
-          sent_all (λ r. r.previous ≡ Some p → IsGivenUp held count reports p r.grain r.version) r requests (replaced p) (λ r' q. k.replaced r' p q) r' q;
+          sent_all (λ r. r.previous ≡ Some p → IsGivenUp held count reports p r.grain r.version) r requests (replaced p)
+          (λ r' q. k.replaced r' p q) r' q;
       offered = k.offered;
       replacing = k.replacing;
     }
@@ -115,7 +123,8 @@ module _ (m : Setting) (w : World) (p : Placed m w) (k : NoticesOf w) where
       (s : Silo) (g : Grain) (previous : Option ActivationId) → MayStart m w s g previous
       → NoticesOf (after m w (Start s g previous))
   notices_of_start s g previous may =
-      notices_request w.seen (put_at s g (Some new) w.held) count' w.requests w.offers w.reports (asked w Register s g (w.next_count s) previous)
+      notices_request w.seen (put_at s g (Some new) w.held) count' w.requests w.offers w.reports
+      (asked w Register s g (w.next_count s) previous)
       (λ e. absurd cc)
       (λ a e. given_up_turn w.seen w.held w.next_count count' w.reports rises s g (Some new) closes a g (w.seen s) (offered a e))
       (notices_turn w.seen w.held w.next_count count' w.reports rises s g (Some new) closes w.requests w.offers
@@ -143,40 +152,43 @@ module _ (m : Setting) (w : World) (p : Placed m w) (k : NoticesOf w) where
       offered a e =
           let o = may.offered a e in
           given_up_later w.held w.next_count w.reports a g (o.0).version (w.seen s) o.4
-          (subst (λ g. IsGivenUp w.held w.next_count w.reports a g (o.0).version) o.2 (subst (λ a. IsGivenUp w.held w.next_count w.reports a (o.0).grain (o.0).version) o.3 (k.offered o.0 o.1)))
+          (subst (λ g. IsGivenUp w.held w.next_count w.reports a g (o.0).version) o.2
+          (subst (λ a. IsGivenUp w.held w.next_count w.reports a (o.0).grain (o.0).version) o.3 (k.offered o.0 o.1)))
 
   -- the activation is held closing from now on
   notices_of_closing :
-      (s : Silo) (g : Grain) (c n : ℕ) → MayClose m w s g c
-      → Notices w.seen (put_at s g (Some (Closing c n)) w.held) w.next_count w.requests w.offers w.reports
-  notices_of_closing s g c n may =
-      notices_turn w.seen w.held w.next_count w.next_count w.reports (λ q. omega arith) s g (Some (Closing c n))
-      (λ d l old x e i. let same : Closing c n ≡ x = cc in sym (ap is_closing same))
+      (s : Silo) (g : Grain) (x : Held) (n : ℕ) → MayClose m w s g x
+      → Notices w.seen (put_at s g (Some (Closing (count_of x) n)) w.held) w.next_count w.requests w.offers w.reports
+  notices_of_closing s g x n may =
+      notices_turn w.seen w.held w.next_count w.next_count w.reports (λ q. omega arith) s g (Some (Closing (count_of x) n))
+      (λ d l old y e i. let same : Closing (count_of x) n ≡ y = cc in sym (ap is_closing same))
       w.requests w.offers
-      (λ x e. let same : Closing c n ≡ x = cc in
-      let i : c ≡ count_of x = ap count_of same in
-      let l : c < w.next_count s = k.counted s g (Firm c) may.firm in
+      (λ y e. let same : Closing (count_of x) n ≡ y = cc in
+      let i : count_of x ≡ count_of y = ap count_of same in
+      let l : count_of x < w.next_count s = k.counted s g x may.held in
       omega arith)
       (λ d i a e. absurd cc)
       k
 
   closing_notice :
-      (s : Silo) (g : Grain) (c n : ℕ) → MayClose m w s g c
-      → IsGivenUp (put_at s g (Some (Closing c n)) w.held) w.next_count w.reports (activation_on s c) g (w.seen s)
-  closing_notice s g c n may =
-      own_notice m w p (put_at s g (Some (Closing c n)) w.held) s g c (k.counted s g (Firm c) may.firm)
-      (λ x e.
-      let a : put_at s g (Some (Closing c n)) w.held s g ≡ Some (Closing c n) = put_at_same s g (Some (Closing c n)) w.held in
-      let same : Closing c n ≡ x = cc in
+      (s : Silo) (g : Grain) (x : Held) (n : ℕ) → MayClose m w s g x
+      → IsGivenUp (put_at s g (Some (Closing (count_of x) n)) w.held) w.next_count w.reports (activation_on s (count_of x)) g (w.seen s)
+  closing_notice s g x n may =
+      own_notice m w p (put_at s g (Some (Closing (count_of x) n)) w.held) s g (count_of x) (k.counted s g x may.held)
+      (λ y e.
+      let a : put_at s g (Some (Closing (count_of x) n)) w.held s g ≡ Some (Closing (count_of x) n) = put_at_same s g (Some (Closing (count_of x) n)) w.held in
+      let same : Closing (count_of x) n ≡ y = cc in
       sym (ap is_closing same))
 
   notices_of_renewal :
       (s : Silo) (g : Grain) (x : Held) (purpose : Purpose) → w.held s g ≡ Some x → (i : ℕ) → outstanding purpose x ≡ Some i
       → NoticesOf (after m w (Renew s g x purpose))
   notices_of_renewal s g x purpose there i number =
-      notices_request w.seen (put_at s g (Some new) w.held) w.next_count w.requests w.offers w.reports (asked w purpose s g (count_of x) (previous_of x))
+      notices_request w.seen (put_at s g (Some new) w.held) w.next_count w.requests w.offers w.reports
+      (asked w purpose s g (count_of x) (previous_of x))
       (closing x purpose there number)
-      (λ a e. given_up_turn w.seen w.held w.next_count w.next_count w.reports (λ q. omega arith) s g (Some new) closes a g (w.seen s) (previous x there a e))
+      (λ a e. given_up_turn w.seen w.held w.next_count w.next_count w.reports (λ q. omega arith) s g (Some new) closes a g (w.seen s)
+      (previous x there a e))
       (notices_turn w.seen w.held w.next_count w.next_count w.reports (λ q. omega arith) s g (Some new) closes w.requests w.offers
       (λ y e. let same : new ≡ y = cc in
       let c : count_of x ≡ count_of y = sym (renumbered_count (w.next_number s) x) ∙ ap count_of same in
@@ -193,7 +205,8 @@ module _ (m : Setting) (w : World) (p : Placed m w) (k : NoticesOf w) where
           → Some new ≡ Some y → count_of y ≡ c → is_closing y ≡ true
       closes c l old y e d =
           let same : new ≡ y = cc in
-          sym (ap is_closing same) ∙ renumbered_closing (w.next_number s) x ∙ old x there (sym (renumbered_count (w.next_number s) x) ∙ ap count_of same ∙ d)
+          sym (ap is_closing same) ∙ renumbered_closing (w.next_number s) x
+          ∙ old x there (sym (renumbered_count (w.next_number s) x) ∙ ap count_of same ∙ d)
 
       previous :
           (x : Held) → w.held s g ≡ Some x → (a : ActivationId) → previous_of x ≡ Some a
@@ -210,7 +223,8 @@ module _ (m : Setting) (w : World) (p : Placed m w) (k : NoticesOf w) where
 
       closing :
           (x : Held) (purpose : Purpose) → w.held s g ≡ Some x → outstanding purpose x ≡ Some i → purpose ≡ Deregister
-          → IsGivenUp (put_at s g (Some (renumbered (w.next_number s) x)) w.held) w.next_count w.reports (activation_on s (count_of x)) g (w.seen s)
+          → IsGivenUp (put_at s g (Some (renumbered (w.next_number s) x)) w.held) w.next_count w.reports (activation_on s (count_of x)) g
+          (w.seen s)
       closing x Register there number e = absurd cc
       closing (Asking c n b) Deregister there number e = absurd cc
       closing (Firm c) Deregister there number e = absurd cc
@@ -243,7 +257,8 @@ module _ (m : Setting) (w : World) (p : Placed m w) (k : NoticesOf w) where
 
   notices_of_leaving : (s : Silo) (g : Grain) → Notices w.seen (put_at s g None w.held) w.next_count w.requests w.offers w.reports
   notices_of_leaving s g =
-      notices_turn w.seen w.held w.next_count w.next_count w.reports (λ q. omega arith) s g None (λ d l old y e j. absurd cc) w.requests w.offers (λ y e. absurd cc) (λ c n a e. absurd cc) k
+      notices_turn w.seen w.held w.next_count w.next_count w.reports (λ q. omega arith) s g None (λ d l old y e j. absurd cc) w.requests
+      w.offers (λ y e. absurd cc) (λ c n a e. absurd cc) k
 
   notices_seen : (seen' : Silo → ℕ) → IsLater m w.now w.seen w.now seen' → Notices seen' w.held w.next_count w.requests w.offers w.reports
   notices_seen seen' later =
@@ -252,7 +267,9 @@ module _ (m : Setting) (w : World) (p : Placed m w) (k : NoticesOf w) where
         deregistered = k.deregistered;
         replaced = k.replaced;
         offered = k.offered;
-        replacing = λ s g c n a e. given_up_later w.held w.next_count w.reports a g (w.seen s) (seen' s) (later.no_less s) (k.replacing s g c n a e);
+        replacing =
+            λ s g c n a e. given_up_later w.held w.next_count w.reports a g (w.seen s) (seen' s) (later.no_less s)
+            (k.replacing s g c n a e);
       }
 
   -- a report names what is firm, so nothing that has a closing notice
@@ -285,25 +302,30 @@ pub notices_after : (m : Setting) (w : World) (a : Action) → Allowed m w a →
 notices_after m w New_view may p k = k
 notices_after m w (See x) may p k = notices_seen m w p k (put x.silo x.version w.seen) (later_sight m w x may)
 notices_after m w (Start s g previous) may p k = notices_of_start m w p k s g previous may
-notices_after m w (Close s g c) may p k =
-    notices_request w.seen (put_at s g (Some (Closing c (w.next_number s))) w.held) w.next_count w.requests w.offers w.reports (asked w Deregister s g c None)
-    (λ e. closing_notice m w p k s g c (w.next_number s) may)
+notices_after m w (Close s g x) may p k =
+    notices_request w.seen (put_at s g (Some (Closing (count_of x) (w.next_number s))) w.held) w.next_count w.requests w.offers w.reports
+    (asked w Deregister s g (count_of x) None)
+    (λ e. closing_notice m w p k s g x (w.next_number s) may)
     (λ a e. absurd cc)
-    (notices_of_closing m w p k s g c (w.next_number s) may)
+    (notices_of_closing m w p k s g x (w.next_number s) may)
 notices_after m w (Offer_away s g c) may p k =
-    let closing : Notices w.seen (put_at s g (Some (Closing c (w.next_number s))) w.held) w.next_count w.requests w.offers w.reports = notices_of_closing m w p k s g c (w.next_number s) may in
+    let closing : Notices w.seen (put_at s g (Some (Closing c (w.next_number s))) w.held) w.next_count w.requests w.offers w.reports = notices_of_closing m w p k s g (Firm c) (w.next_number s) may in
     record {
       counted = closing.counted;
       deregistered = closing.deregistered;
       replaced = closing.replaced;
-      offered = sent_all (λ o. IsGivenUp (put_at s g (Some (Closing c (w.next_number s))) w.held) w.next_count w.reports o.activation o.grain o.version) (record { version = w.seen s; grain = g; activation = activation_on s c }) w.offers (closing_notice m w p k s g c (w.next_number s) may) closing.offered;
+      offered =
+          sent_all (λ o. IsGivenUp (put_at s g (Some (Closing c (w.next_number s))) w.held) w.next_count w.reports o.activation o.grain
+          o.version) (record { version = w.seen s; grain = g; activation = activation_on s c }) w.offers
+          (closing_notice m w p k s g (Firm c) (w.next_number s) may) closing.offered;
       replacing = closing.replacing;
     }
 notices_after m w (Renew s g x purpose) may p k = notices_of_renewal m w p k s g x purpose may.held (may.outstanding).0 (may.outstanding).1
 notices_after m w (Find s) may p k = k
 notices_after m w (Serve x) may p k = k
 notices_after m w (Confirm y g x) may p k =
-    notices_of_confirming m w p k y.receiver g x y.number may.accepted.counts.held_there (subst (λ a. outstanding (purpose_of a) x ≡ Some y.number) may.answer may.accepted.counts.same_number)
+    notices_of_confirming m w p k y.receiver g x y.number may.accepted.counts.held_there
+    (subst (λ a. outstanding (purpose_of a) x ≡ Some y.number) may.answer may.accepted.counts.same_number)
 notices_after m w (Leave y g x) may p k = notices_of_leaving m w p k y.receiver g
 notices_after m w (Tell s) may p k = notices_told m w p k s
 notices_after m w (Install x snapshot) may p k = k

@@ -92,7 +92,9 @@ placed_tell m w s a p =
         sealed_left = p.levels.sealed_left;
         sealed_once = p.levels.sealed_once;
         below = λ h k l. elim (p.levels.below h k l) [ inl i ↦ inl i | inr b ↦ inr (still_barred m w s a h k b) ];
-        told_member = sent_all (λ x. 1 ≤ x.version → m.member x.version x.sender ≡ true) (reported w s) w.reports (p.structure.member s) p.levels.told_member;
+        told_member =
+            sent_all (λ x. 1 ≤ x.version → m.member x.version x.sender ≡ true) (reported w s) w.reports (p.structure.member s)
+            p.levels.told_member;
         told_seen = sent_all (λ x. x.version ≤ w.seen x.sender) (reported w s) w.reports (omega arith) p.levels.told_seen;
       };
     }
@@ -101,7 +103,7 @@ pub placed_after : (m : Setting) (w : World) (a : Action) → Allowed m w a → 
 placed_after m w New_view may p = placed_view m w p
 placed_after m w (See x) may p = placed_sight m w x may p
 placed_after m w (Start s g previous) may p = record { structure = p.structure; levels = p.levels }
-placed_after m w (Close s g count) may p = record { structure = p.structure; levels = p.levels }
+placed_after m w (Close s g x) may p = record { structure = p.structure; levels = p.levels }
 placed_after m w (Offer_away s g count) may p = record { structure = p.structure; levels = p.levels }
 placed_after m w (Renew s g x purpose) may p = record { structure = p.structure; levels = p.levels }
 placed_after m w (Find s) may p = record { structure = p.structure; levels = p.levels }

@@ -7,10 +7,10 @@ use Rattle.directory_protocol.specs.Change.{put_at}
 use Rattle.directory_protocol.specs.Setting.{Setting}
 use Rattle.directory_protocol.specs.Letters.{activation_on, Register, purpose_of, Reply}
 use Rattle.directory_protocol.specs.World.{World, start, Held, Asking, Firm, Closing, count_of, outstanding, renumbered}
-use Rattle.directory_protocol.specs.Actions.{New_view, See, Start, Close, Offer_away, Renew, Find, Serve, Confirm, Leave, Tell, Install, Recover, MayConfirm, MayLeave}
+use Rattle.directory_protocol.specs.Actions.{New_view, See, Start, Close, Offer_away, Renew, Find, Serve, Confirm, Leave, Tell, Install, Recover, MayClose, MayConfirm, MayLeave}
 use Rattle.directory_protocol.specs.Effects.{after, run}
 use Rattle.directory_protocol.specs.Safety.{AfterAnyRun}
-use Rattle.directory_protocol.specs.PlainMachine.{Is_asking, Is_firm, IsPlainStep, life_of, plain_of, plain_step_of, StepsPlainly}
+use Rattle.directory_protocol.specs.PlainMachine.{Is_asking, Is_firm, Is_closing, IsChanged, IsPlainStep, life_of, plain_of, plain_step_of, StepsPlainly}
 use Rattle.directory_protocol.proofs.Changes.{on_bool, put_at_all, put_at_same, put_at_other}
 use Rattle.directory_protocol.proofs.Numbers.{firm_number}
 use Rattle.directory_protocol.proofs.All.{Kept, kept_reached}
@@ -41,25 +41,31 @@ renumbered_life n (Closing c i) = refl
 module _ (m : Setting) (w : World) (s : Silo) (g : Grain) (o : Option Held) (alive : m.alive w.now s ≡ true) where
   lives_changed :
       (t : Silo) (r : Grain)
-      → cond (m.alive w.now t) (option_map life_of (put_at s g o w.held t r)) None ≡ put_at s g (option_map life_of o) (λ t r. cond (m.alive w.now t) (option_map life_of (w.held t r)) None) t r
+      → cond (m.alive w.now t) (option_map life_of (put_at s g o w.held t r)) None ≡ put_at s g (option_map life_of o)
+      (λ t r. cond (m.alive w.now t) (option_map life_of (w.held t r)) None) t r
   lives_changed =
-      put_at_all (λ t r y. cond (m.alive w.now t) (option_map life_of (put_at s g o w.held t r)) None ≡ y) s g (option_map life_of o) (λ t r. cond (m.alive w.now t) (option_map life_of (w.held t r)) None)
+      put_at_all (λ t r y. cond (m.alive w.now t) (option_map life_of (put_at s g o w.held t r)) None ≡ y) s g (option_map life_of o)
+      (λ t r. cond (m.alive w.now t) (option_map life_of (w.held t r)) None)
       (seen_live (m.alive w.now s) (put_at s g o w.held s g) alive ∙ ap (option_map life_of) (put_at_same s g o w.held))
       (λ t r n. ap (λ o. cond (m.alive w.now t) (option_map life_of o) None) (put_at_other s g o w.held t r n))
 
   lives_same :
       (x : Held) → w.held s g ≡ Some x → option_map life_of o ≡ Some (life_of x) → (t : Silo) (r : Grain)
-      → cond (m.alive w.now t) (option_map life_of (put_at s g o w.held t r)) None ≡ cond (m.alive w.now t) (option_map life_of (w.held t r)) None
+      → cond (m.alive w.now t) (option_map life_of (put_at s g o w.held t r)) None ≡ cond (m.alive w.now t)
+      (option_map life_of (w.held t r)) None
   lives_same x there same =
-      put_at_all (λ t r o. cond (m.alive w.now t) (option_map life_of o) None ≡ cond (m.alive w.now t) (option_map life_of (w.held t r)) None) s g o w.held
+      put_at_all (λ t r o. cond (m.alive w.now t) (option_map life_of o) None ≡ cond (m.alive w.now t) (option_map life_of (w.held t r))
+      None) s g o w.held
       (ap (λ o. cond (m.alive w.now s) o None) (same ∙ sym (ap (option_map life_of) there)))
       (λ t r n. refl)
 
 lives_viewed :
     (m : Setting) (w : World) (t : Silo) (r : Grain)
-    → cond (m.alive (suc w.now) t) (option_map life_of (w.held t r)) None ≡ cond (m.alive (suc w.now) t) (cond (m.alive w.now t) (option_map life_of (w.held t r)) None) None
+    → cond (m.alive (suc w.now) t) (option_map life_of (w.held t r)) None ≡ cond (m.alive (suc w.now) t)
+    (cond (m.alive w.now t) (option_map life_of (w.held t r)) None) None
 lives_viewed m w t r =
-    on_bool (λ b. cond b (option_map life_of (w.held t r)) None ≡ cond b (cond (m.alive w.now t) (option_map life_of (w.held t r)) None) None) (m.alive (suc w.now) t)
+    on_bool (λ b. cond b (option_map life_of (w.held t r)) None ≡ cond b (cond (m.alive w.now t) (option_map life_of (w.held t r)) None)
+    None) (m.alive (suc w.now) t)
     (λ a. sym (seen_live (m.alive w.now t) (w.held t r) (m.dead_stays_dead w.now (suc w.now) t (omega arith) a)))
     (λ a. refl)
 
@@ -91,6 +97,23 @@ left_plainly m w y g (Closing c n) may = (
   record { version = refl; unused = λ t. refl; lives = lives_changed m w y.receiver g None may.accepted.alive },
 )
 
+-- the activation is seen in its phase, and then closing
+closing_plainly :
+    (m : Setting) (w : World) (s : Silo) (g : Grain) (x : Held) → MayClose m w s g x
+    → ((plain_of m w).lives s g ≡ Some (life_of x)) × IsChanged (plain_of m w) s g (Some (Is_closing (count_of x)))
+    (plain_of m (after m w (Close s g x)))
+closing_plainly m w s g x may = (
+  seen_live (m.alive w.now s) (w.held s g) may.alive ∙ ap (option_map life_of) may.held,
+  record { version = refl; unused = λ t. refl; lives = lives_changed m w s g (Some (Closing (count_of x) (w.next_number s))) may.alive },
+)
+
+closes_plainly :
+    (m : Setting) (w : World) (s : Silo) (g : Grain) (x : Held) → MayClose m w s g x
+    → IsPlainStep m (plain_of m w) (plain_step_of (Close s g x)) (plain_of m (after m w (Close s g x)))
+closes_plainly m w s g (Asking c n previous) may = closing_plainly m w s g (Asking c n previous) may
+closes_plainly m w s g (Firm c) may = closing_plainly m w s g (Firm c) may
+closes_plainly m w s g (Closing c n) may = absurd (cc (may.not_yet))
+
 steps_plainly : (m : Setting) (w : World) → Kept m w → StepsPlainly m w
 steps_plainly m w k New_view may = record { version = refl; unused = λ t. refl; lives = lives_viewed m w }
 steps_plainly m w k (See x) may = record { version = refl; unused = λ t. refl; lives = λ t r. refl }
@@ -102,19 +125,14 @@ steps_plainly m w k (Start s g previous) may =
       unused = λ t. refl;
       lives = lives_changed m w s g (Some (Asking (w.next_count s) (w.next_number s) previous)) may.alive;
     }
-steps_plainly m w k (Close s g c) may = (
-  seen_live (m.alive w.now s) (w.held s g) may.alive ∙ ap (option_map life_of) may.firm,
-  record { version = refl; unused = λ t. refl; lives = lives_changed m w s g (Some (Closing c (w.next_number s))) may.alive },
-)
-steps_plainly m w k (Offer_away s g c) may = (
-  seen_live (m.alive w.now s) (w.held s g) may.alive ∙ ap (option_map life_of) may.firm,
-  record { version = refl; unused = λ t. refl; lives = lives_changed m w s g (Some (Closing c (w.next_number s))) may.alive },
-)
+steps_plainly m w k (Close s g x) may = closes_plainly m w s g x may
+steps_plainly m w k (Offer_away s g c) may = closing_plainly m w s g (Firm c) may
 steps_plainly m w k (Renew s g x purpose) may =
     record {
       version = refl;
       unused = λ t. refl;
-      lives = lives_same m w s g (Some (renumbered (w.next_number s) x)) may.alive x may.held (ap Some (renumbered_life (w.next_number s) x));
+      lives =
+          lives_same m w s g (Some (renumbered (w.next_number s) x)) may.alive x may.held (ap Some (renumbered_life (w.next_number s) x));
     }
 steps_plainly m w k (Find s) may = record { version = refl; unused = λ t. refl; lives = λ t r. refl }
 steps_plainly m w k (Serve x) may = record { version = refl; unused = λ t. refl; lives = λ t r. refl }

@@ -40,7 +40,8 @@ pub record Rises
 same_owner : {s t : Silo} {o : Option Silo} → o ≡ Some s → o ≡ Some t → s ≡ t
 same_owner p q = cc
 
-module _ (m : Setting) (w : World) (seen' : Silo → ℕ) (settled' : Silo → ℕ → Bool) (snapshots' : List Snapshot) (s : Silo) (up : ℕ → Bool) (r : Rises m w seen' settled' snapshots' s up) (p : Placed m w) where
+module _ (m : Setting) (w : World) (seen' : Silo → ℕ) (settled' : Silo → ℕ → Bool) (snapshots' : List Snapshot) (s : Silo) (up : ℕ → Bool)
+    (r : Rises m w seen' settled' snapshots' s up) (p : Placed m w) where
   level' : ℕ → ℕ
   level' = where_true up (λ h. seen' s) w.level
 
@@ -68,7 +69,8 @@ module _ (m : Setting) (w : World) (seen' : Silo → ℕ) (settled' : Silo → �
       (q : Silo) (h : ℕ) → m.owner (where_true up (λ h. seen' s) w.level h) h ≡ Some q → m.alive w.now q ≡ true
       → (where_true up (λ h. seen' s) w.level h < seen' q) ⊎ ((seen' q ≡ where_true up (λ h. seen' s) w.level h) × (settled' q h ≡ true))
   top q h =
-      on_bool (λ b. m.owner (cond b (seen' s) (w.level h)) h ≡ Some q → m.alive w.now q ≡ true → (cond b (seen' s) (w.level h) < seen' q) ⊎ ((seen' q ≡ cond b (seen' s) (w.level h)) × (settled' q h ≡ true))) (up h)
+      on_bool (λ b. m.owner (cond b (seen' s) (w.level h)) h ≡ Some q → m.alive w.now q ≡ true → (cond b (seen' s) (w.level h) < seen' q)
+      ⊎ ((seen' q ≡ cond b (seen' s) (w.level h)) × (settled' q h ≡ true))) (up h)
       (λ u o a.
       let here : settled' s h ≡ true = r.settles h u in
       let e : s ≡ q = same_owner (r.structure.owned s h here) o in
@@ -92,7 +94,11 @@ module _ (m : Setting) (w : World) (seen' : Silo → ℕ) (settled' : Silo → �
         | inr b ↦
             inr
             (barred_stays m w.now w.seen w.now seen' r.later h k w.snapshots snapshots' w.reports
-            (λ x q c. elim (r.new_snapshot x h q c) [ inl o ↦ inl o | inr n ↦ inr (λ e. let at : x.sealed_at ≡ w.level h = n.0 in omega arith) ])
+            (λ x q c. elim (r.new_snapshot x h q c) [
+              | inl o ↦ inl o
+              | inr n ↦ inr
+                  (λ e. let at : x.sealed_at ≡ w.level h = n.0 in omega arith)
+            ])
             b)
       ]
 

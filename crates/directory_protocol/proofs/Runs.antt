@@ -20,8 +20,12 @@ reached_start m = ([], tt, refl)
 
 -- allowed actions lead from a world that is reached to another
 pub reached_run : (m : Setting) (w : World) (actions : List Action) → IsReached m w → AllAllowed m actions w → IsReached m (run m actions w)
-reached_run m w actions r may =
-    (r.0 ++ actions, allowed_append m r.0 actions start r.1 (subst (AllAllowed m actions) (sym r.2) may), run_append m r.0 actions start ∙ ap (run m actions) r.2)
+reached_run m w actions r may = (
+  r.0 ++ actions,
+  allowed_append m r.0 actions start r.1 (subst (AllAllowed m actions) (sym r.2) may),
+  run_append m r.0 actions start
+      ∙ ap (run m actions) r.2,
+)
 
 pub reached_after : (m : Setting) (w : World) (a : Action) → IsReached m w → Allowed m w a → IsReached m (after m w a)
 reached_after m w a r may = reached_run m w (a ∷ []) r (may, tt)

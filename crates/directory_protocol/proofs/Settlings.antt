@@ -29,8 +29,10 @@ module _ (m : Setting) (w : World) (x : Settling) (may : MaySettle m w x) (p : P
 
   settled_cases : (q : Silo) (h : ℕ) → settled_after w x q h ≡ true → ((x.part h ≡ true) × (q ≡ x.silo)) ⊎ (w.settled q h ≡ true)
   settled_cases q h =
-      put_all (λ q f. f h ≡ true → ((x.part h ≡ true) × (q ≡ x.silo)) ⊎ (w.settled q h ≡ true)) x.silo (where_true x.part (λ h. true) (w.settled x.silo)) w.settled
-      (on_bool (λ b. cond b true (w.settled x.silo h) ≡ true → ((b ≡ true) × (x.silo ≡ x.silo)) ⊎ (w.settled x.silo h ≡ true)) (x.part h) (λ u t. inl (refl, refl)) (λ u t. inr t))
+      put_all (λ q f. f h ≡ true → ((x.part h ≡ true) × (q ≡ x.silo)) ⊎ (w.settled q h ≡ true)) x.silo
+      (where_true x.part (λ h. true) (w.settled x.silo)) w.settled
+      (on_bool (λ b. cond b true (w.settled x.silo h) ≡ true → ((b ≡ true) × (x.silo ≡ x.silo)) ⊎ (w.settled x.silo h ≡ true)) (x.part h)
+      (λ u t. inl (refl, refl)) (λ u t. inr t))
       (λ q n t. inr t)
       q
 
@@ -42,7 +44,9 @@ module _ (m : Setting) (w : World) (x : Settling) (may : MaySettle m w x) (p : P
       q
 
   now_settled : (h : ℕ) → x.part h ≡ true → settled_after w x x.silo h ≡ true
-  now_settled h u = ap (λ f. f h) (put_same x.silo (where_true x.part (λ h. true) (w.settled x.silo)) w.settled) ∙ ap (λ b. cond b true (w.settled x.silo h)) u
+  now_settled h u =
+      ap (λ f. f h) (put_same x.silo (where_true x.part (λ h. true) (w.settled x.silo)) w.settled)
+      ∙ ap (λ b. cond b true (w.settled x.silo h)) u
 
   settling_structure : Structure m w.now w.seen (settled_after w x)
   settling_structure =
@@ -121,7 +125,9 @@ module _ (m : Setting) (w : World) (x : Settling) (told : Silo → Report) (may 
   recover_below h u = from_order (cases_order (w.level h) (w.seen x.silo))
     where
       barred : IsBarred m w.now w.seen w.snapshots w.reports h (w.seen x.silo) → w.level h < w.seen x.silo
-      barred b = absurd (b.none_told (told b.silent) (may.sent b.silent b.was_member) (may.own_report b.silent b.was_member) (may.same_version b.silent b.was_member))
+      barred b =
+          absurd (b.none_told (told b.silent) (may.sent b.silent b.was_member) (may.own_report b.silent b.was_member)
+          (may.same_version b.silent b.was_member))
 
       left : IsLeft m w.now w.seen h (w.seen x.silo) → w.level h < w.seen x.silo
       left l =

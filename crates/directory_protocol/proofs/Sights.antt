@@ -32,12 +32,14 @@ module _ (m : Setting) (w : World) (x : Sight) (may : MaySee m w x) where
       here : (s : Silo) → s ≡ x.silo → (h : ℕ) → (after_sight m w x).settled s h ≡ true → m.owner ((after_sight m w x).seen s) h ≡ Some s
       here s e h t =
           subst (λ s. (after_sight m w x).settled s h ≡ true → m.owner ((after_sight m w x).seen s) h ≡ Some s) (sym e)
-          (λ t. subst (λ k. m.owner k h ≡ Some x.silo) (sym (put_same x.silo x.version w.seen)) (may.kept_owned h (sym (ap (λ f. f h) (put_same x.silo x.kept w.settled)) ∙ t)))
+          (λ t. subst (λ k. m.owner k h ≡ Some x.silo) (sym (put_same x.silo x.version w.seen))
+          (may.kept_owned h (sym (ap (λ f. f h) (put_same x.silo x.kept w.settled)) ∙ t)))
           t
 
       there : (s : Silo) → s ≢ x.silo → (h : ℕ) → (after_sight m w x).settled s h ≡ true → m.owner ((after_sight m w x).seen s) h ≡ Some s
       there s n h t =
-          subst (λ k. m.owner k h ≡ Some s) (sym (put_other x.silo x.version w.seen s n)) (p.structure.owned s h (sym (ap (λ f. f h) (put_other x.silo x.kept w.settled s n)) ∙ t))
+          subst (λ k. m.owner k h ≡ Some s) (sym (put_other x.silo x.version w.seen s n))
+          (p.structure.owned s h (sym (ap (λ f. f h) (put_other x.silo x.kept w.settled s n)) ∙ t))
 
   pub sight_level : Placed m w → (h : ℕ) → x.kept h ≡ true → w.level h ≡ w.seen x.silo
   sight_level p h u = p.levels.at_level x.silo h may.alive (may.kept_settled h u)
@@ -47,7 +49,8 @@ module _ (m : Setting) (w : World) (x : Sight) (may : MaySee m w x) where
   sight_left p h t s o a =
       let mine : m.owner (w.seen x.silo) h ≡ Some x.silo = p.structure.owned x.silo h t in
       let e : s ≡ x.silo = cc in
-      subst (λ s. w.seen x.silo < (after_sight m w x).seen s) (sym e) (subst (λ k. w.seen x.silo < k) (sym (put_same x.silo x.version w.seen)) may.newer)
+      subst (λ s. w.seen x.silo < (after_sight m w x).seen s) (sym e)
+      (subst (λ k. w.seen x.silo < k) (sym (put_same x.silo x.version w.seen)) may.newer)
 
   -- nothing can be settled at a version that is skipped
   sight_barred :
@@ -67,7 +70,8 @@ module _ (m : Setting) (w : World) (x : Sight) (may : MaySee m w x) where
         silent = x.silo;
         was_member =
             let old : m.member (w.seen x.silo) x.silo ≡ true = m.owner_is_member (w.seen x.silo) h x.silo (p.structure.owned x.silo h (may.kept_settled h u)) in
-            m.member_until_death (w.seen x.silo) k x.silo (omega arith) old (m.dead_stays_dead k w.now x.silo (omega (arith, may.known)) may.alive);
+            m.member_until_death (w.seen x.silo) k x.silo (omega arith) old
+            (m.dead_stays_dead k w.now x.silo (omega (arith, may.known)) may.alive);
         went_past = λ a. subst (λ v. k < v) (sym (put_same x.silo x.version w.seen)) under;
         none_told = λ y q e d.
             let told : y.version ≤ w.seen y.sender = p.levels.told_seen y q in
@@ -83,7 +87,9 @@ module _ (m : Setting) (w : World) (x : Sight) (may : MaySee m w x) where
         settles = λ h u. ap (λ f. f h) (put_same x.silo x.kept w.settled) ∙ u;
         raised = λ h u. rw (put_same x.silo x.version w.seen) (let at : w.level h ≡ w.seen x.silo = sight_level p h u in
             omega (arith, may.newer));
-        left = λ h u. subst (λ k. IsLeft m w.now (after_sight m w x).seen h k) (sym (sight_level p h u)) (sight_left p h (may.kept_settled h u));
+        left =
+            λ h u. subst (λ k. IsLeft m w.now (after_sight m w x).seen h k) (sym (sight_level p h u))
+            (sight_left p h (may.kept_settled h u));
         between = λ h k u above under.
             inr
             (sight_barred p h k u (let at : w.level h ≡ w.seen x.silo = sight_level p h u in omega arith)
@@ -95,10 +101,13 @@ module _ (m : Setting) (w : World) (x : Sight) (may : MaySee m w x) where
             ];
         stays = λ q h u t.
             elim (silo_cases q x.silo) [
-              | inl e ↦ inl (subst (λ q. w.seen q < (after_sight m w x).seen q) (sym e) (subst (λ v. w.seen x.silo < v) (sym (put_same x.silo x.version w.seen)) may.newer))
+              | inl e ↦ inl (subst (λ q. w.seen q < (after_sight m w x).seen q) (sym e)
+                  (subst (λ v. w.seen x.silo < v) (sym (put_same x.silo x.version w.seen)) may.newer))
               | inr n ↦ inr (put_other x.silo x.version w.seen q n, ap (λ f. f h) (put_other x.silo x.kept w.settled q n) ∙ t)
             ];
-        new_snapshot = λ y h. sent_all (λ y. y.covers h ≡ true → Sent y w.snapshots ⊎ ((y.sealed_at ≡ w.level h) × IsLeft m w.now (after_sight m w x).seen h y.sealed_at)) (sealed_by m w x) w.snapshots
+        new_snapshot =
+            λ y h. sent_all (λ y. y.covers h ≡ true → Sent y w.snapshots
+            ⊎ ((y.sealed_at ≡ w.level h) × IsLeft m w.now (after_sight m w x).seen h y.sealed_at)) (sealed_by m w x) w.snapshots
             (λ c. inr (sym (p.levels.at_level x.silo h may.alive (may.sealed_settled h c)), sight_left p h (may.sealed_settled h c)))
             (λ y q c. inl q)
             y;
@@ -115,8 +124,10 @@ module _ (m : Setting) (w : World) (x : Sight) (may : MaySee m w x) where
           (h : ℕ) (y : Snapshot) → Sent y (after_sight m w x).snapshots → (z : Snapshot) → Sent z (after_sight m w x).snapshots
           → y.covers h ≡ true → z.covers h ≡ true → y.sealed_at ≡ z.sealed_at → y ≡ z
       once h =
-          sent_all (λ y. (z : Snapshot) → Sent z (after_sight m w x).snapshots → y.covers h ≡ true → z.covers h ≡ true → y.sealed_at ≡ z.sealed_at → y ≡ z) (sealed_by m w x) w.snapshots
-          (sent_all (λ z. x.sealed h ≡ true → z.covers h ≡ true → w.seen x.silo ≡ z.sealed_at → sealed_by m w x ≡ z) (sealed_by m w x) w.snapshots
+          sent_all (λ y. (z : Snapshot) → Sent z (after_sight m w x).snapshots → y.covers h ≡ true → z.covers h ≡ true
+          → y.sealed_at ≡ z.sealed_at → y ≡ z) (sealed_by m w x) w.snapshots
+          (sent_all (λ z. x.sealed h ≡ true → z.covers h ≡ true → w.seen x.silo ≡ z.sealed_at → sealed_by m w x ≡ z) (sealed_by m w x)
+          w.snapshots
           (λ c d e. refl)
           (λ z q c d e. absurd (not_before z h q d c (sym e))))
           (λ y q. sent_all (λ z. y.covers h ≡ true → z.covers h ≡ true → y.sealed_at ≡ z.sealed_at → y ≡ z) (sealed_by m w x) w.snapshots
@@ -128,7 +139,9 @@ module _ (m : Setting) (w : World) (x : Sight) (may : MaySee m w x) where
       record {
         structure = sight_structure p;
         levels =
-            subst (λ v. Levels m w.now (after_sight m w x).seen (after_sight m w x).settled (after_sight m w x).snapshots w.reports (where_true x.kept (λ h. v) w.level))
+            subst (λ v. Levels m w.now (after_sight m w x).seen (after_sight m w x).settled (after_sight m w x).snapshots w.reports
+            (where_true x.kept (λ h. v) w.level))
             (put_same x.silo x.version w.seen)
-            (levels_rise m w (after_sight m w x).seen (after_sight m w x).settled (after_sight m w x).snapshots x.silo x.kept (sight_rises p) p);
+            (levels_rise m w (after_sight m w x).seen (after_sight m w x).settled (after_sight m w x).snapshots x.silo x.kept
+            (sight_rises p) p);
       }

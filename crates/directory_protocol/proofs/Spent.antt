@@ -30,7 +30,8 @@ spent_lower m now seen served level t h k n k' n' lk ln spent =
 pub spent_stays :
     (m : Setting) (now : ℕ) (seen : Silo → ℕ) (now' : ℕ) (seen' : Silo → ℕ) → IsLater m now seen now' seen'
     → (served served' : Silo → Silo → ℕ) (level level' : ℕ → ℕ) (t : Silo) (h k n : ℕ) → level h ≤ level' h
-    → ((s : Silo) → level' h ≡ level h → m.owner (level h) h ≡ Some s → m.alive now s ≡ true → (level h < seen' s) ⊎ (served s t ≤ served' s t))
+    → ((s : Silo) → level' h ≡ level h → m.owner (level h) h ≡ Some s → m.alive now s ≡ true → (level h < seen' s)
+    ⊎ (served s t ≤ served' s t))
     → IsSpent m now seen served level t h k n → IsSpent m now' seen' served' level' t h k n
 spent_stays m now seen now' seen' later served served' level level' t h k n rises serves spent =
     record {
@@ -54,7 +55,8 @@ spent_stays m now seen now' seen' later served served' level level' t h k n rise
 pub not_spent :
     (m : Setting) (w : World) (x : Service) → Placed m w → MayServe m w x
     → IsSpent m w.now w.seen w.served w.level x.request.sender (m.hash x.request.grain) x.request.version x.request.number → ⊥
-not_spent m w x placed may spent = elim (spent.used at x.server owned may.alive) [ inl p ↦ omega (arith, may.same_version) | inr p ↦ omega (arith, may.new_number) ]
+not_spent m w x placed may spent =
+    elim (spent.used at x.server owned may.alive) [ inl p ↦ omega (arith, may.same_version) | inr p ↦ omega (arith, may.new_number) ]
   where
     h : ℕ
     h = m.hash x.request.grain

@@ -7,7 +7,7 @@ use Rattle.directory_protocol.specs.Change.{put, put_at, where_true}
 use Rattle.directory_protocol.specs.Setting.{Setting}
 use Rattle.directory_protocol.specs.Letters.{Purpose, Register, Deregister, Answer, purpose_of, Request, named, Reply, Sent}
 use Rattle.directory_protocol.specs.World.{World, start, Held, Asking, Firm, Closing, count_of, outstanding, renumbered, previous_of}
-use Rattle.directory_protocol.specs.Actions.{Action, New_view, See, Start, Close, Offer_away, Renew, Find, Serve, Confirm, Leave, Tell, Install, Recover, Allowed, Sight, MaySee, Service, MayServe, IsAnswered, Counts, Settling, MayLeave}
+use Rattle.directory_protocol.specs.Actions.{Action, New_view, See, Start, Close, Offer_away, Renew, Find, Serve, Confirm, Leave, Tell, Install, Recover, Allowed, Sight, MaySee, MayClose, Service, MayServe, IsAnswered, Counts, Settling, MayLeave}
 use Rattle.directory_protocol.specs.Effects.{after, after_settling, asked, replied}
 use Rattle.directory_protocol.specs.Requests.{NumbersOf, IsSpent, Spent, SpentOf}
 use Rattle.directory_protocol.specs.Invariant.{Placed}
@@ -42,7 +42,8 @@ module _ (m : Setting) (w : World) (p : Placed m w) (k : SpentOf m w) where
       }
     where
       still : (t : Silo) (h v n : ℕ) → IsSpent m w.now w.seen w.served w.level t h v n → IsSpent m now' w.seen w.served level' t h v n
-      still t h v n = spent_stays m w.now w.seen now' w.seen later w.served w.served w.level level' t h v n (rises h) (λ s e o a. inr (omega arith))
+      still t h v n =
+          spent_stays m w.now w.seen now' w.seen later w.served w.served w.level level' t h v n (rises h) (λ s e o a. inr (omega arith))
 
   spent_settled : (x : Settling) → ((h : ℕ) → x.part h ≡ true → w.level h < w.seen x.silo) → SpentOf m (after_settling m w x)
   spent_settled x below =
@@ -91,7 +92,9 @@ module _ (m : Setting) (w : World) (p : Placed m w) (k : SpentOf m w) where
       still :
           (t : Silo) (h v i : ℕ) → IsSpent m w.now w.seen w.served w.level t h v i
           → IsSpent m w.now seen' served' (where_true x.kept (λ h. x.version) w.level) t h v i
-      still t h v i = spent_stays m w.now w.seen w.now seen' (later_sight m w x may) w.served served' w.level (where_true x.kept (λ h. x.version) w.level) t h v i (rises h) (λ s e o a. serves t h s o a)
+      still t h v i =
+          spent_stays m w.now w.seen w.now seen' (later_sight m w x may) w.served served' w.level
+          (where_true x.kept (λ h. x.version) w.level) t h v i (rises h) (λ s e o a. serves t h s o a)
 
   -- what a silo holds of one grain changes, the activation staying, and its new number being the next one
   spent_turn :
@@ -108,7 +111,9 @@ module _ (m : Setting) (w : World) (p : Placed m w) (k : SpentOf m w) where
       held_on :
           (q : Silo) (r : Grain) (x : Held) → w.held q r ≡ Some x
           → (x' : Held) × (put_at s g o w.held q r ≡ Some x') × (count_of x' ≡ count_of x)
-      held_on = put_at_all (λ q r o. (x : Held) → w.held q r ≡ Some x → (x' : Held) × (o ≡ Some x') × (count_of x' ≡ count_of x)) s g o w.held stays (λ q r d x e. (x, e, refl))
+      held_on =
+          put_at_all (λ q r o. (x : Held) → w.held q r ≡ Some x → (x' : Held) × (o ≡ Some x') × (count_of x' ≡ count_of x)) s g o w.held
+          stays (λ q r d x e. (x, e, refl))
 
   -- a registration of what is held isn't let go
   spent_asked :
@@ -117,11 +122,27 @@ module _ (m : Setting) (w : World) (p : Placed m w) (k : SpentOf m w) where
       → Spent m w.now w.seen (put_at s g (Some x) w.held) w.served w.level (r ∷ w.requests) w.replies
   spent_asked n s g x r sender grain count sp =
       record {
-        let_go = sent_all (λ r. r.purpose ≡ Register → ((x' : Held) → put_at s g (Some x) w.held r.sender r.grain ≡ Some x' → count_of x' ≢ r.count) → IsSpent m w.now w.seen w.served w.level r.sender (m.hash r.grain) r.version r.number) r w.requests
-            (λ b d. absurd (d x (ap (λ q. put_at s g (Some x) w.held q r.grain) sender ∙ ap (put_at s g (Some x) w.held s) grain ∙ put_at_same s g (Some x) w.held) count))
+        let_go =
+            sent_all (λ r. r.purpose ≡ Register → ((x' : Held) → put_at s g (Some x) w.held r.sender r.grain ≡ Some x'
+            → count_of x' ≢ r.count) → IsSpent m w.now w.seen w.served w.level r.sender (m.hash r.grain) r.version r.number) r
+            w.requests
+            (λ b d. absurd (d x (ap (λ q. put_at s g (Some x) w.held q r.grain) sender ∙ ap (put_at s g (Some x) w.held s) grain
+            ∙ put_at_same s g (Some x) w.held) count))
             sp.let_go;
         replied = sp.replied;
       }
+
+  -- an activation is held closing from now on
+  spent_closing :
+      NumbersOf m w → (s : Silo) (g : Grain) (x : Held) → MayClose m w s g x
+      → Spent m w.now w.seen (put_at s g (Some (Closing (count_of x) (w.next_number s))) w.held) w.served w.level w.requests w.replies
+  spent_closing n s g x may =
+      spent_turn n s g (Some (Closing (count_of x) (w.next_number s))) (λ y e.
+      let held : w.held s g ≡ Some x = may.held in
+      let same : x ≡ y = cc in
+      (Closing (count_of x) (w.next_number s), refl, ap count_of same))
+      (λ y purpose i e u. let same : Closing (count_of x) (w.next_number s) ≡ y = cc in
+      closing_number (count_of x) (w.next_number s) purpose i (ap (outstanding purpose) same ∙ u))
 
   spent_left : NumbersOf m w → (y : Reply) (g : Grain) (x : Held) → MayLeave m w y g x → SpentOf m (after m w (Leave y g x))
   spent_left n y g x may =
@@ -130,7 +151,9 @@ module _ (m : Setting) (w : World) (p : Placed m w) (k : SpentOf m w) where
         replied = λ z h x' q c.
             k.replied z h x' q
             (record {
-              held_there = put_at_all (λ q h o. o ≡ Some x' → w.held q h ≡ Some x') y.receiver g None w.held (λ e. absurd cc) (λ q h i e. e) z.receiver h c.held_there;
+              held_there =
+                  put_at_all (λ q h o. o ≡ Some x' → w.held q h ≡ Some x') y.receiver g None w.held (λ e. absurd cc) (λ q h i e. e)
+                  z.receiver h c.held_there;
               same_number = c.same_number;
               same_version = c.same_version;
             });
@@ -139,7 +162,8 @@ module _ (m : Setting) (w : World) (p : Placed m w) (k : SpentOf m w) where
       let_go :
           (r : Request) → Sent r w.requests → r.purpose ≡ Register
           → ((z : Held) → put_at y.receiver g None w.held r.sender r.grain ≡ Some z → count_of z ≢ r.count)
-          → ((z : Held) × (w.held r.sender r.grain ≡ Some z) × (count_of z ≡ r.count)) ⊎ ((z : Held) → w.held r.sender r.grain ≡ Some z → count_of z ≢ r.count)
+          → ((z : Held) × (w.held r.sender r.grain ≡ Some z) × (count_of z ≡ r.count))
+          ⊎ ((z : Held) → w.held r.sender r.grain ≡ Some z → count_of z ≢ r.count)
           → IsSpent m w.now w.seen w.served w.level r.sender (m.hash r.grain) r.version r.number
       let_go r q b d (inr i) = k.let_go r q b i
       let_go r q b d (inl i) = gone (silo_cases r.sender y.receiver) (grain_cases r.grain g)
@@ -163,11 +187,13 @@ module _ (m : Setting) (w : World) (p : Placed m w) (k : SpentOf m w) where
       record {
         let_go = λ r q b d. still r.sender (m.hash r.grain) r.version r.number (k.let_go r q b d);
         replied = λ y g z q.
-            sent_all (λ y. Counts w.seen w.held y g z → IsSpent m w.now w.seen served' w.level y.receiver (m.hash g) y.version y.number) (replied x) w.replies
+            sent_all (λ y. Counts w.seen w.held y g z → IsSpent m w.now w.seen served' w.level y.receiver (m.hash g) y.version y.number)
+            (replied x) w.replies
             (λ c.
             let purpose : purpose_of x.answer ≡ x.request.purpose = answered_purpose x.request.purpose (named x.request) x.request.previous (w.table x.server x.request.grain) x.answer x.entry may.answered in
             let grain : g ≡ x.request.grain = n.same_grain x.request g z may.sent c.held_there (subst (λ p. outstanding p z ≡ Some x.request.number) purpose c.same_number) in
-            subst (λ g. IsSpent m w.now w.seen served' w.level x.request.sender (m.hash g) x.request.version x.request.number) (sym grain) just_served)
+            subst (λ g. IsSpent m w.now w.seen served' w.level x.request.sender (m.hash g) x.request.version x.request.number) (sym grain)
+            just_served)
             (λ y q c. still y.receiver (m.hash g) y.version y.number (k.replied y g z q c))
             y q;
       }
@@ -178,12 +204,15 @@ module _ (m : Setting) (w : World) (p : Placed m w) (k : SpentOf m w) where
       rises : (s t : Silo) → w.served s t ≤ served' s t
       rises s t =
           put_all (λ s f. w.served s t ≤ f t) x.server (put x.request.sender x.request.number (w.served x.server)) w.served
-          (put_all (λ t n. w.served x.server t ≤ n) x.request.sender x.request.number (w.served x.server) (omega (arith, may.new_number)) (λ t d. omega arith) t)
+          (put_all (λ t n. w.served x.server t ≤ n) x.request.sender x.request.number (w.served x.server) (omega (arith, may.new_number))
+          (λ t d. omega arith) t)
           (λ s d. omega arith)
           s
 
       still : (t : Silo) (h v i : ℕ) → IsSpent m w.now w.seen w.served w.level t h v i → IsSpent m w.now w.seen served' w.level t h v i
-      still t h v i = spent_stays m w.now w.seen w.now w.seen (later_same m w.now w.seen) w.served served' w.level w.level t h v i (omega arith) (λ s e o a. inr (rises s t))
+      still t h v i =
+          spent_stays m w.now w.seen w.now w.seen (later_same m w.now w.seen) w.served served' w.level w.level t h v i (omega arith)
+          (λ s e o a. inr (rises s t))
 
       h : ℕ
       h = m.hash x.request.grain
@@ -208,29 +237,20 @@ pub spent_after :
 spent_after m w New_view may p n k = spent_later m w p k (suc w.now) w.level (later_view m w.now w.seen) (λ h. omega arith)
 spent_after m w (See x) may p n k = spent_seen m w p k x may n
 spent_after m w (Start s g previous) may p n k =
-    spent_asked m w p k n s g (Asking (w.next_count s) (w.next_number s) previous) (asked w Register s g (w.next_count s) previous) refl refl refl
+    spent_asked m w p k n s g (Asking (w.next_count s) (w.next_number s) previous) (asked w Register s g (w.next_count s) previous) refl
+    refl refl
     (spent_turn m w p k n s g (Some (Asking (w.next_count s) (w.next_number s) previous)) (λ x e.
     let free : w.held s g ≡ None = may.free in
     absurd cc)
     (λ x purpose i e u. let same : Asking (w.next_count s) (w.next_number s) previous ≡ x = cc in
     asking_number (w.next_count s) (w.next_number s) previous purpose i (ap (outstanding purpose) same ∙ u)))
-spent_after m w (Close s g c) may p n k =
-    spent_asked m w p k n s g (Closing c (w.next_number s)) (asked w Deregister s g c None) refl refl refl
-    (spent_turn m w p k n s g (Some (Closing c (w.next_number s))) (λ x e.
-    let firm : w.held s g ≡ Some (Firm c) = may.firm in
-    let same : Firm c ≡ x = cc in
-    (Closing c (w.next_number s), refl, ap count_of same))
-    (λ x purpose i e u. let same : Closing c (w.next_number s) ≡ x = cc in
-    closing_number c (w.next_number s) purpose i (ap (outstanding purpose) same ∙ u)))
-spent_after m w (Offer_away s g c) may p n k =
-    spent_turn m w p k n s g (Some (Closing c (w.next_number s))) (λ x e.
-    let firm : w.held s g ≡ Some (Firm c) = may.firm in
-    let same : Firm c ≡ x = cc in
-    (Closing c (w.next_number s), refl, ap count_of same))
-    (λ x purpose i e u. let same : Closing c (w.next_number s) ≡ x = cc in
-    closing_number c (w.next_number s) purpose i (ap (outstanding purpose) same ∙ u))
+spent_after m w (Close s g x) may p n k =
+    spent_asked m w p k n s g (Closing (count_of x) (w.next_number s)) (asked w Deregister s g (count_of x) None) refl refl refl
+    (spent_closing m w p k n s g x may)
+spent_after m w (Offer_away s g c) may p n k = spent_closing m w p k n s g (Firm c) may
 spent_after m w (Renew s g x purpose) may p n k =
-    spent_asked m w p k n s g (renumbered (w.next_number s) x) (asked w purpose s g (count_of x) (previous_of x)) refl refl (renumbered_count (w.next_number s) x)
+    spent_asked m w p k n s g (renumbered (w.next_number s) x) (asked w purpose s g (count_of x) (previous_of x)) refl refl
+    (renumbered_count (w.next_number s) x)
     (spent_turn m w p k n s g (Some (renumbered (w.next_number s) x)) (λ y e.
     let there : w.held s g ≡ Some x = may.held in
     let same : x ≡ y = cc in
@@ -244,7 +264,8 @@ spent_after m w (Confirm y g x) may p n k =
     let there : w.held y.receiver g ≡ Some x = may.accepted.counts.held_there in
     let same : x ≡ z = cc in
     (Firm (count_of x), refl, ap count_of same))
-    (λ z purpose i e u. let same : Firm (count_of x) ≡ z = cc in absurd (firm_number (count_of x) purpose i (ap (outstanding purpose) same ∙ u)))
+    (λ z purpose i e u. let same : Firm (count_of x) ≡ z = cc in
+    absurd (firm_number (count_of x) purpose i (ap (outstanding purpose) same ∙ u)))
 spent_after m w (Leave y g x) may p n k = spent_left m w p k n y g x may
 spent_after m w (Tell s) may p n k = k
 spent_after m w (Install x snapshot) may p n k = spent_settled m w p k x (λ h u.

@@ -8,7 +8,7 @@ use Rattle.silo_address.proofs.Same.{Decides-silo}
 use Rattle.silo_address.specs.declared.activation.ActivationId.{ActivationId}
 use Rattle.directory_protocol.specs.Change.{put, put_grain, put_at}
 use Rattle.directory_protocol.specs.Setting.{Setting}
-use Rattle.directory_protocol.specs.Letters.{Register, Answer, Request, Reply}
+use Rattle.directory_protocol.specs.Letters.{Register, Deregister, Answer, Request, Reply}
 use Rattle.directory_protocol.specs.World.{World, start}
 use Rattle.directory_protocol.specs.Actions.{Action, Allowed, New_view, See, Serve, Tell, Recover}
 use Rattle.directory_protocol.specs.Effects.{reported, run, AllAllowed}
@@ -107,7 +107,8 @@ members k s e = by_name (bool_cases (silo_eq s first)) (bool_cases (silo_eq s se
         absurd (omega (arith, joined, soon))
 
 pub only_first : (s : Silo) → cluster.member 1 s ≡ true → s ≡ first
-only_first s e = elim (members 1 s e) [ inl a ↦ a.0 | inr a ↦ elim a [ inl b ↦ absurd (omega (arith, b.1)) | inr b ↦ absurd (omega (arith, b.1)) ] ]
+only_first s e =
+    elim (members 1 s e) [ inl a ↦ a.0 | inr a ↦ elim a [ inl b ↦ absurd (omega (arith, b.1)) | inr b ↦ absurd (omega (arith, b.1)) ] ]
 
 abbrev pub all : ℕ → Bool
 all h = true
@@ -190,6 +191,19 @@ registration version number s count previous =
       grain = ann;
       count = count;
       previous = previous;
+    }
+
+-- the first silo's activation is to be taken out
+abbrev pub removal : (version number : ℕ) → Request
+removal version number =
+    record {
+      purpose = Deregister;
+      version = version;
+      number = number;
+      sender = first;
+      grain = ann;
+      count = 1;
+      previous = None;
     }
 
 abbrev pub reply : Answer → (version number : ℕ) → Silo → Reply

@@ -89,16 +89,20 @@ abbrev telling : List Action
 telling = sees second 3 ∷ sees third 3 ∷ Tell first ∷ Tell second ∷ Tell third ∷ []
 
 abbrev told_nothing : Silo → Report
-told_nothing = of_three (reported (run cluster telling skipped) first) (reported (run cluster telling skipped) second) (reported (run cluster telling skipped) third)
+told_nothing =
+    of_three (reported (run cluster telling skipped) first) (reported (run cluster telling skipped) second)
+    (reported (run cluster telling skipped) third)
 
 telling_allowed : AllAllowed cluster telling skipped
 unfolding put put_at put_grain
-telling_allowed = (may_see _ _ _ refl (omega arith) (omega arith) refl, (may_see _ _ _ refl (omega arith) (omega arith) refl, (refl, (refl, (refl, tt)))))
+telling_allowed =
+    (may_see _ _ _ refl (omega arith) (omega arith) refl, (may_see _ _ _ refl (omega arith) (omega arith) refl, (refl, (refl, (refl, tt)))))
 
 nothing_recovered : MayRecover cluster (run cluster telling skipped) (settles_all no_entry) told_nothing
 unfolding put put_at put_grain
 nothing_recovered =
-    may_recover _ no_entry (reported (run cluster telling skipped) first) (reported (run cluster telling skipped) second) (reported (run cluster telling skipped) third) refl refl (λ h. refl)
+    may_recover _ no_entry (reported (run cluster telling skipped) first) (reported (run cluster telling skipped) second)
+    (reported (run cluster telling skipped) third) refl refl (λ h. refl)
     (record { sent = inr (inr (inl refl)); version = refl; sender = refl; entered = λ g c e. absurd cc })
     (record { sent = inr (inl refl); version = refl; sender = refl; entered = λ g c e. absurd cc })
     (record { sent = inl refl; version = refl; sender = refl; entered = λ g c e. absurd cc })
@@ -236,7 +240,7 @@ offered_allowed = (
     (
       refl,
       (
-        record { alive = refl; firm = refl },
+        record { alive = refl; held = refl; not_yet = refl },
         tt,
       ),
     ),
@@ -291,9 +295,20 @@ told = of_three (reported (run cluster replaced lagging) first) old_report (repo
 recovery_allowed : MayRecover cluster (run cluster replaced lagging) (settles_all (only two)) told
 unfolding put put_at put_grain
 recovery_allowed =
-    may_recover _ (only two) (reported (run cluster replaced lagging) first) old_report (reported (run cluster replaced lagging) third) refl refl (λ h. refl)
-    (record { sent = inr (inl refl); version = refl; sender = refl; entered = ann_alone two (Some (Asking 1 1 (Some two))) (Some (Firm 1)) })
-    (record { sent = inr (inr (inl refl)); version = refl; sender = refl; entered = ann_alone two (Some (Asking 1 1 None)) (Some (Firm 1)) })
+    may_recover _ (only two) (reported (run cluster replaced lagging) first) old_report (reported (run cluster replaced lagging) third) refl
+    refl (λ h. refl)
+    (record {
+      sent = inr (inl refl);
+      version = refl;
+      sender = refl;
+      entered = ann_alone two (Some (Asking 1 1 (Some two))) (Some (Firm 1));
+    })
+    (record {
+      sent = inr (inr (inl refl));
+      version = refl;
+      sender = refl;
+      entered = ann_alone two (Some (Asking 1 1 None)) (Some (Firm 1));
+    })
     (record { sent = inl refl; version = refl; sender = refl; entered = λ g c e. absurd cc })
     (only_told told two refl refl)
 
@@ -305,7 +320,18 @@ offer_starts_at_a_lagging_silo = (
   lagging,
   replaced ++ (Recover (settles_all (only two)) told ∷ []),
   allowed_append cluster early offered start registered offered_allowed,
-  (first, ann, two, record { alive = refl; member = refl; free = refl; offered = (record { version = 3; grain = ann; activation = two }, inl refl, refl, refl) }, refl),
+  (
+    first,
+    ann,
+    two,
+    record {
+      alive = refl;
+      member = refl;
+      free = refl;
+      offered = (record { version = 3; grain = ann; activation = two }, inl refl, refl, refl);
+    },
+    refl,
+  ),
   allowed_append cluster replaced (Recover (settles_all (only two)) told ∷ []) lagging replaced_allowed (recovery_allowed, tt),
   λ right.
       let e : Some two ≡ Some other = (right ann third (record { alive = refl; settled = refl })).complete first 1 (record { alive = refl; firm = refl }) in

@@ -1,34 +1,22 @@
 -- Wrong protocols of entries: taken out, replaced, kept or left though they should not be.
-use Rattle.std.proofs.Common.{◌≡◌, ℕ, true, false, Some, None, List, [], ◌∷◌, ◌++◌, inl, inr, refl, ap, arith}
+use Rattle.std.proofs.Common.{◌≡◌, true, false, Some, None, List, [], ◌∷◌, ◌++◌, inl, inr, refl, ap, arith}
 use Rattle.silo_address.specs.declared.activation.ActivationId.{ActivationId}
 use Rattle.directory_protocol.specs.Change.{put, put_grain, put_at}
-use Rattle.directory_protocol.specs.Letters.{activation_on, Deregister, Registered, Removed, Request}
-use Rattle.directory_protocol.specs.World.{World, start, Asking, Closing}
+use Rattle.directory_protocol.specs.Letters.{activation_on, Deregister, Registered, Removed}
+use Rattle.directory_protocol.specs.World.{World, start, Asking, Firm, Closing}
 use Rattle.directory_protocol.specs.Actions.{Action, New_view, Start, Close, Offer_away, Renew, Confirm, Leave, Sight}
 use Rattle.directory_protocol.specs.Effects.{after, after_sight, run, AllAllowed}
 use Rattle.directory_protocol.specs.Safety.{OneFirm, SettledIsRight}
 use Rattle.directory_protocol.specs.Loosened.{Breaks, DeregisterIgnoresTheActivation, PreviousReplacesAnyEntry}
 use Rattle.directory_protocol.specs.WrongSteps.{SnapshotKeepsDeadSilos, OfferLeavesFirm}
 use Rattle.directory_protocol.proofs.Runs.{allowed_append}
-use Rattle.directory_protocol.proofs.Story.{first, second, ann, cluster, all, no_hash, opening, may_see, registration, reply, answers}
+use Rattle.directory_protocol.proofs.Story.{first, second, ann, cluster, all, no_hash, opening, may_see, registration, removal, reply, answers}
 use Rattle.directory_protocol.proofs.StoryOne.{registering, registered}
 use Rattle.directory_protocol.proofs.StoryTwo.{two, growing, not_first}
 use Rattle.directory_protocol.proofs.StoryTwo
 
 abbrev one : ActivationId
 one = activation_on first 1
-
-abbrev removal : (number : ℕ) → Request
-removal number =
-    record {
-      purpose = Deregister;
-      version = 2;
-      number = number;
-      sender = first;
-      grain = ann;
-      count = 1;
-      previous = None;
-    }
 
 -- the first silo's activation is firm, and the second silo has joined
 abbrev two_silos : List Action
@@ -59,23 +47,46 @@ two_silos_allowed =
 -- it closes and its entry goes; the second silo's becomes firm; then the deregistration is sent again
 abbrev closing_twice : List Action
 closing_twice =
-    Close first ann 1 ∷ answers (removal 2) Removed None
-    ∷ Start second ann None ∷ answers (registration 2 1 second 1 None) Registered (Some two) ∷ Confirm (reply Registered 2 1 second) ann (Asking 1 1 None)
+    Close first ann (Firm 1) ∷ answers (removal 2 2) Removed None
+    ∷ Start second ann None ∷ answers (registration 2 1 second 1 None) Registered (Some two) ∷ Confirm (reply Registered 2 1 second) ann
+    (Asking 1 1 None)
     ∷ Renew first ann (Closing 1 2) Deregister ∷ []
 
 closing_twice_allowed : AllAllowed cluster (two_silos ++ closing_twice) start
 unfolding put put_at put_grain
 closing_twice_allowed =
     allowed_append cluster two_silos closing_twice start two_silos_allowed (
-      record { alive = refl; firm = refl },
+      record { alive = refl; held = refl; not_yet = refl },
       (
-        record { sent = inl refl; alive = refl; same_version = refl; settled = refl; new_number = omega arith; answered = (refl, inl (refl, refl)) },
+        record {
+          sent = inl refl;
+          alive = refl;
+          same_version = refl;
+          settled = refl;
+          new_number = omega arith;
+          answered = (refl, inl (refl, refl));
+        },
         (
           record { alive = refl; member = refl; free = refl; offered = λ p e. absurd cc },
           (
-            record { sent = inl refl; alive = refl; same_version = refl; settled = refl; new_number = omega arith; answered = inl (refl, refl, inl refl) },
+            record {
+              sent = inl refl;
+              alive = refl;
+              same_version = refl;
+              settled = refl;
+              new_number = omega arith;
+              answered = inl
+                  (refl, refl, inl refl);
+            },
             (
-              record { accepted = record { alive = refl; sent = inl refl; counts = record { held_there = refl; same_number = refl; same_version = refl } }; answer = refl },
+              record {
+                accepted = record {
+                  alive = refl;
+                  sent = inl refl;
+                  counts = record { held_there = refl; same_number = refl; same_version = refl };
+                };
+                answer = refl;
+              },
               (record { alive = refl; held = refl; outstanding = (2, refl) }, tt),
             ),
           ),
@@ -88,11 +99,11 @@ unfolding put put_at put_grain
 deregister_ignores_the_activation = (
   cluster,
   two_silos ++ closing_twice,
-  after cluster (run cluster (two_silos ++ closing_twice) start) (answers (removal 3) Removed None),
+  after cluster (run cluster (two_silos ++ closing_twice) start) (answers (removal 2 3) Removed None),
   [],
   closing_twice_allowed,
   (
-    record { server = first; request = removal 3; answer = Removed; entry = None },
+    record { server = first; request = removal 2 3; answer = Removed; entry = None },
     record { sent = inl refl; alive = refl; same_version = refl; settled = refl; new_number = omega arith },
     refl,
     refl,
@@ -111,27 +122,66 @@ deregister_ignores_the_activation = (
 abbrev offering : List Action
 offering =
     Offer_away first ann 1 ∷ Start second ann (Some one)
-    ∷ Renew first ann (Closing 1 2) Deregister ∷ answers (removal 3) Removed None ∷ Leave (reply Removed 2 3 first) ann (Closing 1 3)
-    ∷ Start first ann None ∷ answers (registration 2 4 first 2 None) Registered (Some (activation_on first 2)) ∷ Confirm (reply Registered 2 4 first) ann (Asking 2 4 None) ∷ []
+    ∷ Renew first ann (Closing 1 2) Deregister ∷ answers (removal 2 3) Removed None ∷ Leave (reply Removed 2 3 first) ann (Closing 1 3)
+    ∷ Start first ann None ∷ answers (registration 2 4 first 2 None) Registered (Some (activation_on first 2)) ∷ Confirm
+    (reply Registered 2 4 first) ann (Asking 2 4 None) ∷ []
 
 offering_allowed : AllAllowed cluster (two_silos ++ offering) start
 unfolding put put_at put_grain
 offering_allowed =
     allowed_append cluster two_silos offering start two_silos_allowed (
-      record { alive = refl; firm = refl },
+      record { alive = refl; held = refl; not_yet = refl },
       (
-        record { alive = refl; member = refl; free = refl; offered = λ p e. (record { version = 2; grain = ann; activation = one }, inl refl, refl, cc, omega arith) },
+        record {
+          alive = refl;
+          member = refl;
+          free = refl;
+          offered = λ p e.
+              (record { version = 2; grain = ann; activation = one }, inl refl, refl, cc, omega arith);
+        },
         (
           record { alive = refl; held = refl; outstanding = (2, refl) },
           (
-            record { sent = inl refl; alive = refl; same_version = refl; settled = refl; new_number = omega arith; answered = (refl, inl (refl, refl)) },
+            record {
+              sent = inl refl;
+              alive = refl;
+              same_version = refl;
+              settled = refl;
+              new_number = omega arith;
+              answered = (refl, inl (refl, refl));
+            },
             (
-              record { accepted = record { alive = refl; sent = inl refl; counts = record { held_there = refl; same_number = refl; same_version = refl } }; answer = λ e. cc },
+              record {
+                accepted = record {
+                  alive = refl;
+                  sent = inl refl;
+                  counts = record { held_there = refl; same_number = refl; same_version = refl };
+                };
+                answer = λ e. cc;
+              },
               (
                 record { alive = refl; member = refl; free = refl; offered = λ p e. absurd cc },
                 (
-                  record { sent = inl refl; alive = refl; same_version = refl; settled = refl; new_number = omega arith; answered = inl (refl, refl, inl refl) },
-                  (record { accepted = record { alive = refl; sent = inl refl; counts = record { held_there = refl; same_number = refl; same_version = refl } }; answer = refl }, tt),
+                  record {
+                    sent = inl refl;
+                    alive = refl;
+                    same_version = refl;
+                    settled = refl;
+                    new_number = omega arith;
+                    answered = inl
+                        (refl, refl, inl refl);
+                  },
+                  (
+                    record {
+                      accepted = record {
+                        alive = refl;
+                        sent = inl refl;
+                        counts = record { held_there = refl; same_number = refl; same_version = refl };
+                      };
+                      answer = refl;
+                    },
+                    tt,
+                  ),
                 ),
               ),
             ),
@@ -158,14 +208,29 @@ previous_replaces_any_entry = (
     refl,
     refl,
   ),
-  (record { accepted = record { alive = refl; sent = inl refl; counts = record { held_there = refl; same_number = refl; same_version = refl } }; answer = refl }, tt),
-  λ one_firm. not_first (ap (λ (a : ActivationId). a.silo) (one_firm ann second first 1 2 (record { alive = refl; firm = refl }) (record { alive = refl; firm = refl }))),
+  (
+    record {
+      accepted = record {
+        alive = refl;
+        sent = inl refl;
+        counts = record { held_there = refl; same_number = refl; same_version = refl };
+      };
+      answer = refl;
+    },
+    tt,
+  ),
+  λ one_firm. not_first (ap (λ (a : ActivationId). a.silo)
+      (one_firm ann second first 1 2 (record { alive = refl; firm = refl }) (record { alive = refl; firm = refl }))),
 )
 
 -- ---- an offer leaves its activation firm
 
 abbrev still_firm : World
-still_firm = record (run cluster StoryTwo.early start) { offers = record { version = 2; grain = ann; activation = two } ∷ (run cluster StoryTwo.early start).offers }
+still_firm =
+    record (run cluster StoryTwo.early start) {
+      offers = record { version = 2; grain = ann; activation = two } ∷
+          (run cluster StoryTwo.early start).offers;
+    }
 
 pub offer_leaves_firm : Breaks OfferLeavesFirm OneFirm
 unfolding put put_at put_grain
@@ -173,17 +238,43 @@ offer_leaves_firm = (
   cluster,
   StoryTwo.early,
   still_firm,
-  Start first ann (Some two) ∷ answers (registration 2 1 first 1 (Some two)) Registered (Some one) ∷ Confirm (reply Registered 2 1 first) ann (Asking 1 1 (Some two)) ∷ [],
+  Start first ann (Some two) ∷ answers (registration 2 1 first 1 (Some two)) Registered (Some one) ∷ Confirm (reply Registered 2 1 first)
+      ann (Asking 1 1 (Some two)) ∷ [],
   StoryTwo.registered,
-  (second, ann, 1, record { alive = refl; firm = refl }, refl),
+  (second, ann, 1, record { alive = refl; held = refl; not_yet = refl }, refl),
   (
-    record { alive = refl; member = refl; free = refl; offered = λ p e. (record { version = 2; grain = ann; activation = two }, inl refl, refl, cc, omega arith) },
+    record {
+      alive = refl;
+      member = refl;
+      free = refl;
+      offered = λ p e.
+          (record { version = 2; grain = ann; activation = two }, inl refl, refl, cc, omega arith);
+    },
     (
-      record { sent = inl refl; alive = refl; same_version = refl; settled = refl; new_number = omega arith; answered = inl (refl, refl, inr (inr refl)) },
-      (record { accepted = record { alive = refl; sent = inl refl; counts = record { held_there = refl; same_number = refl; same_version = refl } }; answer = refl }, tt),
+      record {
+        sent = inl refl;
+        alive = refl;
+        same_version = refl;
+        settled = refl;
+        new_number = omega arith;
+        answered = inl
+            (refl, refl, inr (inr refl));
+      },
+      (
+        record {
+          accepted = record {
+            alive = refl;
+            sent = inl refl;
+            counts = record { held_there = refl; same_number = refl; same_version = refl };
+          };
+          answer = refl;
+        },
+        tt,
+      ),
     ),
   ),
-  λ one_firm. not_first (ap (λ (a : ActivationId). a.silo) (one_firm ann second first 1 1 (record { alive = refl; firm = refl }) (record { alive = refl; firm = refl }))),
+  λ one_firm. not_first (ap (λ (a : ActivationId). a.silo)
+      (one_firm ann second first 1 1 (record { alive = refl; firm = refl }) (record { alive = refl; firm = refl }))),
 )
 
 -- ---- a sight keeps the entries of silos that are dead in its view
@@ -198,7 +289,9 @@ abbrev kept_dead : World
 kept_dead =
     record (after_sight cluster (run cluster after_death start) keeping) {
       table = (run cluster after_death start).table;
-      snapshots = record { sealed_at = 2; covers = no_hash; entries = (run cluster after_death start).table first } ∷ (run cluster after_death start).snapshots;
+      snapshots =
+          record { sealed_at = 2; covers = no_hash; entries = (run cluster after_death start).table first } ∷
+          (run cluster after_death start).snapshots;
     }
 
 pub snapshot_keeps_dead_silos : Breaks SnapshotKeepsDeadSilos SettledIsRight

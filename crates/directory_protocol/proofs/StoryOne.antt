@@ -3,7 +3,7 @@ use Rattle.std.proofs.Common.{◌≡◌, ◌≢◌, Bool, true, false, cond, Som
 use Rattle.silo_address.specs.Grain.{grain_eq}
 use Rattle.silo_address.specs.declared.activation.ActivationId.{ActivationId}
 use Rattle.directory_protocol.specs.Change.{put, put_grain, put_at}
-use Rattle.directory_protocol.specs.Letters.{activation_on, Register, Deregister, Registered, Removed, Request}
+use Rattle.directory_protocol.specs.Letters.{activation_on, Register, Registered, Removed}
 use Rattle.directory_protocol.specs.World.{start, Held, Asking, Firm, Closing, outstanding}
 use Rattle.directory_protocol.specs.Actions.{Action, New_view, See, Start, Close, Confirm, Leave}
 use Rattle.directory_protocol.specs.Effects.{after, run, AllAllowed}
@@ -11,27 +11,16 @@ use Rattle.directory_protocol.specs.Safety.{SettledIsRight}
 use Rattle.directory_protocol.specs.Reached.{CanBe, CanHappen, KeepsOverSkip, RefusesOldNumber, IgnoresStaleReply}
 use Rattle.directory_protocol.specs.Loosened.{Breaks, RequestNumbersNotCompared, StaleReplyAccepted}
 use Rattle.directory_protocol.proofs.Runs.{allowed_append}
-use Rattle.directory_protocol.proofs.Story.{first, ann, cluster, all, no_hash, opening, opening_allowed, registration, reply, answers}
+use Rattle.directory_protocol.proofs.Story.{first, ann, cluster, all, no_hash, opening, opening_allowed, registration, removal, reply, answers}
 
 abbrev pub one : ActivationId
 one = activation_on first 1
 
-abbrev removal : Request
-removal =
-    record {
-      purpose = Deregister;
-      version = 1;
-      number = 2;
-      sender = first;
-      grain = ann;
-      count = 1;
-      previous = None;
-    }
-
 -- ann is registered and firm
 abbrev pub registering : List Action
 registering =
-    Start first ann None ∷ answers (registration 1 1 first 1 None) Registered (Some one) ∷ Confirm (reply Registered 1 1 first) ann (Asking 1 1 None) ∷ []
+    Start first ann None ∷ answers (registration 1 1 first 1 None) Registered (Some one) ∷ Confirm (reply Registered 1 1 first) ann
+    (Asking 1 1 None) ∷ []
 
 registering_allowed : AllAllowed cluster registering (run cluster opening start)
 unfolding put put_at put_grain
@@ -62,12 +51,12 @@ registered = allowed_append cluster opening registering start opening_allowed re
 -- then it closes, and is gone
 abbrev closing : List Action
 closing =
-    Close first ann 1 ∷ answers removal Removed None ∷ Leave (reply Removed 1 2 first) ann (Closing 1 2) ∷ []
+    Close first ann (Firm 1) ∷ answers (removal 1 2) Removed None ∷ Leave (reply Removed 1 2 first) ann (Closing 1 2) ∷ []
 
 closing_allowed : AllAllowed cluster closing (run cluster (opening ++ registering) start)
 unfolding put put_at put_grain
 closing_allowed = (
-  record { alive = refl; firm = refl },
+  record { alive = refl; held = refl; not_yet = refl },
   (
     record {
       sent = inl refl;
@@ -92,8 +81,12 @@ closed = allowed_append cluster (opening ++ registering) closing start registere
 
 pub refuses_old_number : CanBe RefusesOldNumber
 unfolding put put_at put_grain
-refuses_old_number =
-    (cluster, (opening ++ registering) ++ closing, closed, (first, registration 1 1 first 1 None, inr (inl refl), refl, λ x held. absurd cc, refl, refl, refl, omega arith))
+refuses_old_number = (
+  cluster,
+  (opening ++ registering) ++ closing,
+  closed,
+  (first, registration 1 1 first 1 None, inr (inl refl), refl, λ x held. absurd cc, (refl, refl, refl, omega arith)),
+)
 
 -- then another one starts
 starting_allowed : AllAllowed cluster (Start first ann None ∷ []) (run cluster ((opening ++ registering) ++ closing) start)
@@ -106,7 +99,8 @@ started = allowed_append cluster ((opening ++ registering) ++ closing) (Start fi
 -- the silo holds the new one alone, under another number
 not_under_one :
     (b : Bool) (x : Held)
-    → cond b (Some (Asking 2 3 None)) (cond b None (cond b (Some (Closing 1 2)) (cond b (Some (Firm 1)) (cond b (Some (Asking 1 1 None)) None)))) ≡ Some x
+    → cond b (Some (Asking 2 3 None)) (cond b None (cond b (Some (Closing 1 2))
+    (cond b (Some (Firm 1)) (cond b (Some (Asking 1 1 None)) None)))) ≡ Some x
     → outstanding Register x ≢ Some 1
 not_under_one true x held number =
     let same : Asking 2 3 None ≡ x = cc in
@@ -189,7 +183,8 @@ unfolding put put_at put_grain
 stale_reply_accepted = (
   cluster,
   ((opening ++ registering) ++ closing) ++ (Start first ann None ∷ []),
-  after cluster (run cluster (((opening ++ registering) ++ closing) ++ (Start first ann None ∷ [])) start) (Confirm (reply Registered 1 1 first) ann (Asking 2 3 None)),
+  after cluster (run cluster (((opening ++ registering) ++ closing) ++ (Start first ann None ∷ [])) start)
+      (Confirm (reply Registered 1 1 first) ann (Asking 2 3 None)),
   [],
   started,
   (

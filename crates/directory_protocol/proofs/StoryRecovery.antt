@@ -27,7 +27,8 @@ of_three a b c r = cond (silo_eq r first) a (cond (silo_eq r second) b c)
 
 -- what holds of the three silos holds of each member of the third view
 of_members : (P : Silo → Type 0) → P first → P second → P third → (r : Silo) → cluster.member 3 r ≡ true → P r
-of_members P a b c r e = elim (members 3 r e) [ inl i ↦ subst P (sym i.0) a | inr i ↦ elim i [ inl j ↦ subst P (sym j.0) b | inr j ↦ subst P (sym j.0) c ] ]
+of_members P a b c r e =
+    elim (members 3 r e) [ inl i ↦ subst P (sym i.0) a | inr i ↦ elim i [ inl j ↦ subst P (sym j.0) b | inr j ↦ subst P (sym j.0) c ] ]
 
 -- it was sent by that silo at the third version, and what it names is among the entries
 pub record IsToldBy (w : World) (entries : Grain → Option ActivationId) (s : Silo) (x : Report) : Type 0 where
@@ -38,7 +39,8 @@ pub record IsToldBy (w : World) (entries : Grain → Option ActivationId) (s : S
 
 -- each entry is of a member, and in its report
 abbrev pub AreTold : (Grain → Option ActivationId) → (Silo → Report) → Type 0
-AreTold entries told = (g : Grain) (a : ActivationId) → entries g ≡ Some a → (cluster.member 3 a.silo ≡ true) × ((told a.silo).firm g ≡ Some a.count)
+AreTold entries told =
+    (g : Grain) (a : ActivationId) → entries g ≡ Some a → (cluster.member 3 a.silo ≡ true) × ((told a.silo).firm g ≡ Some a.count)
 
 pub may_recover :
     (w : World) (entries : Grain → Option ActivationId) (a b c : Report) → cluster.alive w.now third ≡ true → w.seen third ≡ 3
@@ -52,7 +54,9 @@ may_recover w entries a b c alive seen unsettled ta tb tc told =
       own_report = λ r i. of_members (λ r. (of_three a b c r).sender ≡ r) ta.sender tb.sender tc.sender r (at_three r i);
       from_member = λ g x u e. subst (λ k. cluster.member k x.silo ≡ true) (sym seen) (told g x e).0;
       from_report = λ g x u e. (told g x e).1;
-      complete = λ g r n u i e. of_members (λ r. (of_three a b c r).firm g ≡ Some n → (x : ActivationId) × (entries g ≡ Some x)) (ta.entered g n) (tb.entered g n) (tc.entered g n) r (at_three r i) e;
+      complete =
+          λ g r n u i e. of_members (λ r. (of_three a b c r).firm g ≡ Some n → (x : ActivationId) × (entries g ≡ Some x)) (ta.entered g n)
+          (tb.entered g n) (tc.entered g n) r (at_three r i) e;
     }
   where
     at_three : (r : Silo) → cluster.member (w.seen third) r ≡ true → cluster.member 3 r ≡ true
@@ -66,7 +70,8 @@ pub only_told :
     → AreTold (only a) told
 unfolding put_grain
 only_told told a member firm g x =
-    on_bool (λ b. grain_eq g ann ≡ b → cond b (Some a) None ≡ Some x → (cluster.member 3 x.silo ≡ true) × ((told x.silo).firm g ≡ Some x.count)) (grain_eq g ann)
+    on_bool (λ b. grain_eq g ann ≡ b → cond b (Some a) None ≡ Some x
+    → (cluster.member 3 x.silo ≡ true) × ((told x.silo).firm g ≡ Some x.count)) (grain_eq g ann)
     (λ t i e.
     let same : a ≡ x = cc in
     subst (λ (x : ActivationId). (cluster.member 3 x.silo ≡ true) × ((told x.silo).firm g ≡ Some x.count)) same
@@ -79,4 +84,6 @@ pub ann_alone :
     (a : ActivationId) (o p : Option Held) (g : Grain) (c : ℕ)
     → firm_count (cond (grain_eq g ann) p (cond (grain_eq g ann) o None)) ≡ Some c → (x : ActivationId) × (only a g ≡ Some x)
 unfolding put_grain
-ann_alone a o p g c = on_bool (λ b. firm_count (cond b p (cond b o None)) ≡ Some c → (x : ActivationId) × (cond b (Some a) None ≡ Some x)) (grain_eq g ann) (λ t e. (a, refl)) (λ t e. absurd cc)
+ann_alone a o p g c =
+    on_bool (λ b. firm_count (cond b p (cond b o None)) ≡ Some c → (x : ActivationId) × (cond b (Some a) None ≡ Some x)) (grain_eq g ann)
+    (λ t e. (a, refl)) (λ t e. absurd cc)

@@ -42,9 +42,24 @@ unfolding put put_at put_grain
 then_firm_allowed = (
   record { alive = refl; member = refl; free = refl; offered = λ p e. absurd cc },
   (
-    record { sent = inl refl; alive = refl; same_version = refl; settled = refl; new_number = omega arith; answered = inl (refl, refl, inl refl) },
+    record {
+      sent = inl refl;
+      alive = refl;
+      same_version = refl;
+      settled = refl;
+      new_number = omega arith;
+      answered = inl
+          (refl, refl, inl refl);
+    },
     (
-      record { accepted = record { alive = refl; sent = inl refl; counts = record { held_there = refl; same_number = refl; same_version = refl } }; answer = refl },
+      record {
+        accepted = record {
+          alive = refl;
+          sent = inl refl;
+          counts = record { held_there = refl; same_number = refl; same_version = refl };
+        };
+        answer = refl;
+      },
       (
         may_see _ _ _ refl (omega arith) (omega arith) refl,
         (
@@ -91,13 +106,15 @@ query_answered_at_another_version = (
 abbrev skipping : List Action
 skipping =
     opening
-    ++ (New_view ∷ New_view ∷ New_view ∷ See (record { silo = first; version = 4; kept = all; sealed = no_hash }) ∷ sees second 3 ∷ sees third 3 ∷ Tell second ∷ Tell third ∷ [])
+    ++ (New_view ∷ New_view ∷ New_view ∷ See (record { silo = first; version = 4; kept = all; sealed = no_hash }) ∷ sees second 3 ∷ sees
+    third 3 ∷ Tell second ∷ Tell third ∷ [])
 
 skipping_allowed : AllAllowed cluster skipping start
 unfolding put put_at put_grain
 skipping_allowed =
     allowed_append cluster opening
-    (New_view ∷ New_view ∷ New_view ∷ See (record { silo = first; version = 4; kept = all; sealed = no_hash }) ∷ sees second 3 ∷ sees third 3 ∷ Tell second ∷ Tell third ∷ [])
+    (New_view ∷ New_view ∷ New_view ∷ See (record { silo = first; version = 4; kept = all; sealed = no_hash }) ∷ sees second 3 ∷ sees third
+    3 ∷ Tell second ∷ Tell third ∷ [])
     start opening_allowed (
       tt,
       (
@@ -139,7 +156,8 @@ told_skipped = of_three too_late (reported (run cluster skipping start) second) 
 recovery_too_late : MayRecover cluster told_late (settles_all no_entry) told_skipped
 unfolding put put_at put_grain
 recovery_too_late =
-    may_recover _ no_entry too_late (reported (run cluster skipping start) second) (reported (run cluster skipping start) third) refl refl (λ h. refl)
+    may_recover _ no_entry too_late (reported (run cluster skipping start) second) (reported (run cluster skipping start) third) refl refl
+    (λ h. refl)
     (record { sent = inl refl; version = refl; sender = refl; entered = λ g c e. absurd cc })
     (record { sent = inr (inr (inl refl)); version = refl; sender = refl; entered = λ g c e. absurd cc })
     (record { sent = inr (inl refl); version = refl; sender = refl; entered = λ g c e. absurd cc })
@@ -195,7 +213,9 @@ told_both = of_three with_asking (reported told_asking second) (reported told_as
 -- what it held of ann, which asked, is all that it names
 asking_alone : (g : Grain) (c : ℕ) → with_asking.firm g ≡ Some c → (a : ActivationId) × (only other g ≡ Some a)
 unfolding put put_at put_grain
-asking_alone g c = on_bool (λ b. option_map count_of (cond b (Some (Asking 1 1 None)) None) ≡ Some c → (a : ActivationId) × (cond b (Some other) None ≡ Some a)) (grain_eq g ann) (λ t e. (other, refl)) (λ t e. absurd cc)
+asking_alone g c =
+    on_bool (λ b. option_map count_of (cond b (Some (Asking 1 1 None)) None) ≡ Some c
+    → (a : ActivationId) × (cond b (Some other) None ≡ Some a)) (grain_eq g ann) (λ t e. (other, refl)) (λ t e. absurd cc)
 
 recovery_with_asking : MayRecover cluster (run cluster (Tell second ∷ Tell third ∷ []) told_asking) (settles_all (only other)) told_both
 unfolding put put_at put_grain
@@ -254,9 +274,15 @@ told_dropped = of_three (reported dropped first) (reported (run cluster looking 
 recovery_of_dropped : MayRecover cluster (run cluster (Tell first ∷ Tell third ∷ []) dropped) (settles_all (only two)) told_dropped
 unfolding put put_at put_grain
 recovery_of_dropped =
-    may_recover _ (only two) (reported dropped first) (reported (run cluster looking start) second) (reported dropped third) refl refl (λ h. refl)
+    may_recover _ (only two) (reported dropped first) (reported (run cluster looking start) second) (reported dropped third) refl refl
+    (λ h. refl)
     (record { sent = inr (inl refl); version = refl; sender = refl; entered = λ g c e. absurd cc })
-    (record { sent = inr (inr (inl refl)); version = refl; sender = refl; entered = ann_alone two (Some (Asking 1 1 None)) (Some (Firm 1)) })
+    (record {
+      sent = inr (inr (inl refl));
+      version = refl;
+      sender = refl;
+      entered = ann_alone two (Some (Asking 1 1 None)) (Some (Firm 1));
+    })
     (record { sent = inl refl; version = refl; sender = refl; entered = λ g c e. absurd cc })
     (only_told told_dropped two refl refl)
 

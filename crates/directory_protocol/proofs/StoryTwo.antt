@@ -48,7 +48,8 @@ grown = allowed_append cluster opening growing start opening_allowed growing_all
 -- the second silo's activation is registered and firm
 abbrev pub registering : List Action
 registering =
-    Start second ann None ∷ answers (registration 2 1 second 1 None) Registered (Some two) ∷ Confirm (reply Registered 2 1 second) ann (Asking 1 1 None) ∷ []
+    Start second ann None ∷ answers (registration 2 1 second 1 None) Registered (Some two) ∷ Confirm (reply Registered 2 1 second) ann
+    (Asking 1 1 None) ∷ []
 
 registering_allowed : AllAllowed cluster registering (run cluster (opening ++ growing) start)
 unfolding put put_at put_grain
@@ -155,7 +156,8 @@ looking_allowed = (
   ),
 )
 
-recovery_allowed : MayRecover cluster (run cluster (early ++ (looking ++ (Tell first ∷ Tell second ∷ Tell third ∷ []))) start) (settles_all (only two)) told
+recovery_allowed : MayRecover cluster (run cluster (early ++ (looking ++ (Tell first ∷ Tell second ∷ Tell third ∷ []))) start)
+    (settles_all (only two)) told
 unfolding put put_at put_grain
 recovery_allowed =
     may_recover _ (only two) (reported looked first) (reported looked second) (reported looked third) refl refl (λ h. refl)
@@ -176,12 +178,14 @@ recovers_entry = (
 -- ---- a migration
 
 abbrev migrating : List Action
-migrating = Offer_away second ann 1 ∷ Start first ann (Some two) ∷ answers (registration 2 1 first 1 (Some two)) Registered (Some (activation_on first 1)) ∷ []
+migrating =
+    Offer_away second ann 1 ∷ Start first ann (Some two) ∷ answers (registration 2 1 first 1 (Some two)) Registered
+    (Some (activation_on first 1)) ∷ []
 
 migrating_allowed : AllAllowed cluster migrating (run cluster early start)
 unfolding put put_at put_grain
 migrating_allowed = (
-  record { alive = refl; firm = refl },
+  record { alive = refl; held = refl; not_yet = refl },
   (
     record {
       alive = refl;

@@ -6,7 +6,7 @@ use Rattle.silo_address.specs.Grain.{Grain}
 use Rattle.silo_address.specs.declared.activation.ActivationId.{ActivationId}
 use Rattle.directory_protocol.specs.Setting.{Setting}
 use Rattle.directory_protocol.specs.Letters.{Answer, Registered, Taken, Removed, Purpose, Register, Deregister, purpose_of, Request, named, Reply, Snapshot, Report, Offer, Sent}
-use Rattle.directory_protocol.specs.World.{World, Held, Firm, outstanding}
+use Rattle.directory_protocol.specs.World.{World, Held, Firm, outstanding, is_closing}
 
 -- a silo sees a newer version: what it keeps settled, and what it seals for other silos
 pub record Sight : Type 0 where
@@ -35,8 +35,8 @@ pub data Action : Type 0 where
   See : Sight → Action
   -- a silo starts an activation, perhaps in place of one that was offered
   Start : (silo : Silo) → Grain → (previous : Option ActivationId) → Action
-  -- a silo closes its firm activation of that count
-  Close : (silo : Silo) → Grain → (count : ℕ) → Action
+  -- a silo closes an activation: a firm one, or one that asks, which it gives up
+  Close : (silo : Silo) → Grain → Held → Action
   -- a silo closes its firm activation of that count, and offers it
   Offer_away : (silo : Silo) → Grain → (count : ℕ) → Action
   -- a silo sends the outstanding request of an activation again, under a new number
@@ -78,10 +78,11 @@ pub record MayStart (m : Setting) (w : World) (s : Silo) (g : Grain) (previous :
   pub free : w.held s g ≡ None
   pub offered : (p : ActivationId) → previous ≡ Some p → IsOffered w g (w.seen s) p
 
--- the silo has a firm activation of that grain, of that count
-pub record MayClose (m : Setting) (w : World) (s : Silo) (g : Grain) (count : ℕ) : Type 0 where
+-- the silo holds that activation of the grain, which isn't closing yet
+pub record MayClose (m : Setting) (w : World) (s : Silo) (g : Grain) (x : Held) : Type 0 where
   pub alive : m.alive w.now s ≡ true
-  pub firm : w.held s g ≡ Some (Firm count)
+  pub held : w.held s g ≡ Some x
+  pub not_yet : is_closing x ≡ false
 
 pub record MayRenew (m : Setting) (w : World) (s : Silo) (g : Grain) (x : Held) (purpose : Purpose) : Type 0 where
   pub alive : m.alive w.now s ≡ true
@@ -167,8 +168,8 @@ abbrev pub Allowed : Setting → World → Action → Type 0
 Allowed m w New_view = Unit {0}
 Allowed m w (See x) = MaySee m w x
 Allowed m w (Start s g previous) = MayStart m w s g previous
-Allowed m w (Close s g count) = MayClose m w s g count
-Allowed m w (Offer_away s g count) = MayClose m w s g count
+Allowed m w (Close s g x) = MayClose m w s g x
+Allowed m w (Offer_away s g count) = MayClose m w s g (Firm count)
 Allowed m w (Renew s g x purpose) = MayRenew m w s g x purpose
 Allowed m w (Find s) = m.alive w.now s ≡ true
 Allowed m w (Serve x) = MayServe m w x

@@ -74,6 +74,7 @@ after_start w s g previous =
       requests = asked w Register s g (w.next_count s) previous ∷ w.requests;
     }
 
+-- the deregistration is numbered above the registration, if that is still outstanding
 abbrev pub after_close : World → Silo → Grain → ℕ → World
 after_close w s g count =
     after_asking w s g (Closing count (w.next_number s)) (asked w Deregister s g count None)
@@ -114,7 +115,7 @@ abbrev pub after : Setting → World → Action → World
 after m w New_view = record w { now = suc w.now }
 after m w (See x) = after_sight m w x
 after m w (Start s g previous) = after_start w s g previous
-after m w (Close s g count) = after_close w s g count
+after m w (Close s g x) = after_close w s g (count_of x)
 after m w (Offer_away s g count) = after_offer w s g count
 after m w (Renew s g x purpose) = after_renewal w s g x purpose
 after m w (Find s) = record w { next_number = put s (suc (w.next_number s)) w.next_number }

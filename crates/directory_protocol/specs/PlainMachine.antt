@@ -34,6 +34,8 @@ pub data PlainStep : Type 0 where
   Yield : Silo → Grain → (count : ℕ) → PlainStep
   -- a firm one becomes closing
   Begin_closing : Silo → Grain → (count : ℕ) → PlainStep
+  -- an asking one becomes closing
+  Give_up : Silo → Grain → (count : ℕ) → PlainStep
   -- a closing one goes
   End : Silo → Grain → (count : ℕ) → PlainStep
   Nothing_changes : PlainStep
@@ -68,6 +70,7 @@ IsPlainStep m p (Begin s g) q = IsBegun m p s g q
 IsPlainStep m p (Make_firm s g c) q = (p.lives s g ≡ Some (Is_asking c)) × ((t : Silo) (d : ℕ) → p.lives t g ≢ Some (Is_firm d)) × IsChanged p s g (Some (Is_firm c)) q
 IsPlainStep m p (Yield s g c) q = (p.lives s g ≡ Some (Is_asking c)) × IsChanged p s g None q
 IsPlainStep m p (Begin_closing s g c) q = (p.lives s g ≡ Some (Is_firm c)) × IsChanged p s g (Some (Is_closing c)) q
+IsPlainStep m p (Give_up s g c) q = (p.lives s g ≡ Some (Is_asking c)) × IsChanged p s g (Some (Is_closing c)) q
 IsPlainStep m p (End s g c) q = (p.lives s g ≡ Some (Is_closing c)) × IsChanged p s g None q
 IsPlainStep m p Nothing_changes q = IsSame p q
 
@@ -90,7 +93,9 @@ abbrev pub plain_step_of : Action → PlainStep
 plain_step_of New_view = Change_view
 plain_step_of (See x) = Nothing_changes
 plain_step_of (Start s g previous) = Begin s g
-plain_step_of (Close s g c) = Begin_closing s g c
+plain_step_of (Close s g (Asking c n previous)) = Give_up s g c
+plain_step_of (Close s g (Firm c)) = Begin_closing s g c
+plain_step_of (Close s g (Closing c n)) = Nothing_changes
 plain_step_of (Offer_away s g c) = Begin_closing s g c
 plain_step_of (Renew s g x purpose) = Nothing_changes
 plain_step_of (Find s) = Nothing_changes
@@ -110,4 +115,4 @@ StepsPlainly m w = (a : Action) → Allowed m w a → IsPlainStep m (plain_of m 
 -- a firm activation ceases to be firm only by its silo's death, and where its silo closes or offers it
 abbrev pub FirmUntilClosed : Setting → World → Type 0
 FirmUntilClosed m w =
-    (a : Action) → Allowed m w a → (g : Grain) (s : Silo) (c : ℕ) → IsFirmOn m w g s c → IsFirmOn m (after m w a) g s c ⊎ ((m.alive (after m w a).now s ≡ false) ⊎ ((a ≡ Close s g c) ⊎ (a ≡ Offer_away s g c)))
+    (a : Action) → Allowed m w a → (g : Grain) (s : Silo) (c : ℕ) → IsFirmOn m w g s c → IsFirmOn m (after m w a) g s c ⊎ ((m.alive (after m w a).now s ≡ false) ⊎ ((a ≡ Close s g (Firm c)) ⊎ (a ≡ Offer_away s g c)))

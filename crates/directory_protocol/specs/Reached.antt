@@ -1,14 +1,14 @@
 -- What can happen: worlds that some list of allowed actions reaches. So no guard asks what can never be met.
-use Rattle.std.specs.Prelude.{◌≡◌, ◌≢◌, ◌<◌, ◌≤◌, ℕ, suc, true, Some, List}
+use Rattle.std.specs.Prelude.{◌≡◌, ◌≢◌, ◌<◌, ◌≤◌, ℕ, suc, true, Some, None, List}
 use Rattle.silo_address.specs.Silo.{Silo}
 use Rattle.silo_address.specs.Grain.{Grain}
 use Rattle.silo_address.specs.declared.activation.ActivationId.{ActivationId}
 use Rattle.directory_protocol.specs.Setting.{Setting}
 use Rattle.directory_protocol.specs.Letters.{Register, Registered, Taken, Request, Reply, Snapshot, Report, Sent}
-use Rattle.directory_protocol.specs.World.{World, start, Held, count_of, outstanding, previous_of, surviving}
-use Rattle.directory_protocol.specs.Actions.{Action, Serve, Service, See, Confirm, Install, Recover, Sight, Settling, Counts, Allowed}
+use Rattle.directory_protocol.specs.World.{World, start, Held, Asking, count_of, outstanding, previous_of, surviving}
+use Rattle.directory_protocol.specs.Actions.{Action, Close, Serve, Service, See, Confirm, Install, Recover, Sight, Settling, Counts, Allowed}
 use Rattle.directory_protocol.specs.Safety.{IsFirmOn}
-use Rattle.directory_protocol.specs.Effects.{run, AllAllowed}
+use Rattle.directory_protocol.specs.Effects.{after, run, AllAllowed}
 
 -- in some setting, some list of allowed actions ends in such a world
 abbrev pub CanBe : (Setting → World → Type 0) → Type 0
@@ -43,11 +43,21 @@ abbrev pub FindsPlaceTaken : Setting → World → Action → Type 0
 FindsPlaceTaken m w a =
     (x : Service) × (t : Silo) × (c : ℕ) × (a ≡ Serve x) × (x.answer ≡ Taken) × IsFirmOn m w x.request.grain t c × (t ≢ x.request.sender)
 
+-- a silo would serve the request, but for its number
+abbrev pub IsOutdated : Setting → World → Silo → Request → Type 0
+IsOutdated m w s r = (m.alive w.now s ≡ true) × (w.seen s ≡ r.version) × (w.settled s (m.hash r.grain) ≡ true) × (r.number ≤ w.served s r.sender)
+
 -- a registration of an activation that its sender holds no more is refused for its number alone
 abbrev pub RefusesOldNumber : Setting → World → Type 0
 RefusesOldNumber m w =
-    (s : Silo) × (r : Request) × Sent r w.requests × (r.purpose ≡ Register) × ((x : Held) → w.held r.sender r.grain ≡ Some x → count_of x ≢ r.count)
-    × (m.alive w.now s ≡ true) × (w.seen s ≡ r.version) × (w.settled s (m.hash r.grain) ≡ true) × (r.number ≤ w.served s r.sender)
+    (s : Silo) × (r : Request) × Sent r w.requests × (r.purpose ≡ Register) × ((x : Held) → w.held r.sender r.grain ≡ Some x → count_of x ≢ r.count) × IsOutdated m w s r
+
+-- an activation that asks is given up: its registration, which comes late, is refused for its number alone, and nothing is
+-- entered
+abbrev pub GivesUpInTime : Setting → World → Action → Type 0
+GivesUpInTime m w a =
+    (s : Silo) × (r : Request) × (rest : List Action) × Sent r w.requests × (r.purpose ≡ Register) × (a ≡ Close r.sender r.grain (Asking r.count r.number r.previous))
+    × AllAllowed m rest (after m w a) × IsOutdated m (run m rest (after m w a)) s r × ((run m rest (after m w a)).table s r.grain ≡ None)
 
 -- a reply to an asking activation's silo, of the version that it has seen, has an older number than that activation's
 -- request, and counts for no activation there

@@ -1,6 +1,6 @@
 //! Nothing in the protocol is empty: what its guards allow really happens. Each law is shown by a run.
 
-ghost use Rattle.directory_protocol.specs.Reached.{CanBe, CanHappen, TransfersEntry, RecoversEntry, KeepsOverSkip, FindsPlaceTaken, Migrates, RefusesOldNumber, IgnoresStaleReply};
+ghost use Rattle.directory_protocol.specs.Reached.{CanBe, CanHappen, TransfersEntry, RecoversEntry, KeepsOverSkip, FindsPlaceTaken, Migrates, RefusesOldNumber, GivesUpInTime, IgnoresStaleReply};
 
 /// A snapshot brings an entry to the next owner.
 pub fn transfer_brings_an_entry()
@@ -30,6 +30,12 @@ pub fn taken_place_is_answered()
 /// A registration that comes again after its activation closed is refused for its number alone.
 pub fn old_number_is_refused()
     ensures { CanBe RefusesOldNumber }
+{}
+
+/// An activation that asks is given up. Its registration comes after the deregistration, and is refused for its number alone:
+/// nothing is entered.
+pub fn given_up_registration_comes_late()
+    ensures { CanHappen GivesUpInTime }
 {}
 
 /// A reply of the seen version counts for no activation of its receiver, for its number is an older one.

@@ -3,7 +3,7 @@
 
 ghost use Rattle.directory_protocol.specs.Safety.{OneSettles, SettledIsRight, OneFirm};
 ghost use Rattle.directory_protocol.specs.Loosened.{Breaks, SealedPieceStillServes, SkipKeepsPiecesNotOwned, RequestNumbersNotCompared, RegisterOverwrites, PreviousReplacesAnyEntry, DeregisterIgnoresTheActivation, StaleReplyAccepted, RecoveryCompletesAtFirstReport, OfferStartsAtALaggingSilo};
-ghost use Rattle.directory_protocol.specs.WrongSteps.{QueryAnsweredAtAnotherVersion, SkippedVersionStillReports, ReportHasAskingActivations, RecoveryDropsFirmActivations, SnapshotKeepsDeadSilos, OfferLeavesFirm};
+ghost use Rattle.directory_protocol.specs.WrongSteps.{QueryAnsweredAtAnotherVersion, SkippedVersionStillReports, ReportHasAskingActivations, RecoveryDropsFirmActivations, SnapshotKeepsDeadSilos, OfferLeavesFirm, CancelForgetsTheActivation, CancelHasAnOlderNumber};
 
 /// A silo keeps settled what it seals for the next owner: the hash is settled at two silos.
 pub fn sealed_piece_still_serves()
@@ -79,4 +79,16 @@ pub fn offer_leaves_firm()
 /// activation, and not the firm one that took its place.
 pub fn offer_starts_at_a_lagging_silo()
     ensures { Breaks OfferStartsAtALaggingSilo SettledIsRight }
+{}
+
+/// A silo gives up an activation that asks, and holds it no more: its registration comes late, and the table has an activation
+/// that its silo doesn't hold.
+pub fn cancel_forgets_the_activation()
+    ensures { Breaks CancelForgetsTheActivation SettledIsRight }
+{}
+
+/// A silo gives up an activation that asks under an older number: the registration is served after the deregistration, and the
+/// table has an activation that its silo doesn't hold.
+pub fn cancel_has_an_older_number()
+    ensures { Breaks CancelHasAnOlderNumber SettledIsRight }
 {}

@@ -20,6 +20,7 @@ pub mod Nodes
 pub mod Versions
 pub mod RequestNumbers
 pub mod Renewal
+pub mod GrainRenewal
 pub mod Numbered
 pub mod Throughout
 pub mod Worked

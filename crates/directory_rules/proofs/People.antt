@@ -23,7 +23,7 @@ use Rattle.membership_view.proofs.Kept.{whole-after}
 use Rattle.membership_view.proofs.Changes.{changes_are_steps}
 use Rattle.membership_view.proofs.Order.{Decides-shares}
 use Rattle.membership_view.proofs.Searches.{occupant_law}
-use Rattle.directory_rules.specs.Node.{Node}
+use Rattle.directory_rules.specs.State.{Node}
 use Rattle.directory_rules.specs.Laws.{is_live, ArePeopled}
 use Rattle.directory_rules.proofs.Cases.{on_bool}
 use Rattle.directory_rules.proofs.Tables.{lookup-remove_other}
@@ -37,33 +37,43 @@ abbrev now : ViewsValue → Silo → Option Status
 now views silo = status_at views views.version silo
 
 -- another silo's node is found as before
-at_other : (taken other : Silo) (nodes : List (Silo × Node)) → other ≢ taken → at other (remove_entry (is_at (silo_cmp taken)) nodes) ≡ at other nodes
+at_other : (taken other : Silo) (nodes : List (Silo × Node)) → other ≢ taken
+    → at other (remove_entry (is_at (silo_cmp taken)) nodes) ≡ at other nodes
 at_other taken other nodes differ =
-    lookup-remove_other (is_at (silo_cmp taken)) (is_at (silo_cmp other)) (λ k same. apart_in_order silo_cmp silo_cmp_exact other k (λ is. differ (is ∙ sym (silo_cmp_exact taken k (Equal-from (silo_cmp taken k) same))))) nodes
+    lookup-remove_other (is_at (silo_cmp taken)) (is_at (silo_cmp other))
+    (λ k same. apart_in_order silo_cmp silo_cmp_exact other k
+    (λ is. differ (is ∙ sym (silo_cmp_exact taken k (Equal-from (silo_cmp taken k) same))))) nodes
 
-at_put : (silo other : Silo) (node : Node) (nodes : List (Silo × Node)) → other ≢ silo → at other (insert_entry silo_cmp nodes silo node) ≡ at other nodes
+at_put : (silo other : Silo) (node : Node) (nodes : List (Silo × Node)) → other ≢ silo
+    → at other (insert_entry silo_cmp nodes silo node) ≡ at other nodes
 at_put silo other node nodes differ =
-    lookup-insert_entry silo_cmp_total silo node other nodes ∙ ap (λ b. cond b (Some node) (at other nodes)) (apart_in_order silo_cmp silo_cmp_exact other silo differ)
+    lookup-insert_entry silo_cmp_total silo node other nodes
+    ∙ ap (λ b. cond b (Some node) (at other nodes)) (apart_in_order silo_cmp silo_cmp_exact other silo differ)
 
-there_put : (silo other : Silo) (node : Node) (nodes : List (Silo × Node)) → other ≡ silo → is_some (at other (insert_entry silo_cmp nodes silo node)) ≡ true
+there_put : (silo other : Silo) (node : Node) (nodes : List (Silo × Node)) → other ≡ silo
+    → is_some (at other (insert_entry silo_cmp nodes silo node)) ≡ true
 there_put silo other node nodes same = subst (λ q. is_some (at q (insert_entry silo_cmp nodes silo node)) ≡ true) (sym same)
-    (ap is_some (lookup-insert_entry silo_cmp_total silo node silo nodes ∙ ap (λ (r : Ordering). cond (is_eq r) (Some node) (at silo nodes)) (tied_itself silo_cmp_total silo)))
+    (ap is_some (lookup-insert_entry silo_cmp_total silo node silo nodes
+    ∙ ap (λ (r : Ordering). cond (is_eq r) (Some node) (at silo nodes)) (tied_itself silo_cmp_total silo)))
 
 by_silo : (P : Type 0) (a b : Silo) → (a ≡ b → P) → (a ≢ b → P) → P
 by_silo P a b same differ = elim (decided (silo_eq a b) (Decides-silo a b)) [ inl is ↦ same is | inr not ↦ differ not ]
 
 -- a live silo's node is replaced
-pub peopled_put : (views : ViewsValue) (nodes : List (Silo × Node)) (silo : Silo) (old node : Node) → ArePeopled views nodes → at silo nodes ≡ Some old → ArePeopled views (insert_entry silo_cmp nodes silo node)
+pub peopled_put : (views : ViewsValue) (nodes : List (Silo × Node)) (silo : Silo) (old node : Node) → ArePeopled views nodes
+    → at silo nodes ≡ Some old → ArePeopled views (insert_entry silo_cmp nodes silo node)
 peopled_put views nodes silo old node are there = record {
   whole = are.whole;
   by_address = sorted-insert_entry silo_cmp_total silo node nodes are.by_address;
   live = λ q. by_silo (is_some (at q (insert_entry silo_cmp nodes silo node)) ≡ is_live (now views q)) q silo
-      (λ same. there_put silo q node nodes same ∙ subst (λ s. true ≡ is_live (now views s)) (sym same) (sym (ap is_some there) ∙ are.live silo))
+      (λ same. there_put silo q node nodes same ∙ subst (λ s. true ≡ is_live (now views s)) (sym same)
+      (sym (ap is_some there) ∙ are.live silo))
       (λ differ. ap is_some (at_put silo q node nodes differ) ∙ are.live q);
 }
 
 -- a silo begins to leave
-pub peopled_leave : (views next : ViewsValue) (nodes : List (Silo × Node)) (silo : Silo) → ArePeopled views nodes → after views (Leave silo) ≡ Ok next → ArePeopled next nodes
+pub peopled_leave : (views next : ViewsValue) (nodes : List (Silo × Node)) (silo : Silo) → ArePeopled views nodes
+    → after views (Leave silo) ≡ Ok next → ArePeopled next nodes
 peopled_leave views next nodes silo are is =
     let step : Leaves silo (view_at views views.version) (view_at next next.version) = changes_are_steps views (Leave silo) next (record { whole = are.whole; is = is }) in
     record {
@@ -75,7 +85,8 @@ peopled_leave views next nodes silo are is =
     }
 
 -- a silo dies
-pub peopled_death : (views next : ViewsValue) (nodes : List (Silo × Node)) (silo : Silo) → ArePeopled views nodes → after views (Die silo) ≡ Ok next → ArePeopled next (remove_entry (is_at (silo_cmp silo)) nodes)
+pub peopled_death : (views next : ViewsValue) (nodes : List (Silo × Node)) (silo : Silo) → ArePeopled views nodes
+    → after views (Die silo) ≡ Ok next → ArePeopled next (remove_entry (is_at (silo_cmp silo)) nodes)
 peopled_death views next nodes silo are is =
     let step : Dies silo (view_at views views.version) (view_at next next.version) = changes_are_steps views (Die silo) next (record { whole = are.whole; is = is }) in
     record {
@@ -103,16 +114,22 @@ abbrev pub without : Option Silo → List (Silo × Node) → List (Silo × Node)
 without None nodes = nodes
 without (Some old) nodes = remove_entry (is_at (silo_cmp old)) nodes
 
-without_sorted : (old : Option Silo) (nodes : List (Silo × Node)) → IsStrictlySortedBy silo_cmp (keys_of nodes) → IsStrictlySortedBy silo_cmp (keys_of (without old nodes))
+without_sorted : (old : Option Silo) (nodes : List (Silo × Node)) → IsStrictlySortedBy silo_cmp (keys_of nodes)
+    → IsStrictlySortedBy silo_cmp (keys_of (without old nodes))
 without_sorted None nodes sorted = sorted
 without_sorted (Some old) nodes sorted = sorted-remove_entry (is_at (silo_cmp old)) silo_cmp nodes sorted
 
 -- of the endpoint's silos only the one that is replaced has a node
-replaced_gone : (old : Option Silo) (nodes : List (Silo × Node)) (q : Silo) → IsStrictlySortedBy silo_cmp (keys_of nodes) → (is_some (at q nodes) ≡ true → old ≡ Some q) → is_some (at q (without old nodes)) ≡ false
-replaced_gone None nodes q sorted only = on_bool (λ b. is_some (at q nodes) ≡ b → b ≡ false) (is_some (at q nodes)) (λ t is. absurd (cc (only is))) (λ f is. refl) refl
+replaced_gone : (old : Option Silo) (nodes : List (Silo × Node)) (q : Silo) → IsStrictlySortedBy silo_cmp (keys_of nodes)
+    → (is_some (at q nodes) ≡ true → old ≡ Some q) → is_some (at q (without old nodes)) ≡ false
+replaced_gone None nodes q sorted only =
+    on_bool (λ b. is_some (at q nodes) ≡ b → b ≡ false) (is_some (at q nodes)) (λ t is. absurd (cc (only is))) (λ f is. refl) refl
 replaced_gone (Some old) nodes q sorted only = by_silo (is_some (at q (remove_entry (is_at (silo_cmp old)) nodes)) ≡ false) q old
-    (λ same. subst (λ s. is_some (at s (remove_entry (is_at (silo_cmp old)) nodes)) ≡ false) (sym same) (ap is_some (lookup_removed silo_cmp silo_cmp_total old nodes sorted)))
-    (λ differ. ap is_some (at_other old q nodes differ) ∙ on_bool (λ b. is_some (at q nodes) ≡ b → b ≡ false) (is_some (at q nodes)) (λ t is. absurd (differ (same_silo_of (only is)))) (λ f is. refl) refl) where
+    (λ same. subst (λ s. is_some (at s (remove_entry (is_at (silo_cmp old)) nodes)) ≡ false) (sym same)
+    (ap is_some (lookup_removed silo_cmp silo_cmp_total old nodes sorted)))
+    (λ differ. ap is_some (at_other old q nodes differ)
+    ∙ on_bool (λ b. is_some (at q nodes) ≡ b → b ≡ false) (is_some (at q nodes)) (λ t is. absurd (differ (same_silo_of (only is))))
+    (λ f is. refl) refl) where
       same_silo_of : Some old ≡ Some q → q ≡ old
       same_silo_of e = cc (e)
 
@@ -121,24 +138,33 @@ others_stay None nodes q not = refl
 others_stay (Some old) nodes q not = at_other old q nodes (λ same. not (ap Some (sym same)))
 
 -- a silo joins, and the older one of its endpoint, if there is one, goes
-pub peopled_join : (views next : ViewsValue) (nodes : List (Silo × Node)) (silo : Silo) (node : Node) → ArePeopled views nodes → after_join views silo ≡ Ok next
+pub peopled_join : (views next : ViewsValue) (nodes : List (Silo × Node)) (silo : Silo) (node : Node) → ArePeopled views nodes
+    → after_join views silo ≡ Ok next
     → ArePeopled next (insert_entry silo_cmp (without (occupant silo views.rows) nodes) silo node)
 peopled_join views next nodes silo node are is =
     let step : Joins silo (view_at views views.version) (view_at next next.version) = changes_are_steps views (Join silo) next (record { whole = are.whole; is = is }) in
     record {
       whole = whole-after views are.whole (Join silo) next is;
-      by_address = sorted-insert_entry silo_cmp_total silo node (without (occupant silo views.rows) nodes) (without_sorted (occupant silo views.rows) nodes are.by_address);
-      live = λ q. by_silo (is_some (at q (insert_entry silo_cmp (without (occupant silo views.rows) nodes) silo node)) ≡ is_live (now next q)) q silo
-          (λ same. there_put silo q node (without (occupant silo views.rows) nodes) same ∙ subst (λ s. true ≡ is_live (now next s)) (sym same) (sym (ap is_live step.joined)))
-          (λ differ. ap is_some (at_put silo q node (without (occupant silo views.rows) nodes) differ) ∙ elsewhere views next nodes silo q are step differ);
+      by_address =
+          sorted-insert_entry silo_cmp_total silo node (without (occupant silo views.rows) nodes)
+          (without_sorted (occupant silo views.rows) nodes are.by_address);
+      live =
+          λ q. by_silo (is_some (at q (insert_entry silo_cmp (without (occupant silo views.rows) nodes) silo node)) ≡ is_live (now next q))
+          q silo
+          (λ same. there_put silo q node (without (occupant silo views.rows) nodes) same
+          ∙ subst (λ s. true ≡ is_live (now next s)) (sym same) (sym (ap is_live step.joined)))
+          (λ differ. ap is_some (at_put silo q node (without (occupant silo views.rows) nodes) differ)
+          ∙ elsewhere views next nodes silo q are step differ);
     } where
-      elsewhere : (views next : ViewsValue) (nodes : List (Silo × Node)) (silo q : Silo) → ArePeopled views nodes → Joins silo (view_at views views.version) (view_at next next.version) → q ≢ silo
+      elsewhere : (views next : ViewsValue) (nodes : List (Silo × Node)) (silo q : Silo) → ArePeopled views nodes
+          → Joins silo (view_at views views.version) (view_at next next.version) → q ≢ silo
           → is_some (at q (without (occupant silo views.rows) nodes)) ≡ is_live (now next q)
       elsewhere views next nodes silo q are step differ =
           elim (decided (shares_endpoint silo q) (Decides-shares silo q)) [
             | inl same ↦ replaced_gone (occupant silo views.rows) nodes q are.by_address
                 (λ there. (occupant_law views are.whole silo q).1 (same, live_stands (now views q) (sym (are.live q) ∙ there)))
                 ∙ sym (ap is_live (step.older q same differ) ∙ not_live (now views q))
-            | inr apart ↦ ap is_some (others_stay (occupant silo views.rows) nodes q (λ stands. apart ((occupant_law views are.whole silo q).0 stands).0))
+            | inr apart ↦ ap is_some (others_stay (occupant silo views.rows) nodes q
+                (λ stands. apart ((occupant_law views are.whole silo q).0 stands).0))
                 ∙ are.live q ∙ sym (ap is_live (step.others q apart))
           ]

@@ -16,9 +16,11 @@ use Rattle.directory_rules.specs.Settings.{Settings, AreSettings}
 use Rattle.directory_rules.specs.World.{first_world}
 
 hashed_below : (silo : Silo) (points : ℕ) → All (λ place. place < circle) (hashed_places points silo)
-hashed_below silo points = All-map (λ place. place < circle) (λ index. hash_text (point_text silo index)) (range_with_len 0 points) (λ k d below. hash_below _)
+hashed_below silo points =
+    All-map (λ place. place < circle) (λ index. hash_text (point_text silo index)) (range_with_len 0 points) (λ k d below. hash_below _)
 
-places_below : (hashing : Hashing) (points : ℕ) (silo : Silo) (given : List ℕ) → All (λ place. place < circle) given → All (λ place. place < circle) (places_for hashing points silo given)
+places_below : (hashing : Hashing) (points : ℕ) (silo : Silo) (given : List ℕ) → All (λ place. place < circle) given
+    → All (λ place. place < circle) (places_for hashing points silo given)
 places_below Sha256 points silo given hashes = hashed_below silo points
 places_below Stated points silo given hashes = hashes
 
@@ -26,17 +28,20 @@ places_below Stated points silo given hashes = hashes
 abbrev adding : (counted some there : Bool) → PlacesValue → Result PlacesValue ℕ
 adding counted some there made = cond (not counted) (Err 402) (cond (not some) (Err 403) (cond there (Err 404) (Ok made)))
 
-accepted : (counted some there : Bool) (next made : PlacesValue) → adding counted some there made ≡ Ok next → IsTrue counted × IsTrue some × (made ≡ next)
+accepted : (counted some there : Bool) (next made : PlacesValue) → adding counted some there made ≡ Ok next
+    → IsTrue counted × IsTrue some × (made ≡ next)
 accepted false some there next made is = absurd (cc)
 accepted true false there next made is = absurd (cc)
 accepted true true true next made is = absurd (cc)
 accepted true true false next made is = (refl, refl, cc)
 
-pub places_kept : (places : PlacesValue) (silo : Silo) (given : List ℕ) (next : PlacesValue) → All (λ place. place < circle) given → IsPlaces places → after_add places silo given ≡ Ok next → IsPlaces next
+pub places_kept : (places : PlacesValue) (silo : Silo) (given : List ℕ) (next : PlacesValue) → All (λ place. place < circle) given
+    → IsPlaces places → after_add places silo given ≡ Ok next → IsPlaces next
 places_kept places silo given next hashes kept is =
     let fits = accepted (is_point_count places.hashing (length given)) (has_points places.hashing (length given)) (is_added places silo) next (with_silo places silo given) is in
     subst IsPlaces fits.2
-    (IsPlaces-with_silo places silo given (places_for places.hashing places.points silo given) kept fits.0 fits.1 refl (places_below places.hashing places.points silo given hashes))
+    (IsPlaces-with_silo places silo given (places_for places.hashing places.points silo given) kept fits.0 fits.1 refl
+    (places_below places.hashing places.points silo given hashes))
 
 -- before the first join
 pub first_places : (settings : Settings) → AreSettings settings → IsPlaces (first_world settings).places

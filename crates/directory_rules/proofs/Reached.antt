@@ -8,7 +8,7 @@ use Rattle.hash_ring.specs.Point.{IsOnCircle}
 use Rattle.hash_ring.specs.Places.{IsPlaces}
 use Rattle.directory_rules.specs.Settings.{Settings, AreSettings}
 use Rattle.directory_rules.specs.Event.{Event}
-use Rattle.directory_rules.specs.Node.{Node}
+use Rattle.directory_rules.specs.State.{Node}
 use Rattle.directory_rules.specs.Run.{run_from_start}
 use Rattle.directory_rules.specs.Laws.{NamesHashes, IsReached, NodesHoldOnce, SightsOfRunsAreOwned}
 use Rattle.directory_rules.proofs.PlacesRun.{places_kept, first_places}
@@ -25,13 +25,16 @@ owned_keeps = record {
 }
 
 -- places and nodes after such a run
-pub reached : (settings : Settings) (events : List Event) → AreSettings settings → All NamesHashes events → Each IsPlaces Owned (run_from_start settings events).world
-reached settings events in_range hashes = each_by NamesHashes IsPlaces Owned owned_keeps settings events (first_places settings in_range) hashes
+pub reached : (settings : Settings) (events : List Event) → AreSettings settings → All NamesHashes events
+    → Each IsPlaces Owned (run_from_start settings events).world
+reached settings events in_range hashes =
+    each_by NamesHashes IsPlaces Owned owned_keeps settings events (first_places settings in_range) hashes
 
 -- a node that is reached
 node_reached : (settings : Settings) (events : List Event) (silo : Silo) (node : Node) → IsReached settings events silo node → Owned node
 node_reached settings events silo node is =
-    of_found Owned (is_at (silo_cmp silo)) (run_from_start settings events).world.nodes node (reached settings events is.in_range is.hashes).nodes is.found
+    of_found Owned (is_at (silo_cmp silo)) (run_from_start settings events).world.nodes node
+    (reached settings events is.in_range is.hashes).nodes is.found
 
 pub nodes_hold_once : NodesHoldOnce
 nodes_hold_once settings events silo node is hash below =
@@ -39,4 +42,5 @@ nodes_hold_once settings events silo node is hash below =
 
 pub sights_of_runs : SightsOfRunsAreOwned
 sights_of_runs settings events silo node before view made is seen =
-    sights_are_owned node before view (run_from_start settings events).world.places made (node_reached settings events silo node is).on_circle (reached settings events is.in_range is.hashes).places seen
+    sights_are_owned node before view (run_from_start settings events).world.places made
+    (node_reached settings events silo node is).on_circle (reached settings events is.in_range is.hashes).places seen

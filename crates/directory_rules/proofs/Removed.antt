@@ -12,12 +12,15 @@ use Rattle.std.specs.declared.cmp.Ordering.TheVariants.{Less, Equal}
 use Rattle.texts.proofs.Orderings.{Equal-from}
 use Rattle.directory_rules.proofs.Cases.{on_bool}
 
-none_after : {K X : Type 0} (R : K → K → Ordering) (o : IsTotalOrder R) (k first : K) → R k first ≡ Equal → (es : List (K × X)) → AllByRecursion (λ y. R first y ≡ Less) (keys_of es) → lookup (is_at (R k)) es ≡ None
+none_after : {K X : Type 0} (R : K → K → Ordering) (o : IsTotalOrder R) (k first : K) → R k first ≡ Equal → (es : List (K × X))
+    → AllByRecursion (λ y. R first y ≡ Less) (keys_of es) → lookup (is_at (R k)) es ≡ None
 none_after R o k first same [] above = refl
 none_after R o k first same (e ∷ es) above =
-    ap (λ r. cond (is_eq r) (Some e.1) (lookup (is_at (R k)) es)) (o.congr k first e.0 same ∙ above.0) ∙ none_after R o k first same es above.1
+    ap (λ r. cond (is_eq r) (Some e.1) (lookup (is_at (R k)) es)) (o.congr k first e.0 same ∙ above.0)
+    ∙ none_after R o k first same es above.1
 
-pub lookup_removed : {K X : Type 0} (R : K → K → Ordering) (o : IsTotalOrder R) (k : K) (es : List (K × X)) → IsStrictlySortedBy R (keys_of es) → lookup (is_at (R k)) (remove_entry (is_at (R k)) es) ≡ None
+pub lookup_removed : {K X : Type 0} (R : K → K → Ordering) (o : IsTotalOrder R) (k : K) (es : List (K × X))
+    → IsStrictlySortedBy R (keys_of es) → lookup (is_at (R k)) (remove_entry (is_at (R k)) es) ≡ None
 unfolding IsStrictlySortedBy
 lookup_removed R o k [] sorted = refl
 lookup_removed R o k (e ∷ es) sorted =

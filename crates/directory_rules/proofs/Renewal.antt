@@ -12,16 +12,17 @@ use Rattle.directory_rules.specs.declared.act.Act.{Act}
 use Rattle.directory_rules.specs.declared.held.Held.{Held}
 use Rattle.directory_rules.specs.declared.held.Phase.{Phase}
 use Rattle.directory_rules.specs.declared.held.Phase.TheVariants.{Asking, Firm, Closing}
-use Rattle.directory_rules.specs.Host.{Host, act_in, held_acts, find_acts, outstanding, new_number, renewed_phase}
+use Rattle.directory_rules.specs.State.{Host}
+use Rattle.directory_rules.specs.Host.{act_in, held_acts, find_acts, outstanding, new_number, renewed_phase}
 use Rattle.directory_rules.proofs.Cases.{on_bool}
 use Rattle.directory_rules.proofs.RequestNumbers.{one, one_same, one_cases, times, times_append, times_put, times_put_least, times_put_most, length_put, with_number, numbers}
 
 -- ---- Numbers under a function that keeps them apart.
-each : (P : ℕ → Type 0) (ks : List ℕ) → ((k : ℕ) → 1 ≤ times k ks → P k) → AllByRecursion P ks
+pub each : (P : ℕ → Type 0) (ks : List ℕ) → ((k : ℕ) → 1 ≤ times k ks → P k) → AllByRecursion P ks
 each P [] h = tt
 each P (k ∷ ks) h = let same = one_same k in (h k (omega (same, arith)), each P ks (λ j there. h j (omega (there, arith))))
 
-never : (n : ℕ) (f : ℕ → ℕ) (ks : List ℕ) → AllByRecursion (λ k. f k ≢ n) ks → times n (map f ks) ≡ 0
+pub never : (n : ℕ) (f : ℕ → ℕ) (ks : List ℕ) → AllByRecursion (λ k. f k ≢ n) ks → times n (map f ks) ≡ 0
 never n f [] apart = refl
 never n f (k ∷ ks) apart =
     let later = never n f ks apart.1 in
@@ -73,21 +74,24 @@ module _ {X : Type 0} where
 
   pub rank_room : (k : ℕ) (es : List (ℕ × X)) → rank k es + times k (keys_of es) ≤ length es
   rank_room k [] = omega arith
-  rank_room k (e ∷ es) = let here = rank_cons k e es in let step = room_step e.0 k in let later = rank_room k es in omega (here, step, later, arith)
+  rank_room k (e ∷ es) =
+      let here = rank_cons k e es in let step = room_step e.0 k in let later = rank_room k es in omega (here, step, later, arith)
 
   pub rank_rises : (j k : ℕ) (es : List (ℕ × X)) → j < k → rank j es + times j (keys_of es) ≤ rank k es
   rank_rises j k [] lt = omega arith
   rank_rises j k (e ∷ es) lt =
-      let low = rank_cons j e es in let high = rank_cons k e es in let step = rise_step e.0 j k lt in let later = rank_rises j k es lt in omega (low, high, step, later, arith)
+      let low = rank_cons j e es in let high = rank_cons k e es in let step = rise_step e.0 j k lt in let later = rank_rises j k es lt in
+      omega (low, high, step, later, arith)
 
   -- ---- Each number that is put in is there.
-  abbrev put_all : List (ℕ × X) → List (ℕ × X) → List (ℕ × X)
+  abbrev pub put_all : List (ℕ × X) → List (ℕ × X) → List (ℕ × X)
   put_all es xs = fold (λ acts e. insert_entry nat_cmp acts e.0 e.1) es xs
 
   put_all_least : (n : ℕ) (es xs : List (ℕ × X)) → times n (keys_of es) ≤ times n (keys_of (put_all es xs))
   put_all_least n es [] = omega arith
   put_all_least n es (x ∷ xs) =
-      let first = times_put_least n es x.0 x.1 in let later = put_all_least n (insert_entry nat_cmp es x.0 x.1) xs in omega (first, later, arith)
+      let first = times_put_least n es x.0 x.1 in let later = put_all_least n (insert_entry nat_cmp es x.0 x.1) xs in
+      omega (first, later, arith)
 
   put_all_has : (n : ℕ) (es xs : List (ℕ × X)) → 1 ≤ times n (keys_of xs) → 1 ≤ times n (keys_of (put_all es xs))
   put_all_has n es [] some = omega (some, arith)
@@ -105,7 +109,8 @@ module _ {X : Type 0} where
       (λ f. let none = ltb-false 0 (times n (keys_of xs)) f in omega (none, both, least, some, arith))
 
   -- as many entries as are put in, where no two have one number
-  pub length_put_all : (es xs : List (ℕ × X)) → ((n : ℕ) → times n (keys_of xs) + times n (keys_of es) ≤ 1) → length (put_all es xs) ≡ length xs + length es
+  pub length_put_all : (es xs : List (ℕ × X)) → ((n : ℕ) → times n (keys_of xs) + times n (keys_of es) ≤ 1)
+      → length (put_all es xs) ≡ length xs + length es
   length_put_all es [] once = omega arith
   length_put_all es (x ∷ xs) once =
       let same = one_same x.0 in let few = once x.0 in
@@ -114,14 +119,16 @@ module _ {X : Type 0} where
       omega (new, all, arith)
 
 -- ---- The numbers of a host's requests.
-cons_act : (host : Host) (grain : Grain) (held : Held) (phase : Phase) (acts : List (ℕ × Act)) → keys_of (cons_option (act_in phase host grain held) acts) ≡ with_number phase (keys_of acts)
+cons_act : (host : Host) (grain : Grain) (held : Held) (phase : Phase) (acts : List (ℕ × Act))
+    → keys_of (cons_option (act_in phase host grain held) acts) ≡ with_number phase (keys_of acts)
 cons_act host grain held (Asking k) acts = refl
 cons_act host grain held Firm acts = refl
 cons_act host grain held (Closing k) acts = refl
 
 pub held_numbers : (host : Host) (es : List (Grain × Held)) → keys_of (filter_map (λ e. act_in e.1.phase host e.0 e.1) es) ≡ numbers es
 held_numbers host [] = refl
-held_numbers host (e ∷ es) = cons_act host e.0 e.1 e.1.phase (filter_map (λ x. act_in x.1.phase host x.0 x.1) es) ∙ ap (with_number e.1.phase) (held_numbers host es)
+held_numbers host (e ∷ es) =
+    cons_act host e.0 e.1 e.1.phase (filter_map (λ x. act_in x.1.phase host x.0 x.1) es) ∙ ap (with_number e.1.phase) (held_numbers host es)
 
 pub mapped_keys : {X Y : Type 0} (f : ℕ → ℕ) (g : X → Y) (es : List (ℕ × X)) → keys_of (map (λ e. (f e.0, g e.1)) es) ≡ map f (keys_of es)
 mapped_keys f g [] = refl
@@ -131,14 +138,17 @@ pub same_keys : {X Y : Type 0} (g : X → Y) (es : List (ℕ × X)) → keys_of 
 same_keys g [] = refl
 same_keys g (e ∷ es) = ap (λ ks. e.0 ∷ ks) (same_keys g es)
 
-renewed_phase_numbers : (host : Host) (phase : Phase) (ks : List ℕ) → with_number (renewed_phase host phase) (map (new_number host) ks) ≡ map (new_number host) (with_number phase ks)
+renewed_phase_numbers : (host : Host) (phase : Phase) (ks : List ℕ)
+    → with_number (renewed_phase host phase) (map (new_number host) ks) ≡ map (new_number host) (with_number phase ks)
 renewed_phase_numbers host (Asking k) ks = refl
 renewed_phase_numbers host Firm ks = refl
 renewed_phase_numbers host (Closing k) ks = refl
 
-pub renewed_numbers : (host : Host) (es : List (Grain × Held)) → numbers (map (λ e. (e.0, record e.1 { phase = renewed_phase host e.1.phase })) es) ≡ map (new_number host) (numbers es)
+pub renewed_numbers : (host : Host) (es : List (Grain × Held))
+    → numbers (map (λ e. (e.0, record e.1 { phase = renewed_phase host e.1.phase })) es) ≡ map (new_number host) (numbers es)
 renewed_numbers host [] = refl
-renewed_numbers host (e ∷ es) = ap (with_number (renewed_phase host e.1.phase)) (renewed_numbers host es) ∙ renewed_phase_numbers host e.1.phase (numbers es)
+renewed_numbers host (e ∷ es) =
+    ap (with_number (renewed_phase host e.1.phase)) (renewed_numbers host es) ∙ renewed_phase_numbers host e.1.phase (numbers es)
 
 -- the numbers of a host's requests: those of its activations, and those of its finds
 abbrev pub request_numbers : Host → List ℕ
@@ -152,13 +162,17 @@ shown host n some =
     (subst (λ ks. 1 ≤ times n (numbers host.held ++ ks)) (sym (same_keys _ host.finds)) some))
 
 -- the new numbers are as distinct as the old ones were
-pub renewed_once : (host : Host) → ((n : ℕ) → times n (request_numbers host) ≤ 1) → (n : ℕ) → times n (map (new_number host) (request_numbers host)) ≤ 1
+pub renewed_once : (host : Host) → ((n : ℕ) → times n (request_numbers host) ≤ 1) → (n : ℕ)
+    → times n (map (new_number host) (request_numbers host)) ≤ 1
 renewed_once host once n =
     once_mapped (new_number host) (λ k. 1 ≤ times k (keys_of (outstanding host)))
-    (λ j k there lt. let rises = rank_rises j k (outstanding host) lt in omega (rises, there, arith)) n (request_numbers host) (shown host) once
+    (λ j k there lt. let rises = rank_rises j k (outstanding host) lt in omega (rises, there, arith)) n (request_numbers host) (shown host)
+    once
 
 -- and lie below the host's new next number
-pub renewed_below : (host : Host) (n : ℕ) → host.next_number + length (outstanding host) ≤ n → times n (map (new_number host) (request_numbers host)) ≡ 0
+pub renewed_below : (host : Host) (n : ℕ) → host.next_number + length (outstanding host) ≤ n
+    → times n (map (new_number host) (request_numbers host)) ≡ 0
 renewed_below host n high =
     never n (new_number host) (request_numbers host)
-    (each (λ k. new_number host k ≢ n) (request_numbers host) (λ k there same. let room = rank_room k (outstanding host) in let is = shown host k there in omega (room, is, same, high, arith)))
+    (each (λ k. new_number host k ≢ n) (request_numbers host)
+    (λ k there same. let room = rank_room k (outstanding host) in let is = shown host k there in omega (room, is, same, high, arith)))

@@ -1,5 +1,5 @@
 -- The numbers of a host's requests, counted: how often a number occurs, before a change and after it.
-use Rattle.std.proofs.Common.{arith, ◌≡◌, refl, sym, ap, ◌∙◌, ℕ, List, [], ◌∷◌, ◌++◌, ◌+◌, ◌≤◌, length}
+use Rattle.std.proofs.Common.{arith, ◌≡◌, refl, sym, ap, ◌∙◌, ℕ, List, [], ◌∷◌, ◌++◌, ◌+◌, ◌≤◌, length, map}
 use Rattle.std.specs.Prelude.{Bool, cond, ◌==◌}
 use Rattle.std.specs.Ordering.{nat_cmp, match_ordering}
 use Rattle.std.specs.declared.cmp.Ordering.{Ordering}
@@ -51,8 +51,18 @@ times_phase n (Asking k) ks = omega arith
 times_phase n Firm ks = omega arith
 times_phase n (Closing k) ks = omega arith
 
+-- lists one behind the other, also with each number mapped, or each under its number
+pub times_mapped : (n : ℕ) (f : ℕ → ℕ) (xs ys : List ℕ) → times n (map f (xs ++ ys)) ≡ times n (map f xs) + times n (map f ys)
+times_mapped n f [] ys = omega arith
+times_mapped n f (x ∷ xs) ys = let later = times_mapped n f xs ys in omega (later, arith)
+
+pub times_keys : {X : Type 0} (n : ℕ) (xs ys : List (ℕ × X)) → times n (keys_of (xs ++ ys)) ≡ times n (keys_of xs) + times n (keys_of ys)
+times_keys n [] ys = omega arith
+times_keys n (x ∷ xs) ys = let later = times_keys n xs ys in omega (later, arith)
+
 -- an entry goes
-pub times_removed : (n : ℕ) (test : Grain → Bool) (es : List (Grain × Held)) → times n (numbers (remove_entry test es)) ≤ times n (numbers es)
+pub times_removed : (n : ℕ) (test : Grain → Bool) (es : List (Grain × Held))
+    → times n (numbers (remove_entry test es)) ≤ times n (numbers es)
 times_removed n test [] = omega arith
 times_removed n test (e ∷ es) =
     let here = times_phase n e.1.phase (numbers es) in
@@ -70,11 +80,13 @@ times_set n test (e ∷ es) held =
     let set = times_phase n held.phase (numbers es) in
     let there = times_phase n e.1.phase (numbers (set_value test es held)) in
     let later = times_set n test es held in
-    on_bool (λ b. times n (numbers (cond b ((e.0, held) ∷ es) (e ∷ set_value test es held))) ≤ times n (numbers (e ∷ es)) + times n (with_number held.phase [])) (test e.0)
+    on_bool (λ b. times n (numbers (cond b ((e.0, held) ∷ es) (e ∷ set_value test es held))) ≤ times n (numbers (e ∷ es)) + times n
+    (with_number held.phase [])) (test e.0)
     (λ t. omega (here, set, arith)) (λ f. omega (here, there, later, arith))
 
 -- an entry comes at the end
-pub times_pushed : (n : ℕ) (es : List (Grain × Held)) (e : Grain × Held) → times n (numbers (es ++ e ∷ [])) ≡ times n (numbers es) + times n (with_number e.1.phase [])
+pub times_pushed : (n : ℕ) (es : List (Grain × Held)) (e : Grain × Held)
+    → times n (numbers (es ++ e ∷ [])) ≡ times n (numbers es) + times n (with_number e.1.phase [])
 times_pushed n [] e = omega arith
 times_pushed n (x ∷ xs) e =
     let here = times_phase n x.1.phase (numbers xs) in
@@ -92,12 +104,14 @@ times_unfound n test (e ∷ es) =
 
 -- an entry comes under a number: then that number occurs, and no number occurs less often, nor another more often
 module _ {X : Type 0} where
-  pub times_put_most : (n : ℕ) (es : List (ℕ × X)) (k : ℕ) (x : X) → times n (keys_of (insert_entry nat_cmp es k x)) ≤ times n (keys_of es) + one n k
+  pub times_put_most : (n : ℕ) (es : List (ℕ × X)) (k : ℕ) (x : X)
+      → times n (keys_of (insert_entry nat_cmp es k x)) ≤ times n (keys_of es) + one n k
   times_put_most n [] k x = omega arith
   times_put_most n (e ∷ es) k x = by (nat_cmp k e.0) (times_put_most n es k x)
     where
       by : (r : Ordering) → times n (keys_of (insert_entry nat_cmp es k x)) ≤ times n (keys_of es) + one n k
-          → times n (keys_of (match_ordering r ((k, x) ∷ e ∷ es) ((e.0, x) ∷ es) (e ∷ insert_entry nat_cmp es k x))) ≤ times n (keys_of (e ∷ es)) + one n k
+          → times n (keys_of (match_ordering r ((k, x) ∷ e ∷ es) ((e.0, x) ∷ es) (e ∷ insert_entry nat_cmp es k x))) ≤ times n
+          (keys_of (e ∷ es)) + one n k
       by Less later = omega arith
       by Equal later = omega arith
       by Greater later = omega (later, arith)
@@ -107,7 +121,8 @@ module _ {X : Type 0} where
   times_put_least n (e ∷ es) k x = by (nat_cmp k e.0) (times_put_least n es k x)
     where
       by : (r : Ordering) → times n (keys_of es) ≤ times n (keys_of (insert_entry nat_cmp es k x))
-          → times n (keys_of (e ∷ es)) ≤ times n (keys_of (match_ordering r ((k, x) ∷ e ∷ es) ((e.0, x) ∷ es) (e ∷ insert_entry nat_cmp es k x)))
+          → times n (keys_of (e ∷ es)) ≤ times n (keys_of
+          (match_ordering r ((k, x) ∷ e ∷ es) ((e.0, x) ∷ es) (e ∷ insert_entry nat_cmp es k x)))
       by Less later = omega arith
       by Equal later = omega arith
       by Greater later = omega (later, arith)

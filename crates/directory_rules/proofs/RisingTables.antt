@@ -26,7 +26,8 @@ rising_sorted (entry ∷ entries) rise =
     let later = rising_sorted entries so.1 in
     (from entries so.0 later, later)
   where
-    from : (rest : List Entry) → is_before_first entry rest ≡ true → IsStrictlySortedBy grain_cmp (keys_of (table_of rest)) → AllByRecursion (λ y. grain_cmp entry.grain y ≡ Less) (keys_of (table_of rest))
+    from : (rest : List Entry) → is_before_first entry rest ≡ true → IsStrictlySortedBy grain_cmp (keys_of (table_of rest))
+        → AllByRecursion (λ y. grain_cmp entry.grain y ≡ Less) (keys_of (table_of rest))
     from [] before sorted = tt
     from (next ∷ rest) before sorted =
         let less = less_is (grain_cmp entry.grain next.grain) before in

@@ -18,8 +18,8 @@ use Rattle.directory_rules.specs.declared.reply.Why.{Why}
 use Rattle.directory_rules.specs.declared.reply.Why.TheVariants.{View, Unsettled, OldNumber, NotOwner}
 use Rattle.directory_rules.specs.declared.piece_state.PieceState.{PieceState}
 use Rattle.directory_rules.specs.declared.piece_state.PieceState.TheVariants.{Settled, Awaiting, Recovering}
-use Rattle.directory_rules.specs.Table.{Table, entry_at, with_entry, without_grain}
-use Rattle.directory_rules.specs.Piece.{Piece, Holding}
+use Rattle.directory_rules.specs.State.{Table, Piece, Holding}
+use Rattle.directory_rules.specs.Table.{entry_at, with_entry, without_grain}
 
 -- the stated number of a reason to ask again
 abbrev pub why_number : Why → ℕ

@@ -1,5 +1,5 @@
 -- A cache: hints where grains are, the most recent first.
-use Rattle.std.specs.Prelude.{ℕ, ◌&&◌, not, Bool, List, [], ◌∷◌, Option, take, filter}
+use Rattle.std.specs.Prelude.{ℕ, ◌&&◌, not, Bool, [], ◌∷◌, Option, take, filter}
 use Rattle.std.specs.Map.{lookup, remove_entry}
 use Rattle.silo_address.specs.Grain.{Grain, grain_eq}
 use Rattle.silo_address.specs.Activation.{activation_eq}
@@ -7,11 +7,7 @@ use Rattle.silo_address.specs.declared.ActivationId.{ActivationId}
 use Rattle.silo_address.specs.declared.Entry.{Entry}
 use Rattle.membership_view.specs.View.{ViewValue}
 use Rattle.directory_rules.specs.Members.{is_dead_in}
-
--- hints, no more than the capacity
-pub record Cache : Type 0 where
-  pub capacity : ℕ
-  pub pairs : List (Grain × ActivationId)
+use Rattle.directory_rules.specs.State.{Cache}
 
 -- a cache that has nothing yet
 abbrev pub new_cache : ℕ → Cache

@@ -4,23 +4,8 @@ use Rattle.std.specs.Cmp.Lexicographic.{pointwise}
 use Rattle.silo_address.specs.declared.Entry.{Entry}
 use Rattle.ring_range.specs.Range.{Range, range_eq}
 use Rattle.directory_rules.specs.Settings.{page_size}
-use Rattle.directory_rules.specs.Snapshot.{Page, digest_of}
-
--- what the first page says of the whole snapshot
-pub record Whole : Type 0 where
-  pub pages : ℕ
-  pub digest : List ℕ
-
--- what a new owner has of a snapshot so far
-pub record Gathering : Type 0 where
-  pub version : ℕ
-  pub range : Range
-  -- the number of the next page wanted
-  pub next : ℕ
-  -- none before the first page
-  pub whole : Option Whole
-  -- the entries of the pages had so far
-  pub entries : List Entry
+use Rattle.directory_rules.specs.State.{Page, Gathering, Whole}
+use Rattle.directory_rules.specs.Snapshot.{digest_of}
 
 -- no page had yet
 abbrev pub new_gathering : ℕ → Range → Gathering

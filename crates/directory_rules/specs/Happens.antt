@@ -12,14 +12,15 @@ use Rattle.hash_ring.specs.Places.{PlacesValue}
 use Rattle.directory_rules.specs.Members.{is_known_dead}
 use Rattle.directory_rules.specs.Membership as membership
 use Rattle.directory_rules.specs.Membership.{Change, Die, Membership, barred_by, changed, is_seeable, replaced_by, status_in}
-use Rattle.directory_rules.specs.Letter.{Letter, kind_of}
-use Rattle.directory_rules.specs.Node.{Node, new_node}
+use Rattle.directory_rules.specs.State.{Letter, Node, World, Posted, Accepted}
+use Rattle.directory_rules.specs.Letter.{kind_of}
+use Rattle.directory_rules.specs.Node.{new_node}
 use Rattle.directory_rules.specs.Event.{Event, Join, Leave, Kill, See, Do, Deliver, Lose}
 use Rattle.directory_rules.specs.declared.outcome.Happening.{Happening}
 use Rattle.directory_rules.specs.declared.outcome.Happening.TheVariants.{Joined, Left, Died, Saw, Did, Delivered, Lost}
 use Rattle.directory_rules.specs.Step.{Stepped}
 use Rattle.directory_rules.specs.Input.{Input, Does, Receives, sight_of, step}
-use Rattle.directory_rules.specs.World.{World, Posted, Accepted, membership_of, with_membership}
+use Rattle.directory_rules.specs.World.{membership_of, with_membership}
 use Rattle.directory_rules.specs.Mail.{letter_of, with_sent, has_room_for, span_of, with_delivered, with_lost}
 
 -- the node of a silo that isn't Dead

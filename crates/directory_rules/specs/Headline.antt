@@ -15,11 +15,9 @@ use Rattle.directory_rules.specs.declared.reply.Reply.TheVariants as reply
 use Rattle.directory_rules.specs.declared.reply.Why.{Why}
 use Rattle.directory_rules.specs.declared.piece_state.PieceState.TheVariants.{Settled}
 use Rattle.directory_rules.specs.Settings.{Settings, AreSettings}
-use Rattle.directory_rules.specs.Piece.{Piece}
+use Rattle.directory_rules.specs.State.{Piece, Node, World, Accepted}
 use Rattle.directory_rules.specs.Answer.{piece_with, answered}
 use Rattle.directory_rules.specs.Event.{Event, IsEvent}
-use Rattle.directory_rules.specs.Node.{Node}
-use Rattle.directory_rules.specs.World.{World, Accepted}
 use Rattle.directory_rules.specs.Happens.{happens}
 use Rattle.directory_rules.specs.Run.{run_from_start}
 use Rattle.directory_rules.specs.Settled.{HasNode, IsSettledAt, entries_with, IsFirmOn, IsRightTable, IsRightOnLive}

@@ -1,11 +1,11 @@
 -- A silo as the host of activations. It has the activations that it holds and the finds that it has outstanding.
-use Rattle.std.specs.Prelude.{ℕ, ◌+◌, ◌==◌, ◌&&◌, nat_lt, nat_le, is_some, Bool, true, false, List, [], ◌∷◌, ◌++◌, Option, Some, None, length, map, fold, filter, count_by, find}
+use Rattle.std.specs.Prelude.{ℕ, ◌+◌, ◌==◌, ◌&&◌, nat_lt, nat_le, not, is_some, Bool, true, false, if◌then◌else◌, List, [], ◌∷◌, ◌++◌, Option, Some, None, length, map, fold, filter, count_by, find}
 use Rattle.std.specs.Ordering.{nat_cmp}
 use Rattle.std.specs.List.{filter_map}
 use Rattle.std.specs.Map.{lookup, set_value, remove_entry}
 use Rattle.std.specs.BTreeMap.{is_at, insert_entry}
 use Rattle.silo_address.specs.Silo.{Silo}
-use Rattle.silo_address.specs.Grain.{Grain, grain_cmp}
+use Rattle.silo_address.specs.Grain.{Grain, grain_cmp, grain_eq}
 use Rattle.silo_address.specs.declared.ActivationId.{ActivationId}
 use Rattle.silo_address.specs.declared.Entry.{Entry}
 use Rattle.ring_range.specs.Range.{Range, holds}
@@ -18,17 +18,7 @@ use Rattle.directory_rules.specs.declared.held.Phase.{Phase}
 use Rattle.directory_rules.specs.declared.held.Phase.TheVariants.{Asking, Firm, Closing}
 use Rattle.directory_rules.specs.Settings.{Settings}
 use Rattle.directory_rules.specs.Table.{with_entry, entries_of}
-
--- what a host has
-pub record Host : Type 0 where
-  pub silo : Silo
-  -- the number of its next request, and the count of its next activation
-  pub next_number : ℕ
-  pub next_count : ℕ
-  -- the activations, under their grains, in the order in which they began
-  pub held : List (Grain × Held)
-  -- the outstanding finds, under their numbers, in order
-  pub finds : List (ℕ × Grain)
+use Rattle.directory_rules.specs.State.{Host}
 
 -- a host that has nothing yet
 abbrev pub new_host : Silo → Host
@@ -60,12 +50,30 @@ is_firm (Asking number) = false
 is_firm Firm = true
 is_firm (Closing number) = false
 
+-- whether it asks
+abbrev pub is_asking : Phase → Bool
+is_asking (Asking number) = true
+is_asking Firm = false
+is_asking (Closing number) = false
+
+-- whether it closes
+abbrev pub is_closing : Phase → Bool
+is_closing (Asking number) = false
+is_closing Firm = false
+is_closing (Closing number) = true
+
 -- the entries of the firm activations that are hashed into the range, in the order of their grains
 abbrev pub firm_entries : Hashing → Host → Range → List Entry
 firm_entries hashing host range =
     entries_of (fold with_entry [] (map (λ e. entry_of host e.0 e.1) (filter (λ e. is_firm e.1.phase && holds range (hash_grain hashing e.0)) host.held)))
 
 -- What is outstanding: a request for each activation that asks or closes, and each find.
+
+-- the grain that an act is about
+abbrev pub grain_of : Act → Grain
+grain_of (act.Register entry previous) = entry.grain
+grain_of (act.Deregister entry) = entry.grain
+grain_of (act.Find grain) = grain
 
 -- the request of an activation, under its number
 abbrev pub act_in : Phase → Host → Grain → Held → Option (ℕ × Act)
@@ -117,11 +125,15 @@ with_started host grain previous = record host {
   held = host.held ++ (grain, next_held host previous) ∷ [];
 }
 
+-- the activation, closing under the next number: it asks for no other's place any more
+abbrev pub next_closing : Host → Held → Held
+next_closing host held = record held { phase = Closing host.next_number; previous = None }
+
 -- an activation asks to be taken out
 abbrev pub with_closing : Host → Grain → Held → Host
 with_closing host grain held = record host {
   next_number = host.next_number + 1;
-  held = set_value (is_at (grain_cmp grain)) host.held (record held { phase = Closing host.next_number });
+  held = set_value (is_at (grain_cmp grain)) host.held (next_closing host held);
 }
 
 -- the host asks where a grain is
@@ -153,6 +165,34 @@ renewed host = record host {
   next_number = host.next_number + length (outstanding host);
   held = map (λ e. (e.0, record e.1 { phase = renewed_phase host e.1.phase })) host.held;
   finds = map (λ e. (new_number host e.0, e.1)) host.finds;
+}
+
+-- Renewal of what is outstanding about one grain, alone.
+
+-- the outstanding requests about the grain, under their numbers, in order
+abbrev pub requests_about : Grain → Host → List (ℕ × Act)
+requests_about grain host = filter (λ e. grain_eq (grain_of e.1) grain) (outstanding host)
+
+-- the new number of the request about the grain that has this one
+abbrev pub new_number_about : Grain → Host → ℕ → ℕ
+new_number_about grain host number = host.next_number + count_by (λ e. nat_lt e.0 number) (requests_about grain host)
+
+-- the phase, its request under the new number
+abbrev pub phase_renewed_about : Grain → Host → Phase → Phase
+phase_renewed_about grain host (Asking number) = Asking (new_number_about grain host number)
+phase_renewed_about grain host Firm = Firm
+phase_renewed_about grain host (Closing number) = Closing (new_number_about grain host number)
+
+-- the activation of the grain has its request under the new number; any other is as it was
+abbrev pub held_renewed_about : Grain → Host → Grain → Held → Held
+held_renewed_about grain host its held = record held { phase = if grain_eq its grain then phase_renewed_about grain host held.phase else held.phase }
+
+-- the host, each outstanding request about the grain under its new number, and the others as they were
+abbrev pub renewed_about : Grain → Host → Host
+renewed_about grain host = record host {
+  next_number = host.next_number + length (requests_about grain host);
+  held = map (λ e. (e.0, held_renewed_about grain host e.0 e.1)) host.held;
+  finds = filter (λ e. not (grain_eq e.1 grain)) host.finds ++ map (λ e. (new_number_about grain host e.0, e.1)) (filter (λ e. grain_eq e.1 grain) host.finds);
 }
 
 -- Which request a reply is to.

@@ -4,11 +4,10 @@ use Rattle.membership_view.specs.View.{ViewValue}
 use Rattle.membership_view.specs.Views.{view_at}
 use Rattle.hash_ring.specs.Places.{PlacesValue}
 use Rattle.directory_rules.specs.declared.own_step.OwnStep.{OwnStep}
-use Rattle.directory_rules.specs.declared.own_step.OwnStep.TheVariants.{Wake, Close, Find, Forget, Nudge, Offer}
+use Rattle.directory_rules.specs.declared.own_step.OwnStep.TheVariants.{Wake, Close, Cancel, Find, Forget, Nudge, NudgeGrain, NudgeRanges, Offer}
 use Rattle.directory_rules.specs.Membership.{Membership}
-use Rattle.directory_rules.specs.Letter.{Letter}
-use Rattle.directory_rules.specs.Node.{Node}
-use Rattle.directory_rules.specs.Step.{Stepped, see, wake, close, find_grain, forget, nudge, offer}
+use Rattle.directory_rules.specs.State.{Letter, Node}
+use Rattle.directory_rules.specs.Step.{Stepped, see, wake, close, cancel, find_grain, forget, nudge, nudge_grain, nudge_ranges, offer}
 use Rattle.directory_rules.specs.Receive.{received}
 
 -- an input of a silo's step
@@ -23,9 +22,12 @@ pub data Input : Type 0 where
 abbrev pub own_step : Node → OwnStep → Result Stepped ℕ
 own_step node (Wake grain) = wake node grain
 own_step node (Close grain) = close node grain
+own_step node (Cancel grain) = cancel node grain
 own_step node (Find grain) = find_grain node grain
 own_step node (Forget grain) = Ok (forget node grain)
 own_step node Nudge = nudge node
+own_step node (NudgeGrain grain) = nudge_grain node grain
+own_step node NudgeRanges = Ok (nudge_ranges node)
 own_step node (Offer grain to) = offer node grain to
 
 -- what the node does with the input, or the number by which it is refused

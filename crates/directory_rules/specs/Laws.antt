@@ -24,15 +24,12 @@ use Rattle.directory_rules.specs.declared.reply.Why.{Why}
 use Rattle.directory_rules.specs.declared.reply.Reply.TheVariants.{Retry}
 use Rattle.directory_rules.specs.declared.piece_state.PieceState.TheVariants.{Settled}
 use Rattle.directory_rules.specs.Settings.{Settings, AreSettings}
-use Rattle.directory_rules.specs.Piece.{Piece, Holding}
-use Rattle.directory_rules.specs.Snapshot.{Snapshot}
+use Rattle.directory_rules.specs.State.{Piece, Holding, Snapshot, Host, Node, Posted, World, Accepted}
 use Rattle.directory_rules.specs.Sight.{is_settled, was_settled, is_owner, sealed}
 use Rattle.directory_rules.specs.Answer.{piece_with, answered}
-use Rattle.directory_rules.specs.Host.{Host, held_acts, find_acts, outstanding}
-use Rattle.directory_rules.specs.Node.{Node}
+use Rattle.directory_rules.specs.Host.{held_acts, find_acts, outstanding}
 use Rattle.directory_rules.specs.Step.{Stepped, see}
 use Rattle.directory_rules.specs.Event.{Event, Join, Leave, Kill, See, Do, Deliver, Lose}
-use Rattle.directory_rules.specs.World.{Posted, World, Accepted}
 use Rattle.directory_rules.specs.Mail.{letter_of}
 use Rattle.directory_rules.specs.Happens.{happens, node_of}
 use Rattle.directory_rules.specs.Run.{run, run_from_start}

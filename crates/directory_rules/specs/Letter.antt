@@ -1,46 +1,11 @@
 -- Letters: what silos send one another.
-use Rattle.std.specs.Prelude.{ℕ}
-use Rattle.silo_address.specs.Silo.{Silo}
-use Rattle.silo_address.specs.declared.Entry.{Entry}
-use Rattle.ring_range.specs.Range.{Range}
 use Rattle.directory_rules.specs.declared.act.Act.{Act}
 use Rattle.directory_rules.specs.declared.act.Act.TheVariants as act
-use Rattle.directory_rules.specs.declared.act.Request.{Request}
 use Rattle.directory_rules.specs.declared.reply.Reply.{Reply}
 use Rattle.directory_rules.specs.declared.reply.Reply.TheVariants as reply
 use Rattle.directory_rules.specs.declared.letter_kind.LetterKind.{LetterKind}
 use Rattle.directory_rules.specs.declared.letter_kind.LetterKind.TheVariants as kind
-use Rattle.directory_rules.specs.Snapshot.{Page}
-use Rattle.directory_rules.specs.Recovery.{Report}
-
--- what a letter says
-pub data Body : Type 0 where
-  -- a silo to an owner, and back under the request's number
-  Request_letter : Request → Body
-  Reply_letter : (number : ℕ) → Reply → Body
-  -- a new owner to the previous one, for a page of a snapshot
-  Ask_letter : Range → (page : ℕ) → Body
-  -- the previous owner's answers
-  Page_letter : Page → Body
-  Missing_letter : Range → Body
-  -- the new owner has the whole snapshot
-  Done_letter : Range → Body
-  -- an owner to any silo, for what it has firm, and the answer
-  Query_letter : Range → Body
-  Report_letter : Report → Body
-  -- the asked silo has not seen the version yet, or has passed it
-  Behind_letter : Range → Body
-  Ahead_letter : Range → Body
-  -- a silo to one that is to start an activation in place of this one
-  Offer_letter : Entry → Body
-
--- a letter
-pub record Letter : Type 0 where
-  pub from : Silo
-  pub to : Silo
-  -- a request, a reply and an offer have the version that their sender had seen; the others that of the transfer or recovery
-  pub version : ℕ
-  pub body : Body
+use Rattle.directory_rules.specs.State.{Page, Report, Ahead_letter, Ask_letter, Behind_letter, Body, Done_letter, Missing_letter, Offer_letter, Page_letter, Query_letter, Reply_letter, Report_letter, Request_letter}
 
 -- the kind of a request's letter, by its act
 abbrev pub act_kind : Act → LetterKind

@@ -1,9 +1,9 @@
 pub mod Settings
 pub mod SettingsFields
+pub mod State
 pub mod Members
 pub mod Membership
 pub mod Table
-pub mod Piece
 pub mod Snapshot
 pub mod Gatherings
 pub mod Recovery

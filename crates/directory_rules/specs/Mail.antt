@@ -5,9 +5,8 @@ use Rattle.std.specs.Ordering.{nat_cmp}
 use Rattle.std.specs.List.{enumerate_from}
 use Rattle.std.specs.Map.{lookup, set_value, remove_entry}
 use Rattle.std.specs.BTreeMap.{is_at}
-use Rattle.directory_rules.specs.Letter.{Letter}
+use Rattle.directory_rules.specs.State.{Letter, Posted, World}
 use Rattle.directory_rules.specs.declared.outcome.Span.{Span}
-use Rattle.directory_rules.specs.World.{Posted, World}
 
 -- the letter of that number, if it is in the mail
 abbrev pub letter_of : World → ℕ → Option Letter

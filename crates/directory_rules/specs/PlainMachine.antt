@@ -15,10 +15,9 @@ use Rattle.directory_rules.specs.declared.effect.Effect.{Effect}
 use Rattle.directory_rules.specs.declared.effect.Effect.TheVariants as effect
 use Rattle.directory_rules.specs.Members.{is_dead_in}
 use Rattle.directory_rules.specs.Host.{held_of}
-use Rattle.directory_rules.specs.Node.{Node}
+use Rattle.directory_rules.specs.State.{Node, World}
 use Rattle.directory_rules.specs.declared.outcome.Happening.{Happening}
 use Rattle.directory_rules.specs.declared.outcome.Happening.TheVariants.{Joined, Left, Died, Saw, Did, Delivered, Lost}
-use Rattle.directory_rules.specs.World.{World}
 use Rattle.directory_rules.specs.Happens.{node_of}
 
 -- an activation's phase, and the count that tells it on its silo
@@ -42,6 +41,7 @@ pub data PlainStep : Type 0 where
   Make_firm : PlainStep
   Yield : PlainStep
   Begin_closing : PlainStep
+  Give_up : PlainStep
   End : PlainStep
   Nothing_changes : PlainStep
 
@@ -92,13 +92,17 @@ pub record BecomesFirm (p q : Plain) : Type 0 where
   pub goes : Goes p silo grain (Is_asking count) (Some (Is_firm count)) q
   pub alone : (s : Silo) (other : ℕ) → p.lives s grain ≢ Some (Is_firm other)
 
--- an asking one goes; a firm one becomes closing; a closing one goes
+-- an asking one goes
 abbrev pub Yields : Plain → Plain → Type 0
 Yields p q = (silo : Silo) × (grain : Grain) × (count : ℕ) × Goes p silo grain (Is_asking count) None q
 
 -- a firm one becomes closing
 abbrev pub BeginsToClose : Plain → Plain → Type 0
 BeginsToClose p q = (silo : Silo) × (grain : Grain) × (count : ℕ) × Goes p silo grain (Is_firm count) (Some (Is_closing count)) q
+
+-- an asking one becomes closing
+abbrev pub IsGivenUp : Plain → Plain → Type 0
+IsGivenUp p q = (silo : Silo) × (grain : Grain) × (count : ℕ) × Goes p silo grain (Is_asking count) (Some (Is_closing count)) q
 
 -- a closing one goes
 abbrev pub Ends : Plain → Plain → Type 0
@@ -111,6 +115,7 @@ IsPlainStep p Begin q = Begins p q
 IsPlainStep p Make_firm q = BecomesFirm p q
 IsPlainStep p Yield q = Yields p q
 IsPlainStep p Begin_closing q = BeginsToClose p q
+IsPlainStep p Give_up q = IsGivenUp p q
 IsPlainStep p End q = Ends p q
 IsPlainStep p Nothing_changes q = IsSame p q
 
@@ -142,6 +147,7 @@ plain_of world = record {
 abbrev pub step_of_effect : Effect → PlainStep
 step_of_effect (effect.Started entry) = Begin
 step_of_effect (effect.Closing entry) = Begin_closing
+step_of_effect (effect.Cancelled entry) = Give_up
 step_of_effect (effect.Offered entry to) = Begin_closing
 step_of_effect effect.Firm = Make_firm
 step_of_effect effect.Yielded = Yield

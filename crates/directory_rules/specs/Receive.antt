@@ -10,8 +10,7 @@ use Rattle.directory_rules.specs.declared.effect.Effect.{Effect}
 use Rattle.directory_rules.specs.declared.effect.Effect.TheVariants as effect
 use Rattle.directory_rules.specs.Answer.{Answered, answered}
 use Rattle.directory_rules.specs.Host.{held_of, has_numbers, has_count, is_full_of_activations}
-use Rattle.directory_rules.specs.Letter.{Body, Request_letter, Reply_letter, Ask_letter, Page_letter, Missing_letter, Done_letter, Query_letter, Report_letter, Behind_letter, Ahead_letter, Offer_letter, Letter}
-use Rattle.directory_rules.specs.Node.{Node}
+use Rattle.directory_rules.specs.State.{Body, Request_letter, Reply_letter, Ask_letter, Page_letter, Missing_letter, Done_letter, Query_letter, Report_letter, Behind_letter, Ahead_letter, Offer_letter, Letter, Node}
 use Rattle.directory_rules.specs.Sent.{letter_to}
 use Rattle.directory_rules.specs.Step.{Stepped, silently, started}
 use Rattle.directory_rules.specs.Reply.{replied}

@@ -7,24 +7,8 @@ use Rattle.silo_address.specs.declared.Entry.{Entry}
 use Rattle.membership_view.specs.View.{ViewValue}
 use Rattle.ring_range.specs.Range.{Range, range_eq}
 use Rattle.directory_rules.specs.Members.{members_of}
-use Rattle.directory_rules.specs.Table.{Table, entry_at, with_entry}
-
--- a silo's firm activations with their hashes in a range, when it had seen a version
-pub record Report : Type 0 where
-  pub version : ℕ
-  pub range : Range
-  pub silo : Silo
-  -- in the order of their grains
-  pub entries : List Entry
-
--- what an owner has been reported so far
-pub record Recovery : Type 0 where
-  pub version : ℕ
-  pub range : Range
-  -- the silos that haven't reported yet, and those that have, by address
-  pub awaiting : List Silo
-  pub reported : List Silo
-  pub gathered : Table
+use Rattle.directory_rules.specs.State.{Table, Recovery, Report}
+use Rattle.directory_rules.specs.Table.{entry_at, with_entry}
 
 -- each silo of the view that isn't Dead there is awaited
 abbrev pub new_recovery : ViewValue → Range → Recovery

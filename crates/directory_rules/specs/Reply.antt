@@ -8,7 +8,7 @@ use Rattle.directory_rules.specs.declared.reply.Reply.TheVariants as reply
 use Rattle.directory_rules.specs.declared.effect.Effect.TheVariants.{Firm, Yielded, Ended, Learnt, Noted, Ignored}
 use Rattle.directory_rules.specs.Host.{asking_under, closing_under, is_finding, is_outstanding, confirmed, without_held, without_find}
 use Rattle.directory_rules.specs.Cache.{learnt}
-use Rattle.directory_rules.specs.Node.{Node}
+use Rattle.directory_rules.specs.State.{Node}
 use Rattle.directory_rules.specs.Step.{Stepped, silently}
 
 -- the asking activation is firm

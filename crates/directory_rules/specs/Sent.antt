@@ -10,25 +10,17 @@ use Rattle.ring_range.specs.Range.{Range}
 use Rattle.hash_ring.specs.Hash.{hash_grain}
 use Rattle.range_moves.specs.Arcs.{owner_silo}
 use Rattle.directory_rules.specs.declared.act.Act.{Act}
-use Rattle.directory_rules.specs.declared.act.Act.TheVariants.{Register, Deregister, Find}
 use Rattle.directory_rules.specs.declared.act.Request.{Request}
 use Rattle.directory_rules.specs.declared.piece_state.PieceState.{PieceState}
 use Rattle.directory_rules.specs.declared.piece_state.PieceState.TheVariants.{Settled, Awaiting, Recovering}
-use Rattle.directory_rules.specs.Gatherings.{Gathering, new_gathering}
-use Rattle.directory_rules.specs.Recovery.{Recovery, new_recovery}
-use Rattle.directory_rules.specs.Host.{outstanding}
-use Rattle.directory_rules.specs.Letter.{Body, Request_letter, Ask_letter, Query_letter, Letter}
-use Rattle.directory_rules.specs.Node.{Node}
+use Rattle.directory_rules.specs.State.{Gathering, Recovery, Body, Request_letter, Ask_letter, Query_letter, Letter, Node}
+use Rattle.directory_rules.specs.Gatherings.{new_gathering}
+use Rattle.directory_rules.specs.Recovery.{new_recovery}
+use Rattle.directory_rules.specs.Host.{outstanding, requests_about, grain_of}
 
 -- a letter of the node, of the version that it has seen
 abbrev pub letter_to : Silo → Node → Body → Letter
 letter_to silo node body = record { from = node.host.silo; to = silo; version = node.view.version; body = body }
-
--- the grain that an act is about
-abbrev pub grain_of : Act → Grain
-grain_of (Register entry previous) = entry.grain
-grain_of (Deregister entry) = entry.grain
-grain_of (Find grain) = grain
 
 -- the hash of the grain that an act is about
 abbrev pub hash_of : Node → Act → ℕ
@@ -60,6 +52,10 @@ request_letters node number act = letter_if_owned (owner_by node (hash_of node a
 -- the letters of all outstanding requests, by number
 abbrev pub all_requests : Node → List Letter
 all_requests node = flat_map (λ e. request_letters node e.0 e.1) (outstanding node.host)
+
+-- and of those about one grain
+abbrev pub requests_of_grain : Node → Grain → List Letter
+requests_of_grain node grain = flat_map (λ e. request_letters node e.0 e.1) (requests_about grain node.host)
 
 -- what has been gathered for the piece, and what has been reported for it
 abbrev pub gathering_of : Node → Range → Gathering

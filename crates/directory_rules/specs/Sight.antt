@@ -14,9 +14,8 @@ use Rattle.range_moves.specs.declared.RingArc.{RingArc}
 use Rattle.directory_rules.specs.declared.piece_state.PieceState.{PieceState}
 use Rattle.directory_rules.specs.declared.piece_state.PieceState.TheVariants.{Settled, Awaiting, Recovering}
 use Rattle.directory_rules.specs.Members.{is_dead_in}
-use Rattle.directory_rules.specs.Table.{Table, with_entry, entries_of}
-use Rattle.directory_rules.specs.Piece.{Piece}
-use Rattle.directory_rules.specs.Snapshot.{Snapshot}
+use Rattle.directory_rules.specs.State.{Table, Piece, Snapshot}
+use Rattle.directory_rules.specs.Table.{with_entry, entries_of}
 
 -- whether the state is settled
 abbrev pub is_settled : PieceState → Bool

@@ -8,26 +8,7 @@ use Rattle.silo_address.specs.ActivationText.{activation_text}
 use Rattle.silo_address.specs.declared.Entry.{Entry}
 use Rattle.ring_range.specs.Range.{Range, range_eq}
 use Rattle.directory_rules.specs.Settings.{page_size}
-
--- a silo's shelf has its snapshots, in the order in which they were sealed
-pub record Snapshot : Type 0 where
-  pub version : ℕ
-  pub range : Range
-  pub from : Silo
-  pub to : Silo
-  -- in the order of their grains
-  pub entries : List Entry
-
--- a page of a snapshot
-pub record Page : Type 0 where
-  pub version : ℕ
-  pub range : Range
-  -- its number, from 0, and how many pages there are
-  pub page : ℕ
-  pub pages : ℕ
-  -- the digest of the whole snapshot: 32 bytes
-  pub digest : List ℕ
-  pub entries : List Entry
+use Rattle.directory_rules.specs.State.{Page, Snapshot}
 
 -- how many pages so many entries have: one where there are none, and else no more than hold them
 abbrev pub page_count : ℕ → ℕ

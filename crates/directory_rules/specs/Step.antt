@@ -12,18 +12,16 @@ use Rattle.range_moves.specs.Arcs.{arcs_of}
 use Rattle.directory_rules.specs.declared.act.Act.TheVariants as act
 use Rattle.directory_rules.specs.declared.held.Held.{Held}
 use Rattle.directory_rules.specs.declared.effect.Effect.{Effect}
-use Rattle.directory_rules.specs.declared.effect.Effect.TheVariants.{Next, Skip, Started, Closing, Offered, Cached, Finding, Forgot, NothingCached, Nudged}
+use Rattle.directory_rules.specs.declared.effect.Effect.TheVariants.{Next, Skip, Started, Closing, Cancelled, Offered, Cached, Finding, Forgot, NothingCached, Nudged}
 use Rattle.directory_rules.specs.declared.piece_state.PieceState.{PieceState}
 use Rattle.directory_rules.specs.declared.piece_state.PieceState.TheVariants as state
-use Rattle.directory_rules.specs.Piece.{Piece}
-use Rattle.directory_rules.specs.Gatherings.{Gathering, new_gathering}
-use Rattle.directory_rules.specs.Recovery.{Recovery, new_recovery}
+use Rattle.directory_rules.specs.State.{Piece, Gathering, Recovery, Letter, Offer_letter, Node}
+use Rattle.directory_rules.specs.Gatherings.{new_gathering}
+use Rattle.directory_rules.specs.Recovery.{new_recovery}
 use Rattle.directory_rules.specs.Sight.{is_next, pieces_after, sealed, shelf_after}
-use Rattle.directory_rules.specs.Host.{held_of, entry_of, is_firm, outstanding, has_numbers, has_count, is_full_of_activations, is_full_of_finds, next_held, with_started, with_closing, with_find, renewed}
+use Rattle.directory_rules.specs.Host.{held_of, entry_of, is_firm, is_asking, outstanding, requests_about, has_numbers, has_count, is_full_of_activations, is_full_of_finds, next_held, with_started, with_closing, with_find, renewed, renewed_about}
 use Rattle.directory_rules.specs.Cache.{hint_of, in_front, without_pair, cache_seeing}
-use Rattle.directory_rules.specs.Letter.{Letter, Offer_letter}
-use Rattle.directory_rules.specs.Node.{Node}
-use Rattle.directory_rules.specs.Sent.{letter_to, request_letters, all_requests, all_wants}
+use Rattle.directory_rules.specs.Sent.{letter_to, request_letters, requests_of_grain, all_requests, all_wants}
 
 -- what a step makes: the new node, the letters that it sends, in order, and what it did
 pub record Stepped : Type 0 where
@@ -139,6 +137,26 @@ close_held (Some held) node grain =
 abbrev pub close : Node → Grain → Result Stepped ℕ
 close node grain = close_held (held_of node.host grain) node grain
 
+-- an activation that asks is given up: its Deregister has a number above that of its Register, which doesn't count from then on
+abbrev pub cancelled : Node → Grain → Held → Stepped
+cancelled node grain held = record {
+  node = with_one_closing node grain held;
+  letters = request_letters node node.host.next_number (act.Deregister (entry_of node.host grain held));
+  effect = Cancelled (entry_of node.host grain held);
+}
+
+-- by what the silo holds of the grain
+abbrev pub cancel_held : Option Held → Node → Grain → Result Stepped ℕ
+cancel_held None node grain = Err 802
+cancel_held (Some held) node grain =
+    if not (is_asking held.phase) then Err 808
+    else (if not (has_numbers node.settings node.host 1) then Err 805
+    else Ok (cancelled node grain held))
+
+-- the silo gives up an activation that isn't firm yet: 802 where it has none of the grain, 808 where that doesn't ask, 805
+abbrev pub cancel : Node → Grain → Result Stepped ℕ
+cancel node grain = cancel_held (held_of node.host grain) node grain
+
 -- the Deregister is outstanding, but isn't sent yet
 abbrev pub offered : Node → Grain → Held → (to : Silo) → Stepped
 offered node grain held to = record {
@@ -205,3 +223,17 @@ abbrev pub nudge : Node → Result Stepped ℕ
 nudge node =
     if not (has_numbers node.settings node.host (length (outstanding node.host))) then Err 805
     else Ok (having_nudged (record node { host = renewed node.host }))
+
+-- the outstanding requests about the grain are sent, and nothing else
+abbrev pub having_nudged_grain : Node → Grain → Stepped
+having_nudged_grain node grain = record { node = node; letters = requests_of_grain node grain; effect = Nudged }
+
+-- what is outstanding about one grain is sent again under new numbers: 805
+abbrev pub nudge_grain : Node → Grain → Result Stepped ℕ
+nudge_grain node grain =
+    if not (has_numbers node.settings node.host (length (requests_about grain node.host))) then Err 805
+    else Ok (having_nudged_grain (record node { host = renewed_about grain node.host }) grain)
+
+-- what the pieces want is sent again, and no request
+abbrev pub nudge_ranges : Node → Stepped
+nudge_ranges node = record { node = node; letters = all_wants node; effect = Nudged }

@@ -9,10 +9,7 @@ use Rattle.silo_address.specs.declared.Entry.{Entry}
 use Rattle.ring_range.specs.Range.{Range, holds}
 use Rattle.hash_ring.specs.declared.Hashing.{Hashing}
 use Rattle.hash_ring.specs.Hash.{hash_grain}
-
--- entries under their grains
-abbrev pub Table : Type 0
-Table = List (Grain × Entry)
+use Rattle.directory_rules.specs.State.{Table}
 
 -- the grain's entry
 abbrev pub entry_at : Grain → Table → Option Entry

@@ -10,15 +10,13 @@ use Rattle.directory_rules.specs.declared.piece_state.PieceState.{PieceState}
 use Rattle.directory_rules.specs.declared.piece_state.PieceState.TheVariants as state
 use Rattle.directory_rules.specs.declared.effect.Effect.{Effect}
 use Rattle.directory_rules.specs.declared.effect.Effect.TheVariants as effect
-use Rattle.directory_rules.specs.Table.{Table, table_of, rise_by_grain, lie_in}
-use Rattle.directory_rules.specs.Piece.{Piece}
-use Rattle.directory_rules.specs.Snapshot.{Page, ShelfAnswer, Hands_page, Has_none, Is_behind, shelf_answer, has_snapshot, shelf_without}
-use Rattle.directory_rules.specs.Gatherings.{Gathering, Gathered, Wants_page, Has_all, Refuses, gathered}
-use Rattle.directory_rules.specs.Recovery.{Report, Recovery, Recovered, Awaits_more, Has_union, Rejects, new_recovery, recovered}
+use Rattle.directory_rules.specs.State.{Table, Piece, Page, Gathering, Report, Recovery, Body, Page_letter, Missing_letter, Done_letter, Report_letter, Behind_letter, Ahead_letter, Letter, Node}
+use Rattle.directory_rules.specs.Table.{table_of, rise_by_grain, lie_in}
+use Rattle.directory_rules.specs.Snapshot.{ShelfAnswer, Hands_page, Has_none, Is_behind, shelf_answer, has_snapshot, shelf_without}
+use Rattle.directory_rules.specs.Gatherings.{Gathered, Wants_page, Has_all, Refuses, gathered}
+use Rattle.directory_rules.specs.Recovery.{Recovered, Awaits_more, Has_union, Rejects, new_recovery, recovered}
 use Rattle.directory_rules.specs.Host.{firm_entries}
 use Rattle.directory_rules.specs.Answer.{with_piece}
-use Rattle.directory_rules.specs.Letter.{Body, Page_letter, Missing_letter, Done_letter, Report_letter, Behind_letter, Ahead_letter, Letter}
-use Rattle.directory_rules.specs.Node.{Node}
 use Rattle.directory_rules.specs.Sent.{gathering_of, recovery_of, ask_letters, query_letters}
 use Rattle.directory_rules.specs.Step.{Stepped, silently}
 

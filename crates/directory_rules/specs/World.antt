@@ -1,36 +1,13 @@
 -- The flat world: all that there is.
-use Rattle.std.specs.Prelude.{ℕ, Bool, List, []}
-use Rattle.silo_address.specs.Silo.{Silo}
+use Rattle.std.specs.Prelude.{List, []}
 use Rattle.membership_view.specs.View.{ViewValue}
-use Rattle.membership_view.specs.Views.{ViewsValue, view_at}
+use Rattle.membership_view.specs.Views.{view_at}
 use Rattle.hash_ring.specs.declared.point.Point.{Point}
-use Rattle.hash_ring.specs.Places.{PlacesValue}
 use Rattle.hash_ring.specs.Ring.{sorted_ring}
 use Rattle.directory_rules.specs.Settings.{Settings}
 use Rattle.directory_rules.specs.Membership.{Membership, first_membership}
-use Rattle.directory_rules.specs.Letter.{Letter}
-use Rattle.directory_rules.specs.Node.{Node}
+use Rattle.directory_rules.specs.State.{Accepted, World}
 use Rattle.directory_rules.specs.declared.outcome.Outcome.{Outcome}
-
--- a letter in the mail; it is fresh until it was delivered
-pub record Posted : Type 0 where
-  pub letter : Letter
-  pub fresh : Bool
-
--- the world
-pub record World : Type 0 where
-  pub settings : Settings
-  -- how many events were accepted
-  pub accepted : ℕ
-  -- what the changes of membership made: the views so far, and each silo's places on the ring
-  pub views : ViewsValue
-  pub places : PlacesValue
-  -- the silos that aren't Dead in the current view, by address
-  pub nodes : List (Silo × Node)
-  -- the letters that were sent and not lost, under their numbers, in order
-  pub mail : List (ℕ × Posted)
-  -- how many letters were ever sent; they are numbered from 1
-  pub sent : ℕ
 
 -- the view of the current version, and its ring
 abbrev pub current_view : World → ViewValue
@@ -58,11 +35,6 @@ first_world settings = record {
   mail = [];
   sent = 0;
 }
-
--- an accepted event: what it told, and the world after it
-pub record Accepted : Type 0 where
-  pub outcome : Outcome
-  pub world : World
 
 -- an event that tells this outcome and leaves that world
 abbrev pub accepted_as : World → Outcome → Accepted

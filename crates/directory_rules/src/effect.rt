@@ -14,6 +14,8 @@ pub enum Effect {
     Started(Entry),
     /// Close: the activation asks to be taken out.
     Closing(Entry),
+    /// Cancel: the activation is given up, and asks to be taken out.
+    Cancelled(Entry),
     /// Offer: the activation asks to be taken out, and was offered to this silo.
     Offered { entry: Entry, to: SiloAddress },
     /// Find: the cache has the grain's entry.
@@ -24,7 +26,7 @@ pub enum Effect {
     Forgot(GrainId),
     /// Forget: the cache has no entry of the grain.
     NothingCached(GrainId),
-    /// Nudge: what is outstanding was sent again.
+    /// A nudge: what it is to send again was sent.
     Nudged,
     /// A request was answered: the entry is in.
     Registered,

@@ -162,6 +162,7 @@ fn same_effects(one: &Effect, other: &Effect) -> bool
     match (one, other) {
         (Effect::Started(entry), Effect::Started(its))
         | (Effect::Closing(entry), Effect::Closing(its))
+        | (Effect::Cancelled(entry), Effect::Cancelled(its))
         | (Effect::Cached(entry), Effect::Cached(its)) => entry.same(its),
         (
             Effect::Offered { entry, to },

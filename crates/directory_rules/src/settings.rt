@@ -13,6 +13,9 @@ const MOST_SILOS: usize = 65_536;
 /// The greatest number of letters ever sent in a played cluster.
 const MOST_LETTERS: u64 = 1_000_000;
 
+/// The greatest last number of a silo.
+const LAST_NUMBER: u64 = 1 << 60;
+
 /// What a directory is set up with: how it hashes, and its limits (`docs/RULES.md#settings`).
 #[derive(Clone, Copy, PartialEq, Eq)]
 pub struct Settings {
@@ -63,7 +66,7 @@ impl Settings {
             letters: MOST_LETTERS,
             activations: 65_536,
             finds: 65_536,
-            last_number: 1 << 60,
+            last_number: LAST_NUMBER,
         })
     }
 
@@ -87,6 +90,21 @@ impl Settings {
             return None;
         }
         Some(Settings { letters, ..self })
+    }
+
+    /// The same settings, but for this last request number and last count of a silo, 1 to 2^60. `None` where the number is out of
+    /// its range.
+    pub fn with_last_number(self, last_number: u64) -> Option<Settings>
+        ensures exact { IfSome result (λ settings. settings ≡ record self { last_number = last_number }) }
+        ensures in_range { IsSome result ↔ ((1 ≤ last_number) × (last_number ≤ 1152921504606846976)) }
+    {
+        if last_number == 0 || last_number > LAST_NUMBER {
+            return None;
+        }
+        Some(Settings {
+            last_number,
+            ..self
+        })
     }
 
     /// How hashes are made.

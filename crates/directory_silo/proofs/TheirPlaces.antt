@@ -10,7 +10,8 @@ use Rattle.silo_rules.specs.Whole.{IsWhole}
 use Rattle.directory_node.specs.Placed.{ArePlaced}
 
 -- a sight has the places that it asks for, and the node's ring is its view's by them
-pub sight_placed : (s : SiloValue) (version : ℕ) (before view : ViewValue) → IsWhole s → before ≡ view_at s.membership.views (version - 1) → view ≡ view_at s.membership.views version → ArePlaced s.node before view s.membership.places
+pub sight_placed : (s : SiloValue) (version : ℕ) (before view : ViewValue) → IsWhole s → before ≡ view_at s.membership.views (version - 1)
+    → view ≡ view_at s.membership.views version → ArePlaced s.node before view s.membership.places
 sight_placed s version before view is before_is view_is = record {
   earlier = at (version - 1) before before_is;
   now = at version view view_is;
@@ -18,4 +19,5 @@ sight_placed s version before view is before_is view_is = record {
 }
   where
     at : (v : ℕ) (seen : ViewValue) → seen ≡ view_at s.membership.views v → are_added seen s.membership.places ≡ true
-    at v seen seen_is = ap (λ w. are_added w s.membership.places) seen_is ∙ added_view s.membership.views s.membership.places v is.membership.added
+    at v seen seen_is =
+        ap (λ w. are_added w s.membership.places) seen_is ∙ added_view s.membership.views s.membership.places v is.membership.added

@@ -1,5 +1,5 @@
 ghost use Rattle.std.specs.Prelude.{◌≡◌, IfErr, IsOk, OnErr};
-ghost use Rattle.directory_rules.specs.declared.own_step.OwnStep.TheVariants.{Wake, Close, Find, Forget, Nudge, Offer};
+ghost use Rattle.directory_rules.specs.declared.own_step.OwnStep.TheVariants.{Wake, Close, Cancel, Find, Forget, Nudge, NudgeGrain, NudgeRanges, Offer};
 ghost use Rattle.directory_rules.specs.Input.{Does};
 ghost use Rattle.directory_node.specs.Follows.{Follows};
 ghost use Rattle.directory_silo.specs.AnswerModel.{stepped_as};
@@ -48,6 +48,17 @@ impl Silo {
         self.ask(&OwnStep::Close(*grain))
     }
 
+    /// The grain's activation is given up: it asks to be registered, and isn't firm yet. From then on it asks to be taken out instead.
+    /// Refused by 901, 902, 802, 808, 805 (`docs/RULES.md#the-world`).
+    pub fn cancel(&mut self, grain: &GrainId) -> Result<Answer, SiloRefusal>
+        ensures told { Follows (stepped_as self.new) silo_refusal_number IsOk (does self.old (Does (Cancel grain.now))) result }
+        ensures numbered { IfErr result IsNumberedUnlessMemory }
+        ensures membership { self.new.membership ≡ self.old.membership }
+        ensures unchanged { OnErr result (self.new ≡ self.old) }
+    {
+        self.ask(&OwnStep::Cancel(*grain))
+    }
+
     /// The grain is looked up: the cache tells its activation, or its owner is asked. Refused by 901, 902, 806, 805
     /// (`docs/RULES.md#the-world`).
     pub fn find(&mut self, grain: &GrainId) -> Result<Answer, SiloRefusal>
@@ -92,6 +103,28 @@ impl Silo {
         ensures unchanged { OnErr result (self.new ≡ self.old) }
     {
         self.ask(&OwnStep::Nudge)
+    }
+
+    /// What is outstanding about the grain is sent again, and nothing else, so that no other request begins anew. Refused by 901, 902,
+    /// 805 (`docs/RULES.md#the-world`).
+    pub fn nudge_grain(&mut self, grain: &GrainId) -> Result<Answer, SiloRefusal>
+        ensures told { Follows (stepped_as self.new) silo_refusal_number IsOk (does self.old (Does (NudgeGrain grain.now))) result }
+        ensures numbered { IfErr result IsNumberedUnlessMemory }
+        ensures membership { self.new.membership ≡ self.old.membership }
+        ensures unchanged { OnErr result (self.new ≡ self.old) }
+    {
+        self.ask(&OwnStep::NudgeGrain(*grain))
+    }
+
+    /// What the silo's unsettled ranges want of other silos is sent again, and no request. Refused by 901, 902
+    /// (`docs/RULES.md#the-world`).
+    pub fn nudge_ranges(&mut self) -> Result<Answer, SiloRefusal>
+        ensures told { Follows (stepped_as self.new) silo_refusal_number IsOk (does self.old (Does NudgeRanges)) result }
+        ensures numbered { IfErr result IsNumberedUnlessMemory }
+        ensures membership { self.new.membership ≡ self.old.membership }
+        ensures unchanged { OnErr result (self.new ≡ self.old) }
+    {
+        self.ask(&OwnStep::NudgeRanges)
     }
 
     /// A letter comes: late, again, or in any order. One to another silo is ignored. Refused by 901, 902 alone

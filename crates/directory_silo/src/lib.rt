@@ -21,4 +21,4 @@ pub use membership_view::{Status, Views};
 pub use refusal::SiloRefusal;
 pub use silo::Silo;
 pub use silo_address::{ActivationId, GrainId, SiloAddress};
-pub use silo_rules::News;
+pub use silo_rules::{Figures, News};

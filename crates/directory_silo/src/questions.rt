@@ -1,16 +1,18 @@
-//! Questions about a grain, which the silo answers by the view that it has seen.
+//! Questions, which change nothing: about a grain, which the silo answers by the view that it has seen, and about itself.
 ghost use Rattle.std.specs.Prelude.{◌≡◌, ◌↔◌, [], IfSome, IsNone, IsTrue, None};
 ghost use Rattle.membership_view.specs.View.{active_silos};
 ghost use Rattle.hash_ring.specs.Hash.{hash_grain};
 ghost use Rattle.hash_ring.specs.Owner.{IsOwner, owner_of};
 ghost use Rattle.hash_ring.specs.Ring.{is_active_in};
 ghost use Rattle.directory_rules.specs.Placement.{silo_for};
+ghost use Rattle.silo_rules.specs.Figures.{figures};
 
 use crate::Silo;
 use directory_rules::Policy;
 use hash_ring::Point;
 use silo_address::{GrainId, SiloAddress};
 use silo_placement::silo_for;
+use silo_rules::Figures;
 use std::collections::BTreeMap;
 
 // A silo that has seen no view knows of no point, and of no silo that is Active.
@@ -47,5 +49,25 @@ impl Silo {
         ensures { result ≡ hash_grain self.now.node.settings.hashing grain.now }
     {
         self.node.settings().hashing().hash_grain(grain)
+    }
+}
+
+impl Silo {
+    /// The silo's figures, which tell an operator whether it gets on. Costs a walk over the silo's ranges, and none over what it holds
+    /// (`docs/RULES.md#a-silo-by-itself`).
+    pub fn figures(&self) -> Figures
+        ensures { result ≡ figures self.now }
+    {
+        let host = self.node.host();
+        Figures {
+            seen: self.node.view().version(),
+            known: self.membership.views().current(),
+            held: host.held_count() as u64,
+            asking: host.asking_count() as u64,
+            closing: host.closing_count() as u64,
+            finding: host.find_count() as u64,
+            unsettled: self.node.unsettled_count() as u64,
+            kept: self.node.shelf().snapshots().len() as u64,
+        }
     }
 }

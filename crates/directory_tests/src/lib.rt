@@ -29,6 +29,8 @@ mod play;
 #[cfg(test)]
 mod script;
 #[cfg(test)]
+mod spent;
+#[cfg(test)]
 mod steps;
 #[cfg(test)]
 mod worlds;

@@ -30,6 +30,7 @@ fn name_of(asked: &Asked<'_>) -> &'static str {
         Asked::Ping(_) => "ping",
         Asked::Owner { .. } => "owner",
         Asked::Place { .. } => "place",
+        Asked::Figures => "status",
         Asked::Show => "show",
         Asked::Dump => "dump",
     }
@@ -39,9 +40,12 @@ pub(crate) fn step_name(step: &OwnStep) -> &'static str {
     match step {
         OwnStep::Wake(_) => "wake",
         OwnStep::Close(_) => "close",
+        OwnStep::Cancel(_) => "cancel",
         OwnStep::Find(_) => "find",
         OwnStep::Forget(_) => "forget",
         OwnStep::Nudge => "nudge",
+        OwnStep::NudgeGrain(_) => "nudge grain",
+        OwnStep::NudgeRanges => "nudge ranges",
         OwnStep::Offer { .. } => "offer",
     }
 }
@@ -60,7 +64,7 @@ fn unended_number(line: &[u8]) -> Option<u16> {
     }
 }
 
-const LINES: [(&str, &str); 27] = [
+const LINES: [(&str, &str); 32] = [
     ("joined 1 10.0.0.1:1000@1", "joined"),
     (
         "joined 18446744073709551615 10.0.0.1:1000@1 0 7 4294967295",
@@ -74,10 +78,14 @@ const LINES: [(&str, &str); 27] = [
     ("see 2", "see"),
     ("wake user/ann#7", "wake"),
     ("close user/ann#7", "close"),
+    ("cancel user/ann#7", "cancel"),
     ("offer user/bob#3000000000 10.0.0.2:1000@1", "offer"),
     ("find user/ann#7", "find"),
     ("forget user/ann#7", "forget"),
     ("nudge", "nudge"),
+    ("nudge user/ann#7", "nudge grain"),
+    ("nudge ranges/1", "nudge grain"),
+    ("nudge  ranges ", "nudge ranges"),
     (
         "letter 10.0.0.2:1000@1 10.0.0.1:1000@1 2 done 2147483648+2147483648",
         "letter",
@@ -90,6 +98,7 @@ const LINES: [(&str, &str); 27] = [
     ("owner user/ann#7", "owner"),
     ("place user/ann#7 prefer_local", "place"),
     ("place user/ann#7 hash_based", "place"),
+    ("status", "status"),
     ("show", "show"),
     ("  dump  ", "dump"),
     ("", "nothing"),
@@ -107,7 +116,7 @@ fn commands(rt: HostRuntime) {
     }
 }
 
-const FAULTS: [(&str, u16); 39] = [
+const FAULTS: [(&str, u16); 46] = [
     ("see\t1", 925),
     ("hello\u{7f}", 925),
     ("ping caf\u{e9}", 925),
@@ -126,12 +135,18 @@ const FAULTS: [(&str, u16); 39] = [
     ("offer ann here there", 922),
     ("find", 922),
     ("forget user/ann here", 922),
-    ("nudge 10.0.0.1:1000@1", 922),
+    ("nudge 10.0.0.1:1000@1", 111),
+    ("nudge range", 111),
+    ("nudge ranges ranges", 922),
+    ("nudge user/ann ranges", 922),
+    ("cancel", 922),
+    ("cancel user/ann user/ann", 922),
     ("letter x x x", 922),
     ("ping", 922),
     ("owner", 922),
     ("owner user/ann 10.0.0.1:1000@1", 922),
     ("place user/ann", 922),
+    ("status all", 922),
     ("show all", 922),
     ("dump all", 922),
     ("letter x x x greet", 927),
@@ -146,6 +161,7 @@ const FAULTS: [(&str, u16); 39] = [
     ("place user/ann least_held", 926),
     ("place user/ann local", 926),
     ("wake ann", 111),
+    ("cancel ann", 111),
     ("offer user/ann here", 101),
 ];
 

@@ -91,7 +91,7 @@ fn see(rt: &impl Abort, alloc: Global, node: &mut Node) {
     does_one(rt, alloc, node, &input, Effect::Next);
 }
 
-// A grain of which the silo knows nothing is neither woken, closed nor offered, and isn't cached.
+// A grain of which the silo knows nothing is neither woken, closed, given up nor offered, and isn't cached.
 #[test]
 fn a_silo_that_has_seen_nothing(rt: HostRuntime) {
     let node = joined(&rt, rt.alloc());
@@ -105,6 +105,7 @@ fn check_refusals(rt: &impl Abort, alloc: Global, node: &Node, grain: &GrainId) 
     assert!(rt;
         refusal_of(rt, alloc, node, &Input::Does(&OwnStep::Wake(grain))) == Some(804)
             && refusal_of(rt, alloc, node, &Input::Does(&OwnStep::Close(grain))) == Some(802)
+            && refusal_of(rt, alloc, node, &Input::Does(&OwnStep::Cancel(grain))) == Some(802)
             && refusal_of(rt, alloc, node, &Input::Does(&OwnStep::Offer { grain, to })) == Some(802)
     );
 }
@@ -113,6 +114,7 @@ fn is_recovering(node: &Node, circle: &RingRange) -> bool {
     node.view().version() == 1
         && node.holding().has_piece(circle)
         && !node.holding().is_settled_throughout(circle)
+        && node.unsettled_count() == 1
 }
 
 #[test]

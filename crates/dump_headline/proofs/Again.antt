@@ -31,25 +31,32 @@ use Rattle.dump_headline.proofs.Values.{number_value, items_of, list_value, entr
 
 -- ---- several readings, one after another
 module _ {A B C D E X : Type 0} (a : A) (b : B) (c : C) (d : D) (e : E) where
-  two : (x : Option A) (y : Option B) (make : A → B → X) → x ≡ Some a → y ≡ Some b → (x >>= λ p. y >>= λ q. Some (make p q)) ≡ Some (make a b)
+  two : (x : Option A) (y : Option B) (make : A → B → X) → x ≡ Some a → y ≡ Some b
+      → (x >>= λ p. y >>= λ q. Some (make p q)) ≡ Some (make a b)
   two x y make one other = ap (λ o. o >>= λ p. y >>= λ q. Some (make p q)) one ∙ ap (λ o. o >>= λ q. Some (make a q)) other
 
-  three : (x : Option A) (y : Option B) (z : Option C) (make : A → B → C → X) → x ≡ Some a → y ≡ Some b → z ≡ Some c → (x >>= λ p. y >>= λ q. z >>= λ r. Some (make p q r)) ≡ Some (make a b c)
+  three : (x : Option A) (y : Option B) (z : Option C) (make : A → B → C → X) → x ≡ Some a → y ≡ Some b → z ≡ Some c
+      → (x >>= λ p. y >>= λ q. z >>= λ r. Some (make p q r)) ≡ Some (make a b c)
   three x y z make one other third =
-      ap (λ o. o >>= λ p. y >>= λ q. z >>= λ r. Some (make p q r)) one ∙ ap (λ o. o >>= λ q. z >>= λ r. Some (make a q r)) other ∙ ap (λ o. o >>= λ r. Some (make a b r)) third
+      ap (λ o. o >>= λ p. y >>= λ q. z >>= λ r. Some (make p q r)) one ∙ ap (λ o. o >>= λ q. z >>= λ r. Some (make a q r)) other
+      ∙ ap (λ o. o >>= λ r. Some (make a b r)) third
 
-  four : (x : Option A) (y : Option B) (z : Option C) (u : Option D) (make : A → B → C → D → X) → x ≡ Some a → y ≡ Some b → z ≡ Some c → u ≡ Some d
+  four : (x : Option A) (y : Option B) (z : Option C) (u : Option D) (make : A → B → C → D → X) → x ≡ Some a → y ≡ Some b → z ≡ Some c
+      → u ≡ Some d
       → (x >>= λ p. y >>= λ q. z >>= λ r. u >>= λ s. Some (make p q r s)) ≡ Some (make a b c d)
   four x y z u make one other third fourth =
-      ap (λ o. o >>= λ p. y >>= λ q. z >>= λ r. u >>= λ s. Some (make p q r s)) one ∙ ap (λ o. o >>= λ q. z >>= λ r. u >>= λ s. Some (make a q r s)) other
+      ap (λ o. o >>= λ p. y >>= λ q. z >>= λ r. u >>= λ s. Some (make p q r s)) one
+      ∙ ap (λ o. o >>= λ q. z >>= λ r. u >>= λ s. Some (make a q r s)) other
       ∙ ap (λ o. o >>= λ r. u >>= λ s. Some (make a b r s)) third ∙ ap (λ o. o >>= λ s. Some (make a b c s)) fourth
 
-  five : (x : Option A) (y : Option B) (z : Option C) (u : Option D) (v : Option E) (make : A → B → C → D → E → X) → x ≡ Some a → y ≡ Some b → z ≡ Some c → u ≡ Some d → v ≡ Some e
+  five : (x : Option A) (y : Option B) (z : Option C) (u : Option D) (v : Option E) (make : A → B → C → D → E → X) → x ≡ Some a → y ≡ Some b
+      → z ≡ Some c → u ≡ Some d → v ≡ Some e
       → (x >>= λ p. y >>= λ q. z >>= λ r. u >>= λ s. v >>= λ t. Some (make p q r s t)) ≡ Some (make a b c d e)
   five x y z u v make one other third fourth fifth =
       ap (λ o. o >>= λ p. y >>= λ q. z >>= λ r. u >>= λ s. v >>= λ t. Some (make p q r s t)) one
       ∙ ap (λ o. o >>= λ q. z >>= λ r. u >>= λ s. v >>= λ t. Some (make a q r s t)) other
-      ∙ ap (λ o. o >>= λ r. u >>= λ s. v >>= λ t. Some (make a b r s t)) third ∙ ap (λ o. o >>= λ s. v >>= λ t. Some (make a b c s t)) fourth ∙ ap (λ o. o >>= λ t. Some (make a b c d t)) fifth
+      ∙ ap (λ o. o >>= λ r. u >>= λ s. v >>= λ t. Some (make a b r s t)) third
+      ∙ ap (λ o. o >>= λ s. v >>= λ t. Some (make a b c s t)) fourth ∙ ap (λ o. o >>= λ t. Some (make a b c d t)) fifth
 
 -- ---- lists
 module _ {X : Type 0} (reading : Data → Option X) (value : X → Data) where
@@ -69,7 +76,8 @@ module _ {X : Type 0} (reading : Data → Option X) (value : X → Data) where
 silo_again : (silo : Silo) → IsSilo silo → silo_in (string (silo_text silo)) ≡ Some silo
 silo_again silo is = ap result_ok (silo_only (silo_text silo) silo is refl)
 
-activation_again : (activation : ActivationId) → IsSilo activation.silo → activation.count < 2 ^ 64 → activation_in (string (activation_text activation)) ≡ Some activation
+activation_again : (activation : ActivationId) → IsSilo activation.silo → activation.count < 2 ^ 64
+    → activation_in (string (activation_text activation)) ≡ Some activation
 activation_again activation is fits = ap result_ok (activation_only (activation_text activation) activation is fits refl)
 
 some_silo : (text : List ℕ) (silo : Silo) → read_silo text ≡ Ok silo → silo_or_none text ≡ Some (Some silo)
@@ -99,42 +107,54 @@ state_again Recovering = refl
 -- ---- the parts of a dump
 entry_again : (entry : Entry) → IsNamedFor entry.grain entry.activation → entry_in (entry_value entry) ≡ Some entry
 entry_again entry is =
-    two entry.grain entry.activation entry.grain entry.grain entry.grain (grain_in (string (grain_text entry.grain))) (activation_in (string (activation_text entry.activation)))
+    two entry.grain entry.activation entry.grain entry.grain entry.grain (grain_in (string (grain_text entry.grain)))
+    (activation_in (string (activation_text entry.activation)))
     (λ grain activation. record { grain = grain; activation = activation })
     (ap result_ok (grain_only (grain_text entry.grain) entry.grain is.0 refl)) (activation_again entry.activation is.1.silo is.1.count)
 
 point_again : (point : Point) → IsSilo point.silo → point_in (point_value point) ≡ Some point
-point_again point is = ap (λ o. o >>= λ silo. Some (record { place = point.place; silo = silo; index = point.index })) (silo_again point.silo is)
+point_again point is =
+    ap (λ o. o >>= λ silo. Some (record { place = point.place; silo = silo; index = point.index })) (silo_again point.silo is)
 
 held_again : (held : DumpHeld) → IsNamedFor held.grain held.activation → held_in (held_value held) ≡ Some held
 held_again held is =
-    three held.activation held.grain held.phase held.phase held.phase (activation_in (string (activation_text held.activation))) (grain_in (string (grain_text held.grain))) (phase_in (string (dump_phase_word held.phase)))
+    three held.activation held.grain held.phase held.phase held.phase (activation_in (string (activation_text held.activation)))
+    (grain_in (string (grain_text held.grain))) (phase_in (string (dump_phase_word held.phase)))
     (λ activation grain phase. record { activation = activation; grain = grain; phase = phase })
-    (activation_again held.activation is.1.silo is.1.count) (ap result_ok (grain_only (grain_text held.grain) held.grain is.0 refl)) (phase_again held.phase)
+    (activation_again held.activation is.1.silo is.1.count) (ap result_ok (grain_only (grain_text held.grain) held.grain is.0 refl))
+    (phase_again held.phase)
 
 piece_again : (piece : DumpPiece) → IsRange piece.range → HasPieceNames piece → piece_in (piece_value piece) ≡ Some piece
 piece_again piece range has =
     four piece.entries piece.from piece.range piece.state piece.state
-    (list_in entry_in (list_value entry_value piece.entries)) (from_in (string (from_text piece.from))) (range_in (string (range_text piece.range))) (state_in (string (dump_state_word piece.state)))
+    (list_in entry_in (list_value entry_value piece.entries)) (from_in (string (from_text piece.from)))
+    (range_in (string (range_text piece.range))) (state_in (string (dump_state_word piece.state)))
     (λ entries from range state. record { entries = entries; from = from; range = range; state = state })
-    (list_again entry_in entry_value piece.entries (All-weaker (λ entry. IsNamedFor entry.grain entry.activation) (λ entry. entry_in (entry_value entry) ≡ Some entry) entry_again piece.entries has.entries))
+    (list_again entry_in entry_value piece.entries (All-weaker (λ entry. IsNamedFor entry.grain entry.activation)
+    (λ entry. entry_in (entry_value entry) ≡ Some entry) entry_again piece.entries has.entries))
     (from_again piece.from has.from) (ap result_ok (only (range_text piece.range) piece.range range refl)) (state_again piece.state)
 
 node_again : (node : DumpNode) → HasNodeNumbers node → HasNodeNames node → node_in (node_value node) ≡ Some node
 node_again node numbers has =
     five node.held node.pieces node.ring node.seen node.silo
-    (list_in held_in (list_value held_value node.held)) (list_in piece_in (list_value piece_value node.pieces)) (list_in point_in (list_value point_value node.ring)) (number_in (number_value node.seen)) (silo_in (string (silo_text node.silo)))
+    (list_in held_in (list_value held_value node.held)) (list_in piece_in (list_value piece_value node.pieces))
+    (list_in point_in (list_value point_value node.ring)) (number_in (number_value node.seen)) (silo_in (string (silo_text node.silo)))
     (λ held pieces ring seen silo. record { held = held; pieces = pieces; ring = ring; seen = seen; silo = silo })
-    (list_again held_in held_value node.held (All-weaker (λ held. IsNamedFor held.grain held.activation) (λ held. held_in (held_value held) ≡ Some held) held_again node.held has.held))
+    (list_again held_in held_value node.held (All-weaker (λ held. IsNamedFor held.grain held.activation)
+    (λ held. held_in (held_value held) ≡ Some held) held_again node.held has.held))
     (list_again piece_in piece_value node.pieces
-    (All-weaker (λ piece. IsRange piece.range × HasPieceNames piece) (λ piece. piece_in (piece_value piece) ≡ Some piece) (λ piece is. piece_again piece is.0 is.1) node.pieces (both_all (λ piece. IsRange piece.range) HasPieceNames node.pieces numbers.pieces has.pieces)))
-    (list_again point_in point_value node.ring (All-weaker (λ point. IsSilo point.silo) (λ point. point_in (point_value point) ≡ Some point) point_again node.ring has.ring))
+    (All-weaker (λ piece. IsRange piece.range × HasPieceNames piece) (λ piece. piece_in (piece_value piece) ≡ Some piece)
+    (λ piece is. piece_again piece is.0 is.1) node.pieces
+    (both_all (λ piece. IsRange piece.range) HasPieceNames node.pieces numbers.pieces has.pieces)))
+    (list_again point_in point_value node.ring (All-weaker (λ point. IsSilo point.silo) (λ point. point_in (point_value point) ≡ Some point)
+    point_again node.ring has.ring))
     refl (silo_again node.silo has.silo)
 
 row_again : (row : DumpRow) → IsSilo row.silo → row_in (row_value row) ≡ Some row
 row_again row is =
     five row.dead row.joined row.left row.places row.silo
-    (number_in (number_value row.dead)) (number_in (number_value row.joined)) (number_in (number_value row.left)) (list_in number_in (list_value number_value row.places)) (silo_in (string (silo_text row.silo)))
+    (number_in (number_value row.dead)) (number_in (number_value row.joined)) (number_in (number_value row.left))
+    (list_in number_in (list_value number_value row.places)) (silo_in (string (silo_text row.silo)))
     (λ dead joined left places silo. record { dead = dead; joined = joined; left = left; places = places; silo = silo })
     refl refl refl (list_again number_in number_value row.places (λ k d below. refl)) (silo_again row.silo is)
 
@@ -142,9 +162,13 @@ pub dump_again : (dump : DumpValue) → HasNumbers dump → HasNames dump → du
 unfolding dump_in
 dump_again dump numbers has =
     five dump.current dump.hashing dump.nodes dump.points dump.rows
-    (number_in (number_value dump.current)) (hashing_in (string (hashing_word dump.hashing))) (list_in node_in (list_value node_value dump.nodes)) (number_in (number_value dump.points)) (list_in row_in (list_value row_value dump.rows))
+    (number_in (number_value dump.current)) (hashing_in (string (hashing_word dump.hashing)))
+    (list_in node_in (list_value node_value dump.nodes)) (number_in (number_value dump.points))
+    (list_in row_in (list_value row_value dump.rows))
     (λ current hashing nodes points rows. record { current = current; hashing = hashing; nodes = nodes; points = points; rows = rows })
     refl (hashing_again dump.hashing)
     (list_again node_in node_value dump.nodes
-    (All-weaker (λ node. HasNodeNumbers node × HasNodeNames node) (λ node. node_in (node_value node) ≡ Some node) (λ node is. node_again node is.0 is.1) dump.nodes (both_all HasNodeNumbers HasNodeNames dump.nodes numbers.nodes has.nodes)))
-    refl (list_again row_in row_value dump.rows (All-weaker (λ row. IsSilo row.silo) (λ row. row_in (row_value row) ≡ Some row) row_again dump.rows has.rows))
+    (All-weaker (λ node. HasNodeNumbers node × HasNodeNames node) (λ node. node_in (node_value node) ≡ Some node)
+    (λ node is. node_again node is.0 is.1) dump.nodes (both_all HasNodeNumbers HasNodeNames dump.nodes numbers.nodes has.nodes)))
+    refl (list_again row_in row_value dump.rows (All-weaker (λ row. IsSilo row.silo) (λ row. row_in (row_value row) ≡ Some row) row_again
+    dump.rows has.rows))

@@ -25,10 +25,8 @@ use Rattle.directory_rules.specs.declared.held.Held.{Held}
 use Rattle.directory_rules.specs.declared.piece_state.PieceState.{PieceState}
 use Rattle.directory_rules.specs.declared.piece_state.PieceState.TheVariants as state
 use Rattle.directory_rules.specs.Table.{entry_at, entries_of}
-use Rattle.directory_rules.specs.Piece.{Piece}
+use Rattle.directory_rules.specs.State.{Piece, Node, World}
 use Rattle.directory_rules.specs.Sight.{is_settled}
-use Rattle.directory_rules.specs.Node.{Node}
-use Rattle.directory_rules.specs.World.{World}
 use Rattle.directory_rules.specs.Happens.{node_of}
 use Rattle.directory_facts.proofs.Entries.{same_key}
 use Rattle.directory_headline.specs.Setting.{IsSettingOf}
@@ -75,13 +73,15 @@ module _ (m : Setting) (f : World) (setting : IsSettingOf m f) (facts : WorldFac
     here = record { setting = setting; facts = facts; there = there; reached = carried.reached; shown = carried.shown }
 
     -- an entry of a settled piece
-    entry_row : (e : ℕ × Piece) → Contains node.holding.pieces e → e.1.state ≡ state.Settled → (entry : Entry) → entry_at entry.grain e.1.entries ≡ Some entry → HasRow entry.activation.silo
+    entry_row : (e : ℕ × Piece) → Contains node.holding.pieces e → e.1.state ≡ state.Settled → (entry : Entry)
+        → entry_at entry.grain e.1.entries ≡ Some entry → HasRow entry.activation.silo
     entry_row e among settled entry found =
         let h = m.hash entry.grain in
         let at = piece_found m.hash f facts silo node there e among h (entry_inside m.hash f facts silo node there e among entry found) in
         let holding = (node_shown m f w silo node here).holding in
         let serves : w.settled silo h ≡ true =
-        holding.settled h ∙ ap (λ o. is_settled_piece o && nat_lt h circle) at ∙ ap (λ s. is_settled s && nat_lt h circle) settled ∙ lt-ltb h circle (grain_below m f w silo node here entry.grain) in
+        holding.settled h ∙ ap (λ o. is_settled_piece o && nat_lt h circle) at ∙ ap (λ s. is_settled s && nat_lt h circle) settled
+        ∙ lt-ltb h circle (grain_below m f w silo node here entry.grain) in
         let has : w.table silo entry.grain ≡ Some entry.activation = holding.table entry.grain e.1 at settled ∙ ap activation_in found in
         let right = kept.backed.entries.right silo entry.grain (alive m f w silo node here) serves in
         let held = kept.backed.entries.held_there entry.grain entry.activation (sym right ∙ has) in
@@ -92,23 +92,29 @@ module _ (m : Setting) (f : World) (setting : IsSettingOf m f) (facts : WorldFac
       where
         bare : ¬ (e.1.state ≡ state.Settled) → All (λ (entry : Entry). HasRow entry.activation.silo) (entries_of e.1.entries)
         bare unsettled =
-            subst (λ table. All (λ (entry : Entry). HasRow entry.activation.silo) (entries_of table)) (sym ((piece_is m.hash f facts silo node there e among).empty unsettled))
+            subst (λ table. All (λ (entry : Entry). HasRow entry.activation.silo) (entries_of table))
+            (sym ((piece_is m.hash f facts silo node there e among).empty unsettled))
             (All-nil (λ (entry : Entry). HasRow entry.activation.silo))
 
         by : (its : PieceState) → e.1.state ≡ its → All (λ (entry : Entry). HasRow entry.activation.silo) (entries_of e.1.entries)
         by state.Settled is =
-            each_found (λ entry. HasRow entry.activation.silo) e.1.entries (piece_is m.hash f facts silo node there e among).table (λ entry found. entry_row e among is entry found)
+            each_found (λ entry. HasRow entry.activation.silo) e.1.entries (piece_is m.hash f facts silo node there e among).table
+            (λ entry found. entry_row e among is entry found)
         by (state.Awaiting from) is = bare (λ settled. absurd (cc (is, settled)))
         by state.Recovering is = bare (λ settled. absurd (cc (is, settled)))
 
     -- all that the dump's node names
     pub named_rows : All (Contains (keys_of f.views.rows)) (activation_silos (dump_node silo node))
     named_rows =
-        All-append HasRow (map (λ held. held.activation.silo) (dump_node silo node).held) (map (λ entry. entry.activation.silo) (node_entries (dump_node silo node)))
+        All-append HasRow (map (λ held. held.activation.silo) (dump_node silo node).held)
+        (map (λ entry. entry.activation.silo) (node_entries (dump_node silo node)))
         (All-map HasRow (λ held. held.activation.silo) (dump_node silo node).held
-        (All-map (λ held. HasRow held.activation.silo) (λ (e : Grain × Held). dump_held silo e.0 e.1) node.host.held (λ k d below. joined m.hash f facts silo node there)))
+        (All-map (λ held. HasRow held.activation.silo) (λ (e : Grain × Held). dump_held silo e.0 e.1) node.host.held
+        (λ k d below. joined m.hash f facts silo node there)))
         (All-map HasRow (λ (entry : Entry). entry.activation.silo) (node_entries (dump_node silo node))
         (all_flat_map (λ piece. piece.entries) (λ (entry : Entry). HasRow entry.activation.silo) (dump_node silo node).pieces
-        (All-map (λ piece. All (λ (entry : Entry). HasRow entry.activation.silo) piece.entries) (λ (e : ℕ × Piece). dump_piece e.1) node.holding.pieces
-        (All-weaker (Contains node.holding.pieces) (λ (e : ℕ × Piece). All (λ (entry : Entry). HasRow entry.activation.silo) (entries_of e.1.entries)) piece_rows
+        (All-map (λ piece. All (λ (entry : Entry). HasRow entry.activation.silo) piece.entries) (λ (e : ℕ × Piece). dump_piece e.1)
+        node.holding.pieces
+        (All-weaker (Contains node.holding.pieces) (λ (e : ℕ × Piece). All (λ (entry : Entry). HasRow entry.activation.silo)
+        (entries_of e.1.entries)) piece_rows
         node.holding.pieces (All-contains_itself node.holding.pieces)))))

@@ -17,8 +17,7 @@ use Rattle.hash_ring.specs.declared.point.Point.{Point}
 use Rattle.hash_ring.specs.Ring.{points_of, sorted_ring, ring_of, IsPointOf}
 use Rattle.hash_ring.proofs.Lawful.{points_are, is_sorted_anew}
 use Rattle.directory_rules.specs.Laws.{is_live}
-use Rattle.directory_rules.specs.Node.{Node}
-use Rattle.directory_rules.specs.World.{World}
+use Rattle.directory_rules.specs.State.{Node, World}
 use Rattle.directory_rules.specs.Happens.{node_of}
 use Rattle.directory_facts.proofs.Entries.{same_key}
 use Rattle.directory_headline.proofs.Facts.{NodeFacts, WorldFacts}
@@ -50,7 +49,8 @@ module _ (hash : Grain → ℕ) (f : World) (facts : WorldFacts hash f) where
   ring_numbers version =
       let view = view_at f.views version in
       All-weaker (Contains (sorted_ring view f.places)) right.HasPointNumbers
-      (λ point there. point_numbers version point ((points_are view (view_by_address f.views version facts.peopled.whole) f.places point).0 ((is_sorted_anew (points_of view f.places)).same.forth point there)))
+      (λ point there. point_numbers version point ((points_are view (view_by_address f.views version facts.peopled.whole) f.places point).0
+      ((is_sorted_anew (points_of view f.places)).same.forth point there)))
       (sorted_ring view f.places) (All-contains_itself (sorted_ring view f.places))
 
   -- a silo with a node has a row
@@ -70,8 +70,13 @@ module _ (hash : Grain → ℕ) (f : World) (facts : WorldFacts hash f) where
       let is : NodeFacts hash f silo node = facts.nodes silo node there in
       let sees = is.sees in
       record {
-        seen = small node.view.version (let few = few_versions f.views facts.peopled.whole in let within = sees.within in omega (arith, few, within));
-        ring = subst (λ (points : List Point). All right.HasPointNumbers points) (sym (ap (λ ring. ring.points) (sees.ring_is ∙ ap (λ view. ring_of view f.places) sees.view_is))) (ring_numbers node.view.version);
+        seen =
+            small node.view.version (let few = few_versions f.views facts.peopled.whole in let within = sees.within in
+            omega (arith, few, within));
+        ring =
+            subst (λ (points : List Point). All right.HasPointNumbers points)
+            (sym (ap (λ ring. ring.points) (sees.ring_is ∙ ap (λ view. ring_of view f.places) sees.view_is)))
+            (ring_numbers node.view.version);
         pieces = are_ranges hash node.holding.pieces is.pieces;
       }
 
@@ -83,7 +88,8 @@ module _ (hash : Grain → ℕ) (f : World) (facts : WorldFacts hash f) where
     points_within = facts.settings.points_within;
     rows = rows_numbers hash f facts;
     nodes = All-map right.HasNodeNumbers (λ (e : Silo × Node). dump_node e.0 e.1) f.nodes
-        (all_found silo_cmp silo_cmp_total silo_cmp_exact (λ e. right.HasNodeNumbers (dump_node e.0 e.1)) f.nodes facts.peopled.by_address node_numbers);
+        (all_found silo_cmp silo_cmp_total silo_cmp_exact (λ e. right.HasNodeNumbers (dump_node e.0 e.1)) f.nodes facts.peopled.by_address
+        node_numbers);
   }
 
   module _ (known : (silo : Silo) (node : Node) → node_of f silo ≡ Some node → NamesAreKnown f silo node) where
@@ -97,7 +103,8 @@ module _ (hash : Grain → ℕ) (f : World) (facts : WorldFacts hash f) where
         let names = known silo node there in
         record {
           known = subst (λ (silos : List Silo). Contains silos silo) (sym (rows_of f)) (joined silo node there);
-          known_activations = subst (λ (silos : List Silo). All (Contains silos) (activation_silos (dump_node silo node))) (sym (rows_of f)) names.known;
+          known_activations =
+              subst (λ (silos : List Silo). All (Contains silos) (activation_silos (dump_node silo node))) (sym (rows_of f)) names.known;
           own = holds_its_own silo node.host.held;
           activations_once = names.once;
           grains_once = grains_once silo node.host.held is.own.once;
@@ -110,7 +117,8 @@ module _ (hash : Grain → ℕ) (f : World) (facts : WorldFacts hash f) where
     unfolding dump_of
     nodes_are =
         All-map (right.IsNodeOf (dump_of f)) (λ (e : Silo × Node). dump_node e.0 e.1) f.nodes
-        (all_found silo_cmp silo_cmp_total silo_cmp_exact (λ e. right.IsNodeOf (dump_of f) (dump_node e.0 e.1)) f.nodes facts.peopled.by_address node_is)
+        (all_found silo_cmp silo_cmp_total silo_cmp_exact (λ e. right.IsNodeOf (dump_of f) (dump_node e.0 e.1)) f.nodes
+        facts.peopled.by_address node_is)
 
     pub is_dump_by : right.IsDump (dump_of f)
     is_dump_by = record {

@@ -11,8 +11,7 @@ use Rattle.silo_address.proofs.Order.{silo_cmp_total, silo_cmp_exact}
 use Rattle.membership_view.specs.Views.{status_at}
 use Rattle.directory_rules.specs.Members.{is_dead_in}
 use Rattle.directory_rules.specs.Laws.{is_live}
-use Rattle.directory_rules.specs.Node.{Node}
-use Rattle.directory_rules.specs.World.{World}
+use Rattle.directory_rules.specs.State.{Node, World}
 use Rattle.directory_rules.specs.Happens.{node_of}
 use Rattle.directory_facts.proofs.Entries.{same_key}
 use Rattle.directory_headline.proofs.Facts.{WorldFacts}
@@ -33,24 +32,31 @@ pub record IsDumped (f : World) (dumped : DumpNode) : Type 0 where
 
 module _ (hash : Grain → ℕ) (f : World) (facts : WorldFacts hash f) where
   -- what holds of each silo's node
-  pub each_node : (P : DumpNode → Type 0) → ((silo : Silo) (node : Node) → node_of f silo ≡ Some node → P (dump_node silo node)) → All P (dump_of f).nodes
+  pub each_node : (P : DumpNode → Type 0) → ((silo : Silo) (node : Node) → node_of f silo ≡ Some node → P (dump_node silo node))
+      → All P (dump_of f).nodes
   unfolding dump_of
   each_node P so =
       All-map P (λ (e : Silo × Node). dump_node e.0 e.1) f.nodes
       (all_found silo_cmp silo_cmp_total silo_cmp_exact (λ e. P (dump_node e.0 e.1)) f.nodes facts.peopled.by_address so)
 
-  pub each_live : (P : DumpNode → Type 0) → ((silo : Silo) (node : Node) → node_of f silo ≡ Some node → P (dump_node silo node)) → All P (live_nodes (dump_of f))
-  each_live P so = All-filter (λ node. not (is_dead_in (dump_view (dump_of f) (dump_of f).current) node.silo)) P (dump_of f).nodes (each_node P so)
+  pub each_live : (P : DumpNode → Type 0) → ((silo : Silo) (node : Node) → node_of f silo ≡ Some node → P (dump_node silo node))
+      → All P (live_nodes (dump_of f))
+  each_live P so =
+      All-filter (λ node. not (is_dead_in (dump_view (dump_of f) (dump_of f).current) node.silo)) P (dump_of f).nodes (each_node P so)
 
   pub dumped : (node : DumpNode) → Contains (live_nodes (dump_of f)) node → IsDumped f node
-  dumped node there = All-contains (IsDumped f) (live_nodes (dump_of f)) node (each_live (IsDumped f) (λ silo its found. record { silo = silo; node = its; there = found; is = refl })) there
+  dumped node there =
+      All-contains (IsDumped f) (live_nodes (dump_of f)) node
+      (each_live (IsDumped f) (λ silo its found. record { silo = silo; node = its; there = found; is = refl })) there
 
   -- each node of the world is one of them
-  not_dead : (silo : Silo) (node : Node) → node_of f silo ≡ Some node → not (is_dead_in (dump_view (dump_of f) (dump_of f).current) silo) ≡ true
+  not_dead : (silo : Silo) (node : Node) → node_of f silo ≡ Some node
+      → not (is_dead_in (dump_view (dump_of f) (dump_of f).current) silo) ≡ true
   unfolding dump_of
   not_dead silo node there =
       let live : is_live (status_at f.views f.views.version silo) ≡ true = sym (facts.peopled.live silo) ∙ ap is_some there in
-      ap (λ view. not (is_dead_in view silo)) (dumped_view f facts.peopled.whole f.views.version (omega arith)) ∙ ap not (live_not_dead (status_at f.views f.views.version silo) live)
+      ap (λ view. not (is_dead_in view silo)) (dumped_view f facts.peopled.whole f.views.version (omega arith))
+      ∙ ap not (live_not_dead (status_at f.views f.views.version silo) live)
 
   among_nodes : (silo : Silo) (node : Node) → node_of f silo ≡ Some node → Contains (dump_of f).nodes (dump_node silo node)
   unfolding dump_of
@@ -60,7 +66,8 @@ module _ (hash : Grain → ℕ) (f : World) (facts : WorldFacts hash f) where
 
   pub live_there : (silo : Silo) (node : Node) → node_of f silo ≡ Some node → Contains (live_nodes (dump_of f)) (dump_node silo node)
   live_there silo node there =
-      to_filter (λ (node : DumpNode). not (is_dead_in (dump_view (dump_of f) (dump_of f).current) node.silo)) (dump_of f).nodes (dump_node silo node) (among_nodes silo node there) (not_dead silo node there)
+      to_filter (λ (node : DumpNode). not (is_dead_in (dump_view (dump_of f) (dump_of f).current) node.silo)) (dump_of f).nodes
+      (dump_node silo node) (among_nodes silo node there) (not_dead silo node there)
 
   -- no two are of one silo
   abbrev pub OfOthers : DumpNode → DumpNode → Type 0
@@ -68,7 +75,10 @@ module _ (hash : Grain → ℕ) (f : World) (facts : WorldFacts hash f) where
 
   apart : AllPairs OfOthers (dump_of f).nodes
   unfolding dump_of
-  apart = pairs_map OfOthers (λ (e : Silo × Node). dump_node e.0 e.1) f.nodes (entries_apart silo_cmp silo_cmp_total silo_cmp_exact f.nodes facts.peopled.by_address)
+  apart =
+      pairs_map OfOthers (λ (e : Silo × Node). dump_node e.0 e.1) f.nodes
+      (entries_apart silo_cmp silo_cmp_total silo_cmp_exact f.nodes facts.peopled.by_address)
 
   pub live_apart : AllPairs OfOthers (live_nodes (dump_of f))
-  live_apart = AllPairs-filter OfOthers (λ node. not (is_dead_in (dump_view (dump_of f) (dump_of f).current) node.silo)) (dump_of f).nodes apart
+  live_apart =
+      AllPairs-filter OfOthers (λ node. not (is_dead_in (dump_view (dump_of f) (dump_of f).current) node.silo)) (dump_of f).nodes apart

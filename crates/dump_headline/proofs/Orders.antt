@@ -40,10 +40,12 @@ module _ {K X : Type 0} (R : K → K → Ordering) (o : IsTotalOrder R) (exact :
   pub entries_apart : (es : List (K × X)) → IsStrictlySortedBy R (keys_of es) → AllPairs (λ e later. e.0 ≢ later.0) es
   unfolding IsStrictlySortedBy
   entries_apart [] sorted = λ i j d lt below. absurd (omega (arith, below))
-  entries_apart (e ∷ es) sorted = AllPairs-cons (λ (x later : K × X). x.0 ≢ later.0) e es (apart_from e.0 es sorted.0) (entries_apart es sorted.1)
+  entries_apart (e ∷ es) sorted =
+      AllPairs-cons (λ (x later : K × X). x.0 ≢ later.0) e es (apart_from e.0 es sorted.0) (entries_apart es sorted.1)
 
   -- what holds of all that is found holds of each entry
-  pub all_found : (P : K × X → Type 0) (es : List (K × X)) → IsStrictlySortedBy R (keys_of es) → ((key : K) (x : X) → lookup (is_at (R key)) es ≡ Some x → P (key, x)) → All P es
+  pub all_found : (P : K × X → Type 0) (es : List (K × X)) → IsStrictlySortedBy R (keys_of es)
+      → ((key : K) (x : X) → lookup (is_at (R key)) es ≡ Some x → P (key, x)) → All P es
   unfolding IsStrictlySortedBy
   all_found P [] sorted so = All-nil P
   all_found P (e ∷ es) sorted so =
@@ -54,6 +56,7 @@ module _ {K X : Type 0} (R : K → K → Ordering) (o : IsTotalOrder R) (exact :
       so key x (ap (λ b. cond b (Some e.1) (lookup (is_at (R key)) es)) (apart_in_order R exact key e.0 other) ∙ found)))
 
 -- two ways to list the keys
-pub mapped_keys : {X K Y : Type 0} (f : K × X → Y) (key : Y → K) → ((e : K × X) → key (f e) ≡ e.0) → (es : List (K × X)) → map key (map f es) ≡ keys_of es
+pub mapped_keys : {X K Y : Type 0} (f : K × X → Y) (key : Y → K) → ((e : K × X) → key (f e) ≡ e.0) → (es : List (K × X))
+    → map key (map f es) ≡ keys_of es
 mapped_keys f key same [] = refl
 mapped_keys f key same (e ∷ es) = λ i. same e i ∷ mapped_keys f key same es i

@@ -15,7 +15,8 @@ use Rattle.directory_facts.proofs.Entries.{same_key}
 use Rattle.dump_rules.specs.Dump.{dump_row, named_places}
 
 -- those that were named at a join, or are hashed, are the silo's
-pub told_places : (hashing : Hashing) (places : PlacesValue) (silo : Silo) (list : List ℕ) → IsPlaces places → places.hashing ≡ hashing → places_of places silo ≡ Some list
+pub told_places : (hashing : Hashing) (places : PlacesValue) (silo : Silo) (list : List ℕ) → IsPlaces places → places.hashing ≡ hashing
+    → places_of places silo ≡ Some list
     → places_for hashing places.points silo (named_places hashing places silo) ≡ list
 told_places Sha256 places silo list is hashing found = sym ((is.each silo list found).hashed hashing)
 told_places Stated places silo list is hashing found = ap (λ o. unwrap_or o []) found
@@ -28,9 +29,12 @@ module _ (hashing : Hashing) (points : ℕ) (places : PlacesValue) (silo : Silo)
   abbrev all_told : List (Silo × Row) → List (Silo × List ℕ)
   all_told rows = map (λ row. (row.silo, places_for hashing points row.silo row.places)) (map (λ e. dump_row places e.0 e.1) rows)
 
-  pub told_at : (rows : List (Silo × Row)) (row : Row) → lookup (is_at (silo_cmp silo)) rows ≡ Some row → lookup (is_at (silo_cmp silo)) (all_told rows) ≡ Some (told silo)
+  pub told_at : (rows : List (Silo × Row)) (row : Row) → lookup (is_at (silo_cmp silo)) rows ≡ Some row
+      → lookup (is_at (silo_cmp silo)) (all_told rows) ≡ Some (told silo)
   told_at [] row found = absurd (cc (found))
   told_at (e ∷ es) row found =
-      on_bool (λ b. is_at (silo_cmp silo) e.0 ≡ b → cond b (Some e.1) (lookup (is_at (silo_cmp silo)) es) ≡ Some row → cond b (Some (told e.0)) (lookup (is_at (silo_cmp silo)) (all_told es)) ≡ Some (told silo))
+      on_bool (λ b. is_at (silo_cmp silo) e.0 ≡ b → cond b (Some e.1) (lookup (is_at (silo_cmp silo)) es) ≡ Some row
+      → cond b (Some (told e.0)) (lookup (is_at (silo_cmp silo)) (all_told es)) ≡ Some (told silo))
       (is_at (silo_cmp silo) e.0)
-      (λ t at has. ap (λ (q : Silo). Some (told q)) (sym (same_key silo_cmp silo_cmp_exact silo e.0 at))) (λ f at has. told_at es row has) refl found
+      (λ t at has. ap (λ (q : Silo). Some (told q)) (sym (same_key silo_cmp silo_cmp_exact silo e.0 at))) (λ f at has. told_at es row has)
+      refl found

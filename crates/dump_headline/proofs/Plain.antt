@@ -47,7 +47,8 @@ put_last : (name : List ℕ) (d : Data) (before : Members) → is_after name bef
 put_last name d no_members after = refl
 put_last name d (member other e ms) after =
     let parts = both (is_gt (slice_cmp nat_cmp name other)) (is_after name ms) after in
-    ap (λ r. match_ordering r (member name d (member other e ms)) (member other d ms) (member other e (put name d ms))) (greater (slice_cmp nat_cmp name other) parts.0)
+    ap (λ r. match_ordering r (member name d (member other e ms)) (member other d ms) (member other e (put name d ms)))
+    (greater (slice_cmp nat_cmp name other) parts.0)
     ∙ ap (λ later. member other e later) (put_last name d ms parts.1)
 
 join_push : (name : List ℕ) (d : Data) (before later : Members) → join (push name d before) later ≡ join before (member name d later)
@@ -80,7 +81,8 @@ abbrev mutual
   -- after those members
   pub HasPlain : Members → Members → ℕ → Type 0
   HasPlain before no_members depth = ⊤
-  HasPlain before (member name d ms) depth = AreVisible name × (is_after name before ≡ true) × IsPlain d depth × HasPlain (push name d before) ms depth
+  HasPlain before (member name d ms) depth =
+      AreVisible name × (is_after name before ≡ true) × IsPlain d depth × HasPlain (push name d before) ms depth
 
 mutual
   numbers : (d : Data) (depth : ℕ) → IsPlain d depth → tree.HasNumbers (outline d)
@@ -118,11 +120,13 @@ mutual
 
   item_depths : (ds : Items) (depth : ℕ) → ArePlain ds depth → tree.items_depth (items_outline ds) ≤ depth
   item_depths no_items depth are = omega arith
-  item_depths (item d ds) depth are = let first = depths d depth are.0 in let rest = item_depths ds depth are.1 in omega (arith, first, rest)
+  item_depths (item d ds) depth are =
+      let first = depths d depth are.0 in let rest = item_depths ds depth are.1 in omega (arith, first, rest)
 
   member_depths : (before ms : Members) (depth : ℕ) → HasPlain before ms depth → tree.members_depth (members_outline ms) ≤ depth
   member_depths before no_members depth has = omega arith
-  member_depths before (member name d ms) depth has = let first = depths d depth has.2 in let rest = member_depths (push name d before) ms depth has.3 in omega (arith, first, rest)
+  member_depths before (member name d ms) depth has =
+      let first = depths d depth has.2 in let rest = member_depths (push name d before) ms depth has.3 in omega (arith, first, rest)
 
 mutual
   again : (d : Data) (depth : ℕ) → IsPlain d depth → of_json (outline d) ≡ Some d
@@ -140,9 +144,11 @@ mutual
   items_again : (ds : Items) (depth : ℕ) → ArePlain ds depth → of_items (items_outline ds) ≡ Some ds
   items_again no_items depth are = refl
   items_again (item d ds) depth are =
-      ap (λ o. option_and_then (λ x. option_map (item x) (of_items (items_outline ds))) o) (again d depth are.0) ∙ ap (option_map (item d)) (items_again ds depth are.1)
+      ap (λ o. option_and_then (λ x. option_map (item x) (of_items (items_outline ds))) o) (again d depth are.0)
+      ∙ ap (option_map (item d)) (items_again ds depth are.1)
 
-  members_again : (before ms : Members) (depth : ℕ) → HasPlain before ms depth → of_members (members_outline ms) before ≡ Some (join before ms)
+  members_again : (before ms : Members) (depth : ℕ) → HasPlain before ms depth
+      → of_members (members_outline ms) before ≡ Some (join before ms)
   members_again before no_members depth has = ap Some (join_nothing before)
   members_again before (member name d ms) depth has =
       ap (λ o. option_and_then (λ x. of_members (members_outline ms) (put name x before)) o) (again d depth has.2)
@@ -166,9 +172,11 @@ mutual
   text_visible (number (float x)) depth is = absurd is
   text_visible (string text) depth is = quoted_visible text is
   text_visible (array ds) zero is = absurd is
-  text_visible (array ds) (suc depth) is = All-cons IsVisible 91 (items_text false ds) (omega arith, omega arith) (items_visible false ds depth is)
+  text_visible (array ds) (suc depth) is =
+      All-cons IsVisible 91 (items_text false ds) (omega arith, omega arith) (items_visible false ds depth is)
   text_visible (object ms) zero is = absurd is
-  text_visible (object ms) (suc depth) is = All-cons IsVisible 123 (members_text false ms) (omega arith, omega arith) (members_visible false no_members ms depth is)
+  text_visible (object ms) (suc depth) is =
+      All-cons IsVisible 123 (members_text false ms) (omega arith, omega arith) (members_visible false no_members ms depth is)
 
   items_visible : (later : Bool) (ds : Items) (depth : ℕ) → ArePlain ds depth → AreVisible (items_text later ds)
   items_visible later no_items depth are = brackets 93 (omega arith, omega arith)
@@ -183,7 +191,8 @@ mutual
       All-append IsVisible (comma_if later) (print.quoted name ++ 58 ∷ rest) (comma_visible later)
       (All-append IsVisible (print.quoted name) (58 ∷ rest) (quoted_visible name has.0)
       (All-cons IsVisible 58 rest (omega arith, omega arith)
-      (All-append IsVisible (compact_text d) (members_text true ms) (text_visible d depth has.2) (members_visible true (push name d before) ms depth has.3))))
+      (All-append IsVisible (compact_text d) (members_text true ms) (text_visible d depth has.2)
+      (members_visible true (push name d before) ms depth has.3))))
 
 -- ---- read again
 pub read_again : (d : Data) (depth : ℕ) → depth ≤ 127 → IsPlain d depth → value_in (compact_text d) ≡ Some d

@@ -20,9 +20,7 @@ use Rattle.directory_rules.specs.declared.held.Phase.TheVariants as phase
 use Rattle.directory_rules.specs.declared.piece_state.PieceState.{PieceState}
 use Rattle.directory_rules.specs.declared.piece_state.PieceState.TheVariants as state
 use Rattle.directory_rules.specs.Table.{entries_of}
-use Rattle.directory_rules.specs.Piece.{Piece}
-use Rattle.directory_rules.specs.Node.{Node}
-use Rattle.directory_rules.specs.World.{World}
+use Rattle.directory_rules.specs.State.{Piece, Node, World}
 use Rattle.directory_rules.specs.Happens.{node_of}
 use Rattle.directory_rules.specs.Settled.{IsFirmOn, IsHeld, IsSettledAt, IsRightTable, OwnsIn}
 use Rattle.directory_facts.proofs.Entries.{same_key}
@@ -55,12 +53,17 @@ settled_is (state.Awaiting from) is = absurd (cc (is))
 settled_is state.Recovering is = absurd (cc (is))
 
 -- an activation among those held, where no grain stands twice, is found
-held_found : (held : List (Grain × Held)) (e : Grain × Held) → AllPairs (λ x later. x.0 ≢ later.0) held → Contains held e → lookup (is_at (grain_cmp e.0)) held ≡ Some e.1
+held_found : (held : List (Grain × Held)) (e : Grain × Held) → AllPairs (λ x later. x.0 ≢ later.0) held → Contains held e
+    → lookup (is_at (grain_cmp e.0)) held ≡ Some e.1
 held_found [] e once c = absurd (contains_nothing e c)
-held_found (x ∷ xs) e once c = at (first_or_later x e xs c) (λ later. held_found xs e (pairs_tail (λ (y z : Grain × Held). y.0 ≢ z.0) x xs once) later)
+held_found (x ∷ xs) e once c =
+    at (first_or_later x e xs c) (λ later. held_found xs e (pairs_tail (λ (y z : Grain × Held). y.0 ≢ z.0) x xs once) later)
   where
-    at : (x ≡ e) ⊎ Contains xs e → (Contains xs e → lookup (is_at (grain_cmp e.0)) xs ≡ Some e.1) → lookup (is_at (grain_cmp e.0)) (x ∷ xs) ≡ Some e.1
-    at (inl same) rest = subst (λ (y : Grain × Held). lookup (is_at (grain_cmp y.0)) (x ∷ xs) ≡ Some y.1) same (lookup_first grain_cmp grain_cmp_total x.0 x.1 xs)
+    at : (x ≡ e) ⊎ Contains xs e → (Contains xs e → lookup (is_at (grain_cmp e.0)) xs ≡ Some e.1)
+        → lookup (is_at (grain_cmp e.0)) (x ∷ xs) ≡ Some e.1
+    at (inl same) rest =
+        subst (λ (y : Grain × Held). lookup (is_at (grain_cmp y.0)) (x ∷ xs) ≡ Some y.1) same
+        (lookup_first grain_cmp grain_cmp_total x.0 x.1 xs)
     at (inr later) rest =
         let apart = All-contains (λ (z : Grain × Held). x.0 ≢ z.0) xs e (pairs_head (λ (y z : Grain × Held). y.0 ≢ z.0) x xs once) later in
         lookup_later grain_cmp grain_cmp_exact e.0 x.0 x.1 xs (λ same. apart (sym same)) ∙ rest later
@@ -82,24 +85,34 @@ module _ (m : Setting) (f : World) (setting : IsSettingOf m f) (facts : WorldFac
       record { its = found.0; among = found.1; is = found.2 }
 
   firm_here : (silo : Silo) (node : Node) → node_of f silo ≡ Some node → (held : DumpHeld) → Contains (firm_held (dump_node silo node)) held
-      → (its : Held) × IsFirmOn f held.grain silo its × (entry_of_held held ≡ record { grain = held.grain; activation = record { silo = silo; count = its.count } })
+      → (its : Held) × IsFirmOn f held.grain silo its ×
+      (entry_of_held held ≡ record { grain = held.grain; activation = record { silo = silo; count = its.count } })
   firm_here silo node there held c =
       let kept = in_filter (λ (h : DumpHeld). is_firm_phase h.phase) (dump_node silo node).held held c in
       let by = held_by silo node held kept.0 in
       let e = by.its in
       let found = held_found node.host.held e (facts.nodes silo node there).own.once by.among in
       let firm : e.1.phase ≡ phase.Firm = firm_is e.1.phase (ap (λ (h : DumpHeld). is_firm_phase h.phase) by.is ∙ kept.1) in
-      let on : IsFirmOn f e.0 silo e.1 = record { node = node; live = there; found = found; firm = firm } in
-      (e.1, subst (λ (h : DumpHeld). IsFirmOn f h.grain silo e.1) by.is on, subst (λ (h : DumpHeld). entry_of_held h ≡ record { grain = h.grain; activation = record { silo = silo; count = e.1.count } }) by.is refl)
+      let on : IsFirmOn f e.0 silo e.1 = record { node = node; live = there; found = found; firm = firm } in (
+        e.1,
+        subst (λ (h : DumpHeld). IsFirmOn f h.grain silo e.1) by.is on,
+        subst
+            (λ (h : DumpHeld). entry_of_held h ≡ record { grain = h.grain; activation = record { silo = silo; count = e.1.count } }) by.is refl,
+      )
 
-  firm_of : (node : DumpNode) → IsDumped f node → (grain : Grain) → Contains (firm_grains node) grain → (its : Held) × IsFirmOn f grain node.silo its
+  firm_of : (node : DumpNode) → IsDumped f node → (grain : Grain) → Contains (firm_grains node) grain
+      → (its : Held) × IsFirmOn f grain node.silo its
   firm_of node is grain c =
       let at = subst (λ (n : DumpNode). Contains (firm_grains n) grain) (sym is.is) c in
       let found = in_map (λ (h : DumpHeld). h.grain) (firm_held (dump_node is.silo is.node)) grain at in
-      let firm = firm_here is.silo is.node is.there found.0 found.1 in
-      (firm.0, subst (λ (g : Grain). IsFirmOn f g node.silo firm.0) found.2 (subst (λ (n : DumpNode). IsFirmOn f found.0.grain n.silo firm.0) is.is firm.1))
+      let firm = firm_here is.silo is.node is.there found.0 found.1 in (
+        firm.0,
+        subst (λ (g : Grain). IsFirmOn f g node.silo firm.0) found.2
+            (subst (λ (n : DumpNode). IsFirmOn f found.0.grain n.silo firm.0) is.is firm.1),
+      )
 
-  no_two : (nodes : List DumpNode) → All (IsDumped f) nodes → AllPairs (OfOthers m.hash f facts) nodes → (grain : Grain) → ¬ (IsFirmOnTwo grain nodes)
+  no_two : (nodes : List DumpNode) → All (IsDumped f) nodes → AllPairs (OfOthers m.hash f facts) nodes → (grain : Grain)
+      → ¬ (IsFirmOnTwo grain nodes)
   no_two [] are apart grain never = never
   no_two (node ∷ nodes) are apart grain (inl two) =
       let others = All-tail (IsDumped f) node nodes are in
@@ -112,7 +125,8 @@ module _ (m : Setting) (f : World) (setting : IsSettingOf m f) (facts : WorldFac
 
   one_firm : NoGrain (λ grain. IsFirmOnTwo grain (live_nodes (dump_of f)))
   one_firm grain =
-      no_two (live_nodes (dump_of f)) (each_live m.hash f facts (IsDumped f) (λ silo node found. record { silo = silo; node = node; there = found; is = refl })) (live_apart m.hash f facts) grain
+      no_two (live_nodes (dump_of f)) (each_live m.hash f facts (IsDumped f)
+      (λ silo node found. record { silo = silo; node = node; there = found; is = refl })) (live_apart m.hash f facts) grain
 
   -- ---- settled pieces of silos that have seen the current version
   record IsCurrent (piece : DumpPiece) : Type 0 where
@@ -126,7 +140,8 @@ module _ (m : Setting) (f : World) (setting : IsSettingOf m f) (facts : WorldFac
     is : dump_piece its.1 ≡ piece
 
   -- a settled piece of the dump is one of the node's
-  current_one : (silo : Silo) (node : Node) → node_of f silo ≡ Some node → node.view.version ≡ f.views.version → (piece : DumpPiece) → is_settled_state piece.state ≡ true
+  current_one : (silo : Silo) (node : Node) → node_of f silo ≡ Some node → node.view.version ≡ f.views.version → (piece : DumpPiece)
+      → is_settled_state piece.state ≡ true
       → (e : ℕ × Piece) → Contains node.holding.pieces e → dump_piece e.1 ≡ piece → IsCurrent piece
   current_one silo node there seen piece settled e among is = record {
     silo = silo;
@@ -139,12 +154,14 @@ module _ (m : Setting) (f : World) (setting : IsSettingOf m f) (facts : WorldFac
     is = is;
   }
 
-  current_on : (node : DumpNode) → IsDumped f node → node.seen ≡ f.views.version → (piece : DumpPiece) → Contains (filter (λ p. is_settled_state p.state) node.pieces) piece → IsCurrent piece
+  current_on : (node : DumpNode) → IsDumped f node → node.seen ≡ f.views.version → (piece : DumpPiece)
+      → Contains (filter (λ p. is_settled_state p.state) node.pieces) piece → IsCurrent piece
   current_on node of seen piece c =
       let settled = in_filter (λ (p : DumpPiece). is_settled_state p.state) node.pieces piece c in
       let there = subst (λ (n : DumpNode). Contains n.pieces piece) (sym of.is) settled.0 in
       let one = in_map (λ (e : ℕ × Piece). dump_piece e.1) of.node.holding.pieces piece there in
-      current_one of.silo of.node of.there (subst (λ (n : DumpNode). n.seen ≡ f.views.version) (sym of.is) seen) piece settled.1 one.0 one.1 one.2
+      current_one of.silo of.node of.there (subst (λ (n : DumpNode). n.seen ≡ f.views.version) (sym of.is) seen) piece settled.1 one.0 one.1
+      one.2
 
   current : (piece : DumpPiece) → Contains (current_pieces (dump_of f)) piece → IsCurrent piece
   unfolding dump_of
@@ -155,13 +172,16 @@ module _ (m : Setting) (f : World) (setting : IsSettingOf m f) (facts : WorldFac
       current_on from.0 (dumped m.hash f facts from.0 kept.0) (eqb-true from.0.seen f.views.version kept.1) piece from.2
 
   -- such a piece's entries of a hash that it has are right
-  right_there : (piece : DumpPiece) (is : IsCurrent piece) (h : ℕ) → holds is.its.1.range h ≡ true → IsRightTable f h (filter (is_hashed_so m.hash h) (entries_of is.its.1.entries))
+  right_there : (piece : DumpPiece) (is : IsCurrent piece) (h : ℕ) → holds is.its.1.range h ≡ true
+      → IsRightTable f h (filter (is_hashed_so m.hash h) (entries_of is.its.1.entries))
   right_there piece is h held =
       let found = piece_found m.hash f facts is.silo is.node is.there is.its is.among h held in
       let at : IsSettledAt f f.views.version h is.silo is.node = record {
         live = is.there;
         seen = is.seen;
-        owner = subst (λ version. OwnsIn f version is.silo h) is.seen (owns_in m f setting facts carried is.silo is.node h is.its.1 is.there found);
+        owner =
+            subst (λ version. OwnsIn f version is.silo h) is.seen
+            (owns_in m f setting facts carried is.silo is.node h is.its.1 is.there found);
         piece = is.its.1;
         found = found;
         settled = is.settled;
@@ -169,40 +189,47 @@ module _ (m : Setting) (f : World) (setting : IsSettingOf m f) (facts : WorldFac
       piece_right m f setting facts carried f.views.version h is.silo is.node at refl
 
   -- a firm activation has its entry there
-  entered_there : (silo : Silo) (node : Node) → node_of f silo ≡ Some node → (held : DumpHeld) → Contains (firm_held (dump_node silo node)) held → (piece : DumpPiece) (is : IsCurrent piece)
+  entered_there : (silo : Silo) (node : Node) → node_of f silo ≡ Some node → (held : DumpHeld)
+      → Contains (firm_held (dump_node silo node)) held → (piece : DumpPiece) (is : IsCurrent piece)
       → holds is.its.1.range (hash_grain f.settings.hashing held.grain) ≡ true → Contains piece.entries (entry_of_held held)
   entered_there silo node there held c piece is lies =
       let h = hash_grain f.settings.hashing held.grain in
       let firm = firm_here silo node there held c in
       let complete = (right_there piece is h lies).complete held.grain silo firm.0 refl firm.1 in
       let has = (in_filter (is_hashed_so m.hash h) (entries_of is.its.1.entries) _ complete).0 in
-      subst (λ (p : DumpPiece). Contains p.entries (entry_of_held held)) is.is (subst (λ (e : Entry). Contains (entries_of is.its.1.entries) e) (sym firm.2) has)
+      subst (λ (p : DumpPiece). Contains p.entries (entry_of_held held)) is.is
+      (subst (λ (e : Entry). Contains (entries_of is.its.1.entries) e) (sym firm.2) has)
 
-  entered_by : (node : DumpNode) → IsDumped f node → (entry : Entry) → Contains (map entry_of_held (firm_held node)) entry → (piece : DumpPiece) (is : IsCurrent piece)
+  entered_by : (node : DumpNode) → IsDumped f node → (entry : Entry) → Contains (map entry_of_held (firm_held node)) entry
+      → (piece : DumpPiece) (is : IsCurrent piece)
       → holds is.its.1.range (hash_grain f.settings.hashing entry.grain) ≡ true → Contains piece.entries entry
   entered_by node of entry c piece is lies =
       let there = subst (λ (n : DumpNode). Contains (map entry_of_held (firm_held n)) entry) (sym of.is) c in
       let held = in_map entry_of_held (firm_held (dump_node of.silo of.node)) entry there in
       subst (λ (e : Entry). Contains piece.entries e) held.2
-      (entered_there of.silo of.node of.there held.0 held.1 piece is (subst (λ (e : Entry). holds is.its.1.range (hash_grain f.settings.hashing e.grain) ≡ true) (sym held.2) lies))
+      (entered_there of.silo of.node of.there held.0 held.1 piece is
+      (subst (λ (e : Entry). holds is.its.1.range (hash_grain f.settings.hashing e.grain) ≡ true) (sym held.2) lies))
 
   entered : NoGrain (IsMissing (dump_of f))
   unfolding dump_of
   entered grain (entry, among, same, (piece, currently, (inside, absent))) =
       let of = in_flat_map (λ (node : DumpNode). map entry_of_held (firm_held node)) (live_nodes (dump_of f)) entry among in
       let is = current piece currently in
-      absent (entered_by of.0 (dumped m.hash f facts of.0 of.1) entry of.2 piece is (ap (λ (p : DumpPiece). holds p.range (hash_grain f.settings.hashing entry.grain)) is.is ∙ inside))
+      absent (entered_by of.0 (dumped m.hash f facts of.0 of.1) entry of.2 piece is
+      (ap (λ (p : DumpPiece). holds p.range (hash_grain f.settings.hashing entry.grain)) is.is ∙ inside))
 
   -- ---- entries
   held_listed : (entry : Entry) → IsHeld f entry.grain entry.activation → Contains (held_entries (dump_of f)) entry
   held_listed entry is =
       let silo = entry.activation.silo in
       let among =
-      Contains-from_lookup {eq = λ a. is_at (grain_cmp a)} (λ x y at. same_key grain_cmp grain_cmp_exact x y at) entry.grain is.held is.node.host.held is.found in
+      Contains-from_lookup {eq = λ a. is_at (grain_cmp a)} (λ x y at. same_key grain_cmp grain_cmp_exact x y at) entry.grain is.held
+      is.node.host.held is.found in
       let listed = to_map (λ (e : Grain × Held). dump_held silo e.0 e.1) is.node.host.held (entry.grain, is.held) among in
       let one = to_map entry_of_held (dump_node silo is.node).held (dump_held silo entry.grain is.held) listed in
       let same : entry_of_held (dump_held silo entry.grain is.held) ≡ entry = ap (λ count. record { grain = entry.grain; activation = record { silo = silo; count = count } }) is.count in
-      to_flat_map (λ (node : DumpNode). map entry_of_held node.held) (live_nodes (dump_of f)) (dump_node silo is.node) entry (live_there m.hash f facts silo is.node is.live)
+      to_flat_map (λ (node : DumpNode). map entry_of_held node.held) (live_nodes (dump_of f)) (dump_node silo is.node) entry
+      (live_there m.hash f facts silo is.node is.live)
       (subst (λ (e : Entry). Contains (map entry_of_held (dump_node silo is.node).held) e) same one)
 
   entry_held : (entry : Entry) (piece : DumpPiece) → IsCurrent piece → Contains piece.entries entry → IsHeld f entry.grain entry.activation
@@ -212,7 +239,8 @@ module _ (m : Setting) (f : World) (setting : IsSettingOf m f) (facts : WorldFac
       let there = subst (λ (p : DumpPiece). Contains p.entries entry) (sym is.is) c in
       let inside = All-map (λ (e : Entry). holds its.range (m.hash e.grain) ≡ true) (λ (x : Grain × Entry). x.1) its.entries (piece_is m.hash f facts is.silo is.node is.there is.its is.among).inside in
       let lies = All-contains (λ (e : Entry). holds its.range (m.hash e.grain) ≡ true) (entries_of its.entries) entry inside there in
-      All-contains (λ (e : Entry). IsHeld f e.grain e.activation) (filter (is_hashed_so m.hash h) (entries_of its.entries)) entry (right_there piece is h lies).held
+      All-contains (λ (e : Entry). IsHeld f e.grain e.activation) (filter (is_hashed_so m.hash h) (entries_of its.entries)) entry
+      (right_there piece is h lies).held
       (to_filter (is_hashed_so m.hash h) (entries_of its.entries) entry there (eq-eqb h h refl))
 
   none_strange : NoGrain (IsStrange (dump_of f))

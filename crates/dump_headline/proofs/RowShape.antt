@@ -16,7 +16,7 @@ use Rattle.ring_range.specs.Range.{circle}
 use Rattle.hash_ring.specs.declared.hashing.Hashing.{Hashing}
 use Rattle.hash_ring.specs.declared.hashing.Hashing.TheVariants.{Sha256, Stated}
 use Rattle.hash_ring.specs.Places.{PlacesValue, IsPlaces, places_of, is_added}
-use Rattle.directory_rules.specs.World.{World}
+use Rattle.directory_rules.specs.State.{World}
 use Rattle.directory_rules.proofs.Cases.{on_bool}
 use Rattle.directory_facts.proofs.Places.{added_row}
 use Rattle.directory_headline.proofs.Facts.{WorldFacts}
@@ -52,15 +52,18 @@ made_or_never None version few by = small 0 (omega arith)
 made_or_never (Some m) version few by = small m (let upto = by m refl in omega (arith, upto, few))
 
 -- ---- places
-named_many : (hashing : Hashing) (places : PlacesValue) (silo : Silo) → IsPlaces places → is_added places silo ≡ true → right.MayName hashing (length (named_places hashing places silo))
+named_many : (hashing : Hashing) (places : PlacesValue) (silo : Silo) → IsPlaces places → is_added places silo ≡ true
+    → right.MayName hashing (length (named_places hashing places silo))
 named_many Sha256 places silo is added = refl
 named_many Stated places silo is added = by (places_of places silo) refl added
   where
-    by : (found : Option (List ℕ)) → places_of places silo ≡ found → is_some found ≡ true → right.MayName Stated (length (unwrap_or found []))
+    by : (found : Option (List ℕ)) → places_of places silo ≡ found → is_some found ≡ true
+        → right.MayName Stated (length (unwrap_or found []))
     by None at some = absurd (cc (some))
     by (Some list) at some = let its = is.each silo list at in (its.some, its.most)
 
-named_hashes : (hashing : Hashing) (places : PlacesValue) (silo : Silo) → IsPlaces places → All (λ place. place < circle) (named_places hashing places silo)
+named_hashes : (hashing : Hashing) (places : PlacesValue) (silo : Silo) → IsPlaces places
+    → All (λ place. place < circle) (named_places hashing places silo)
 named_hashes Sha256 places silo is = All-nil (λ place. place < circle)
 named_hashes Stated places silo is = by (places_of places silo) refl
   where
@@ -87,7 +90,8 @@ module _ (hash : Grain → ℕ) (f : World) (facts : WorldFacts hash f) where
   unfolding dump_of
   rows_numbers =
       All-map right.HasRowNumbers (λ (e : Silo × Row). dump_row f.places e.0 e.1) f.views.rows
-      (all_found silo_cmp silo_cmp_total silo_cmp_exact (λ e. right.HasRowNumbers (dump_row f.places e.0 e.1)) f.views.rows facts.peopled.whole.in_order row_numbers)
+      (all_found silo_cmp silo_cmp_total silo_cmp_exact (λ e. right.HasRowNumbers (dump_row f.places e.0 e.1)) f.views.rows
+      facts.peopled.whole.in_order row_numbers)
 
   row_is : (silo : Silo) (row : Row) → row_of f.views silo ≡ Some row → right.IsRowOf (dump_of f) (dump_row f.places silo row)
   unfolding dump_of
@@ -96,12 +100,15 @@ module _ (hash : Grain → ℕ) (f : World) (facts : WorldFacts hash f) where
       record {
         joined = is.joined_above;
         made = is.joined_by;
-        places = subst (λ (hashing : Hashing). right.MayName hashing (length (named_places f.places.hashing f.places silo))) facts.views.hashing
-            (named_many f.places.hashing f.places silo facts.places (added_row f.views f.places silo facts.views.added (subst (λ o. IsSome o) (sym found) refl)));
+        places =
+            subst (λ (hashing : Hashing). right.MayName hashing (length (named_places f.places.hashing f.places silo))) facts.views.hashing
+            (named_many f.places.hashing f.places silo facts.places
+            (added_row f.views f.places silo facts.views.added (subst (λ o. IsSome o) (sym found) refl)));
       }
 
   pub rows_are : All (right.IsRowOf (dump_of f)) (dump_of f).rows
   unfolding dump_of
   rows_are =
       All-map (right.IsRowOf (dump_of f)) (λ (e : Silo × Row). dump_row f.places e.0 e.1) f.views.rows
-      (all_found silo_cmp silo_cmp_total silo_cmp_exact (λ e. right.IsRowOf (dump_of f) (dump_row f.places e.0 e.1)) f.views.rows facts.peopled.whole.in_order row_is)
+      (all_found silo_cmp silo_cmp_total silo_cmp_exact (λ e. right.IsRowOf (dump_of f) (dump_row f.places e.0 e.1)) f.views.rows
+      facts.peopled.whole.in_order row_is)

@@ -11,7 +11,7 @@ use Rattle.membership_view.specs.declared.row.Row.{Row}
 use Rattle.membership_view.specs.Views.{ViewsValue, rows_in, view_at}
 use Rattle.membership_view.specs.Whole.{IsViews, IsInTime}
 use Rattle.hash_ring.specs.Places.{PlacesValue}
-use Rattle.directory_rules.specs.World.{World}
+use Rattle.directory_rules.specs.State.{World}
 use Rattle.directory_rules.proofs.Cases.{on_bool}
 use Rattle.dump_rules.specs.Dump.{dump_row, dump_of}
 use Rattle.dump_rules.specs.Verdict.{unless_never, row_in_dump, dump_view}
@@ -19,7 +19,8 @@ use Rattle.dump_headline.proofs.Orders.{all_found}
 
 above_zero : (made : ℕ) → 0 < made → (made == 0) ≡ false
 above_zero made above =
-    on_bool (λ b. (made == 0) ≡ b → (made == 0) ≡ false) (made == 0) (λ t is. let none : made ≡ 0 = (Decides-eqb made 0).0 is in absurd (omega (arith, none, above))) (λ f is. is) refl
+    on_bool (λ b. (made == 0) ≡ b → (made == 0) ≡ false) (made == 0)
+    (λ t is. let none : made ≡ 0 = (Decides-eqb made 0).0 is in absurd (omega (arith, none, above))) (λ f is. is) refl
 
 -- a version above 0 is told from never
 told : (made : Option ℕ) → ((m : ℕ) → made ≡ Some m → 0 < m) → unless_never (unwrap_or made 0) ≡ made
@@ -27,14 +28,16 @@ told None above = refl
 told (Some made) above = ap (λ b. if b then None else Some made) (above_zero made (above made refl))
 
 -- a row
-row_back : (places : PlacesValue) (version : ℕ) (silo : Silo) (row : Row) → IsInTime version row → row_in_dump (dump_row places silo row) ≡ (silo, row)
+row_back : (places : PlacesValue) (version : ℕ) (silo : Silo) (row : Row) → IsInTime version row
+    → row_in_dump (dump_row places silo row) ≡ (silo, row)
 row_back places version silo row is =
     let left = told row.left (λ m at. let after = (is.left_after m at).0 in omega (arith, after)) in
     let dead = told row.dead (λ m at. let after = (is.dead_after m at).0 in omega (arith, after)) in
     λ i. (silo, record { joined = row.joined; left = left i; dead = dead i })
 
 -- all rows
-rows_back : (places : PlacesValue) (version : ℕ) (rows : List (Silo × Row)) → All (λ e. IsInTime version e.1) rows → map row_in_dump (map (λ e. dump_row places e.0 e.1) rows) ≡ rows
+rows_back : (places : PlacesValue) (version : ℕ) (rows : List (Silo × Row)) → All (λ e. IsInTime version e.1) rows
+    → map row_in_dump (map (λ e. dump_row places e.0 e.1) rows) ≡ rows
 rows_back places version [] all = refl
 rows_back places version (e ∷ es) all = λ i.
     row_back places version e.0 e.1 (All-head (λ (x : Silo × Row). IsInTime version x.1) e es all) i
@@ -45,9 +48,11 @@ pub in_time : (views : ViewsValue) → IsViews views → All (λ e. IsInTime vie
 in_time views is = all_found silo_cmp silo_cmp_total silo_cmp_exact (λ e. IsInTime views.version e.1) views.rows is.in_order is.in_time
 
 -- a view by the dump is that of the views
-pub dumped_view : (world : World) → IsViews world.views → (version : ℕ) → version ≤ world.views.version → dump_view (dump_of world) version ≡ view_at world.views version
+pub dumped_view : (world : World) → IsViews world.views → (version : ℕ) → version ≤ world.views.version
+    → dump_view (dump_of world) version ≡ view_at world.views version
 unfolding dump_of
 dumped_view world is version within =
     let rows = rows_back world.places world.views.version world.views.rows (in_time world.views is) in
     ap (λ (rows : List (Silo × Row)). record { version = version; rows = rows_in version rows }) rows
-    ∙ ap (λ b. record { version = version; rows = if b then rows_in version world.views.rows else [] }) (sym (le-leb version world.views.version within))
+    ∙ ap (λ b. record { version = version; rows = if b then rows_in version world.views.rows else [] })
+    (sym (le-leb version world.views.version within))

@@ -8,9 +8,7 @@ use Rattle.silo_address.specs.Grain.{Grain}
 use Rattle.silo_address.specs.declared.Entry.{Entry}
 use Rattle.ring_range.specs.Range.{IsRange, holds}
 use Rattle.directory_rules.specs.Table.{entries_of}
-use Rattle.directory_rules.specs.Piece.{Piece}
-use Rattle.directory_rules.specs.Node.{Node}
-use Rattle.directory_rules.specs.World.{World}
+use Rattle.directory_rules.specs.State.{Piece, Node, World}
 use Rattle.directory_rules.specs.Happens.{node_of}
 use Rattle.directory_headline.proofs.Facts.{IsPiece, WorldFacts}
 use Rattle.directory_facts.proofs.OwnPieces.{holding, counted}
@@ -43,9 +41,11 @@ module _ (hash : Grain → ℕ) where
   are_counted [] are = All-nil (IsCounted [])
   are_counted (e ∷ es) are =
       All-append (IsCounted (e ∷ es)) (entries_of e.1.entries) (entries_in es)
-      (All-weaker (λ x. holds e.1.range (hash x.grain) ≡ true) (IsCounted (e ∷ es)) (λ x held. let all = counted (hash x.grain) e es true held in omega (all, arith))
+      (All-weaker (λ x. holds e.1.range (hash x.grain) ≡ true) (IsCounted (e ∷ es))
+      (λ x held. let all = counted (hash x.grain) e es true held in omega (all, arith))
       (entries_of e.1.entries) (its_own e (All-head (λ x. IsPiece hash x.1) e es are)))
-      (All-weaker (IsCounted es) (IsCounted (e ∷ es)) (λ x some. more x some (holds e.1.range (hash x.grain)) refl) (entries_in es) (are_counted es (All-tail (λ x. IsPiece hash x.1) e es are)))
+      (All-weaker (IsCounted es) (IsCounted (e ∷ es)) (λ x some. more x some (holds e.1.range (hash x.grain)) refl) (entries_in es)
+      (are_counted es (All-tail (λ x. IsPiece hash x.1) e es are)))
     where
       more : (x : Entry) → IsCounted es x → (b : Bool) → holds e.1.range (hash x.grain) ≡ b → IsCounted (e ∷ es) x
       more x some true held = let all = counted (hash x.grain) e es true held in omega (all, arith)
@@ -72,9 +72,11 @@ module _ (hash : Grain → ℕ) where
       fewer h true held = let all = counted h e es true held in let one = once h in omega (all, one, arith)
       fewer h false held = let all = counted h e es false held in let one = once h in omega (all, one, arith)
 
-pub one_entry : (hash : Grain → ℕ) (f : World) → WorldFacts hash f → (silo : Silo) (node : Node) → node_of f silo ≡ Some node → AllPairs Apart (node_entries (dump_node silo node))
+pub one_entry : (hash : Grain → ℕ) (f : World) → WorldFacts hash f → (silo : Silo) (node : Node) → node_of f silo ≡ Some node
+    → AllPairs Apart (node_entries (dump_node silo node))
 one_entry hash f facts silo node there =
     let is = facts.nodes silo node there in
     singles hash node.holding.pieces is.pieces.each
     (held_once node.ring.points node.host.silo node.holding.pieces is.once
-    (All-weaker (λ (e : ℕ × Piece). IsPiece hash e.1) (λ (e : ℕ × Piece). IsRange e.1.range) (λ e its. its.range) node.holding.pieces is.pieces.each))
+    (All-weaker (λ (e : ℕ × Piece). IsPiece hash e.1) (λ (e : ℕ × Piece). IsRange e.1.range) (λ e its. its.range) node.holding.pieces
+    is.pieces.each))

@@ -34,8 +34,11 @@ module _ {X : Type 0} (depth : ℕ) (text : X → List ℕ) (value : X → Data)
 
   plain_items : (xs : List X) → Each xs → ArePlain (items_of value xs) depth
   plain_items [] each = tt
-  plain_items (x ∷ xs) each =
-      ((All-head (λ y. Tells depth (text y) (value y)) x xs each).0, plain_items xs (All-tail (λ y. Tells depth (text y) (value y)) x xs each))
+  plain_items (x ∷ xs) each = (
+    (All-head (λ y. Tells depth (text y) (value y)) x xs each).0,
+    plain_items xs
+        (All-tail (λ y. Tells depth (text y) (value y)) x xs each),
+  )
 
   items_joined : (xs : List X) → Each xs → join_with_byte 44 (map text xs) ++ 93 ∷ [] ≡ items_text false (items_of value xs)
   items_joined [] each = refl
@@ -65,18 +68,22 @@ module _ (depth : ℕ) where
   -- the names are visible and in order, after those before
   abbrev AreTold : Members → List Told → Type 0
   AreTold before [] = ⊤
-  AreTold before (m ∷ ms) = AreVisible m.name × (is_after m.name before ≡ true) × Tells depth m.text m.value × AreTold (push m.name m.value before) ms
+  AreTold before (m ∷ ms) =
+      AreVisible m.name × (is_after m.name before ≡ true) × Tells depth m.text m.value × AreTold (push m.name m.value before) ms
 
   plain_members : (before : Members) (ms : List Told) → AreTold before ms → HasPlain before (members_of (named_values ms)) depth
   plain_members before [] are = tt
   plain_members before (m ∷ ms) are = (are.0, are.1, are.2.0, plain_members (push m.name m.value before) ms are.3)
 
-  one_member : (m : Told) → AreVisible m.name → Tells depth m.text m.value → json_member (m.name, m.text) ≡ print.quoted m.name ++ 58 ∷ compact_text m.value
+  one_member : (m : Told) → AreVisible m.name → Tells depth m.text m.value
+      → json_member (m.name, m.text) ≡ print.quoted m.name ++ 58 ∷ compact_text m.value
   one_member m visible is = ap (λ t. t ++ 58 ∷ m.text) (quoted_same m.name visible) ∙ ap (λ t. print.quoted m.name ++ 58 ∷ t) is.1
 
-  members_joined : (before : Members) (ms : List Told) → AreTold before ms → join_with_byte 44 (map json_member (named_texts ms)) ++ 125 ∷ [] ≡ members_text false (members_of (named_values ms))
+  members_joined : (before : Members) (ms : List Told) → AreTold before ms
+      → join_with_byte 44 (map json_member (named_texts ms)) ++ 125 ∷ [] ≡ members_text false (members_of (named_values ms))
   members_joined before [] are = refl
-  members_joined before (m ∷ []) are = ap (λ t. t ++ 125 ∷ []) (one_member m are.0 are.2) ∙ append_assoc (print.quoted m.name) (58 ∷ compact_text m.value) (125 ∷ [])
+  members_joined before (m ∷ []) are =
+      ap (λ t. t ++ 125 ∷ []) (one_member m are.0 are.2) ∙ append_assoc (print.quoted m.name) (58 ∷ compact_text m.value) (125 ∷ [])
   members_joined before (m ∷ n ∷ ms) are =
       let rest = members_joined (push m.name m.value before) (n ∷ ms) are.3 in
       let after = join_with_byte 44 (map json_member (named_texts (n ∷ ms))) in
@@ -123,8 +130,10 @@ entry_told entry is =
     let grain = is.0.visible in
     let activation = activation_visible entry.activation is.1.silo is.1.count in
     list_told 0 quoted string (grain_text entry.grain ∷ activation_text entry.activation ∷ [])
-    (All-cons (λ text. Tells 0 (quoted text) (string text)) (grain_text entry.grain) (activation_text entry.activation ∷ []) (string_told 0 (grain_text entry.grain) grain)
-    (All-cons (λ text. Tells 0 (quoted text) (string text)) (activation_text entry.activation) [] (string_told 0 (activation_text entry.activation) activation) (All-nil (λ text. Tells 0 (quoted text) (string text)))))
+    (All-cons (λ text. Tells 0 (quoted text) (string text)) (grain_text entry.grain) (activation_text entry.activation ∷ [])
+    (string_told 0 (grain_text entry.grain) grain)
+    (All-cons (λ text. Tells 0 (quoted text) (string text)) (activation_text entry.activation) []
+    (string_told 0 (activation_text entry.activation) activation) (All-nil (λ text. Tells 0 (quoted text) (string text)))))
 
 -- a text beside its value
 point_told : (point : Point) → HasPointNumbers point → IsSilo point.silo → Tells 3 (point_json point) (point_value point)
@@ -136,7 +145,8 @@ point_told point has is =
     let three : List ℕ × Data = (decimal point.index, number_value point.index) in
     list_told 2 (λ (p : List ℕ × Data). p.0) (λ p. p.1) (one ∷ two ∷ three ∷ [])
     (All-cons P one (two ∷ three ∷ []) (number_told 2 point.place (omega (arith, place)))
-    (All-cons P two (three ∷ []) (string_told 2 (silo_text point.silo) (silo_visible point.silo is)) (All-cons P three [] (number_told 2 point.index has.index) (All-nil P))))
+    (All-cons P two (three ∷ []) (string_told 2 (silo_text point.silo) (silo_visible point.silo is))
+    (All-cons P three [] (number_told 2 point.index has.index) (All-nil P))))
 
 held_told : (held : DumpHeld) → IsNamedFor held.grain held.activation → Tells 3 (held_json held) (held_value held)
 held_told held is =
@@ -166,7 +176,9 @@ piece_told piece range has =
     ∷ []) (
       visible_by (codes "entries") refl,
       refl,
-      list_told 1 entry_json entry_value piece.entries (All-weaker (λ entry. IsNamedFor entry.grain entry.activation) (λ entry. Tells 1 (entry_json entry) (entry_value entry)) entry_told piece.entries has.entries),
+      list_told 1 entry_json entry_value piece.entries
+          (All-weaker (λ entry. IsNamedFor entry.grain entry.activation) (λ entry. Tells 1 (entry_json entry) (entry_value entry))
+          entry_told piece.entries has.entries),
       (
         visible_by (codes "from") refl,
         refl,
@@ -195,17 +207,22 @@ node_told node numbers has =
     ∷ []) (
       visible_by (codes "held") refl,
       refl,
-      list_told 3 held_json held_value node.held (All-weaker (λ held. IsNamedFor held.grain held.activation) (λ held. Tells 3 (held_json held) (held_value held)) held_told node.held has.held),
+      list_told 3 held_json held_value node.held (All-weaker (λ held. IsNamedFor held.grain held.activation)
+          (λ held. Tells 3 (held_json held) (held_value held)) held_told node.held has.held),
       (
         visible_by (codes "pieces") refl,
         refl,
         list_told 3 piece_json piece_value node.pieces
-            (All-weaker (λ piece. IsRange piece.range × HasPieceNames piece) (λ piece. Tells 3 (piece_json piece) (piece_value piece)) (λ piece is. piece_told piece is.0 is.1) node.pieces (both_all (λ piece. IsRange piece.range) HasPieceNames node.pieces numbers.pieces has.pieces)),
+            (All-weaker (λ piece. IsRange piece.range × HasPieceNames piece) (λ piece. Tells 3 (piece_json piece) (piece_value piece))
+            (λ piece is. piece_told piece is.0 is.1) node.pieces
+            (both_all (λ piece. IsRange piece.range) HasPieceNames node.pieces numbers.pieces has.pieces)),
         (
           visible_by (codes "ring") refl,
           refl,
           list_told 3 point_json point_value node.ring
-              (All-weaker (λ point. HasPointNumbers point × IsSilo point.silo) (λ point. Tells 3 (point_json point) (point_value point)) (λ point is. point_told point is.0 is.1) node.ring (both_all HasPointNumbers (λ point. IsSilo point.silo) node.ring numbers.ring has.ring)),
+              (All-weaker (λ point. HasPointNumbers point × IsSilo point.silo) (λ point. Tells 3 (point_json point) (point_value point))
+              (λ point is. point_told point is.0 is.1) node.ring
+              (both_all HasPointNumbers (λ point. IsSilo point.silo) node.ring numbers.ring has.ring)),
           (
             visible_by (codes "seen") refl,
             refl,
@@ -240,7 +257,8 @@ row_told row numbers is =
             visible_by (codes "places") refl,
             refl,
             list_told 3 decimal number_value row.places
-                (All-weaker (λ place. place < circle) (λ place. Tells 3 (decimal place) (number_value place)) (λ place below. number_told 3 place (omega (arith, below))) row.places numbers.places),
+                (All-weaker (λ place. place < circle) (λ place. Tells 3 (decimal place) (number_value place))
+                (λ place below. number_told 3 place (omega (arith, below))) row.places numbers.places),
             (visible_by (codes "silo") refl, refl, string_told 4 (silo_text row.silo) (silo_visible row.silo is), tt),
           ),
         ),
@@ -269,7 +287,8 @@ dump_told dump numbers has =
           visible_by (codes "nodes") refl,
           refl,
           list_told 5 node_json node_value dump.nodes
-              (All-weaker (λ node. HasNodeNumbers node × HasNodeNames node) (λ node. Tells 5 (node_json node) (node_value node)) (λ node is. node_told node is.0 is.1) dump.nodes (both_all HasNodeNumbers HasNodeNames dump.nodes numbers.nodes has.nodes)),
+              (All-weaker (λ node. HasNodeNumbers node × HasNodeNames node) (λ node. Tells 5 (node_json node) (node_value node))
+              (λ node is. node_told node is.0 is.1) dump.nodes (both_all HasNodeNumbers HasNodeNames dump.nodes numbers.nodes has.nodes)),
           (
             visible_by (codes "points") refl,
             refl,
@@ -278,7 +297,9 @@ dump_told dump numbers has =
               visible_by (codes "rows") refl,
               refl,
               list_told 5 row_json row_value dump.rows
-                  (All-weaker (λ row. HasRowNumbers row × IsSilo row.silo) (λ row. Tells 5 (row_json row) (row_value row)) (λ row is. row_told row is.0 is.1) dump.rows (both_all HasRowNumbers (λ row. IsSilo row.silo) dump.rows numbers.rows has.rows)),
+                  (All-weaker (λ row. HasRowNumbers row × IsSilo row.silo) (λ row. Tells 5 (row_json row) (row_value row))
+                  (λ row is. row_told row is.0 is.1) dump.rows
+                  (both_all HasRowNumbers (λ row. IsSilo row.silo) dump.rows numbers.rows has.rows)),
               tt,
             ),
           ),

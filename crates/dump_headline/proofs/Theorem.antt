@@ -42,4 +42,12 @@ rightly_told settings events are named =
     let all = said (dump_of f) is none in
     let in_range = names_are_in_range settings events are named in
     let names = has_names its.setting.hash f its.facts in_range.0 in_range.1 in
-    record { dump = dump; right = right; shaped = is; no_fault = none; said = all; said_of_text = text_judged (dump_of f) dump.numbers names ∙ all }
+    record {
+      dump = dump;
+      right = right;
+      shaped = is;
+      no_fault = none;
+      said = all;
+      said_of_text = text_judged (dump_of f) dump.numbers names
+          ∙ all;
+    }

@@ -34,12 +34,15 @@ visible_by (x ∷ xs) is =
 
 pub visible_utf8 : (text : List ℕ) → AreVisible text → is_utf8 text ≡ true
 visible_utf8 text visible =
-    is_utf8-from_IsUtf8 text (IsUtf8-from_ascii text (IsAscii-from_all text (All-weaker IsVisible (λ byte. byte < 128) (λ byte is. let most = is.1 in omega (arith, most)) text visible)))
+    is_utf8-from_IsUtf8 text (IsUtf8-from_ascii text
+    (IsAscii-from_all text (All-weaker IsVisible (λ byte. byte < 128) (λ byte is. let most = is.1 in omega (arith, most)) text
+    visible)))
 
 -- ---- numbers and names
 pub decimal_visible : (n : ℕ) → n < 2 ^ 64 → AreVisible (decimal n)
 decimal_visible n fits =
-    All-from_get_or IsVisible (decimal n) 0 (λ i below. let digit = digit_at (decimal n) i (decimal_is_IsNumeral n fits).0.1 below in let low = digit.0 in let high = digit.1 in (omega (arith, low), omega (arith, high)))
+    All-from_get_or IsVisible (decimal n) 0 (λ i below. let digit = digit_at (decimal n) i (decimal_is_IsNumeral n fits).0.1 below in
+    let low = digit.0 in let high = digit.1 in (omega (arith, low), omega (arith, high)))
 
 -- a mark between two texts
 joined : (byte : ℕ) → IsVisible byte → (one other : List ℕ) → AreVisible one → AreVisible other → AreVisible (one ++ byte ∷ other)
@@ -47,18 +50,25 @@ joined byte is one other first later = All-append IsVisible one (byte ∷ other)
 
 pub silo_visible : (silo : Silo) → IsSilo silo → AreVisible (silo_text silo)
 silo_visible silo is =
-    joined 46 (omega arith, omega arith) _ _ (byte 0) (joined 46 (omega arith, omega arith) _ _ (byte 1) (joined 46 (omega arith, omega arith) _ _ (byte 2) (joined 58 (omega arith, omega arith) _ _ (byte 3)
-    (joined 64 (omega arith, omega arith) _ _ (decimal_visible silo.port (let below = is.port_below in omega (arith, below))) (decimal_visible silo.generation (let below = is.generation_below in omega (arith, below)))))))
+    joined 46 (omega arith, omega arith) _ _ (byte 0)
+    (joined 46 (omega arith, omega arith) _ _ (byte 1)
+    (joined 46 (omega arith, omega arith) _ _ (byte 2) (joined 58 (omega arith, omega arith) _ _ (byte 3)
+    (joined 64 (omega arith, omega arith) _ _ (decimal_visible silo.port (let below = is.port_below in omega (arith, below)))
+    (decimal_visible silo.generation (let below = is.generation_below in omega (arith, below)))))))
   where
     byte : (k : ℕ) → AreVisible (decimal (slice_index silo.ip k))
     byte k = decimal_visible (slice_index silo.ip k) (let below = is.bytes k in omega (arith, below))
 
-pub activation_visible : (activation : ActivationId) → IsSilo activation.silo → activation.count < 2 ^ 64 → AreVisible (activation_text activation)
-activation_visible activation is fits = joined 33 (omega arith, omega arith) (silo_text activation.silo) (decimal activation.count) (silo_visible activation.silo is) (decimal_visible activation.count fits)
+pub activation_visible : (activation : ActivationId) → IsSilo activation.silo → activation.count < 2 ^ 64
+    → AreVisible (activation_text activation)
+activation_visible activation is fits =
+    joined 33 (omega arith, omega arith) (silo_text activation.silo) (decimal activation.count) (silo_visible activation.silo is)
+    (decimal_visible activation.count fits)
 
 pub range_visible : (range : Range) → IsRange range → AreVisible (range_text range)
 range_visible range is =
-    joined 43 (omega arith, omega arith) (decimal range.start) (decimal range.size) (decimal_visible range.start (let below = is.start_below in omega (arith, below)))
+    joined 43 (omega arith, omega arith) (decimal range.start) (decimal range.size)
+    (decimal_visible range.start (let below = is.start_below in omega (arith, below)))
     (decimal_visible range.size (let within = is.size_within in omega (arith, within)))
 
 -- ---- quotation marks
@@ -109,8 +119,11 @@ quoted_same text visible = ap (λ inner. 34 ∷ (inner ++ 34 ∷ [])) (sym (esca
 escapes_visible : (text : List ℕ) → AreVisible text → AreVisible (flat_map escaped text)
 escapes_visible [] visible = All-nil IsVisible
 escapes_visible (x ∷ xs) visible =
-    All-append IsVisible (escaped x) (flat_map escaped xs) (escaped_visible x (All-head IsVisible x xs visible)) (escapes_visible xs (All-tail IsVisible x xs visible))
+    All-append IsVisible (escaped x) (flat_map escaped xs) (escaped_visible x (All-head IsVisible x xs visible))
+    (escapes_visible xs (All-tail IsVisible x xs visible))
 
 pub quoted_visible : (text : List ℕ) → AreVisible text → AreVisible (json.quoted text)
-quoted_visible text visible = subst AreVisible (quoted_same text visible) (All-cons IsVisible 34 (flat_map escaped text ++ 34 ∷ []) (omega arith, omega arith)
-    (All-append IsVisible (flat_map escaped text) (34 ∷ []) (escapes_visible text visible) (All-cons IsVisible 34 [] (omega arith, omega arith) (All-nil IsVisible))))
+quoted_visible text visible =
+    subst AreVisible (quoted_same text visible) (All-cons IsVisible 34 (flat_map escaped text ++ 34 ∷ []) (omega arith, omega arith)
+    (All-append IsVisible (flat_map escaped text) (34 ∷ []) (escapes_visible text visible)
+    (All-cons IsVisible 34 [] (omega arith, omega arith) (All-nil IsVisible))))

@@ -1,7 +1,7 @@
 -- What is promised of the dump of a world.
 use Rattle.std.specs.Prelude.{◌≡◌, true, codes, None}
 use Rattle.texts.specs.Printed.{Output}
-use Rattle.directory_rules.specs.World.{World}
+use Rattle.directory_rules.specs.State.{World}
 use Rattle.dump_rules.specs.Dump.{dump_of, dump_text}
 use Rattle.dump_rules.specs.DumpShape.{is_dump}
 use Rattle.dump_rules.specs.Judged.{judged_text}

@@ -25,13 +25,15 @@ first_or_later x q xs (suc k, lt, e) = inr (k, omega (arith, lt), e)
 abbrev pub Some_of : {X : Type 0} → (X → Type 0) → List X → Type 0
 Some_of {X} P xs = (x : X) × Contains xs x × P x
 
-pub Decides-all : {X : Type 0} (p : X → Bool) (H P : X → Type 0) → ((x : X) → H x → Decides (p x) (P x)) → (xs : List X) → All H xs → Decides (list_all p xs) (All P xs)
+pub Decides-all : {X : Type 0} (p : X → Bool) (H P : X → Type 0) → ((x : X) → H x → Decides (p x) (P x)) → (xs : List X) → All H xs
+    → Decides (list_all p xs) (All P xs)
 Decides-all p H P each [] h = (λ _. All-nil P, λ _. refl)
 Decides-all p H P each (x ∷ xs) h =
     Decides-like _ (λ a. All-cons P x xs a.0 a.1) (λ a. (All-head P x xs a, All-tail P x xs a))
     (Decides-and _ _ (each x (All-head H x xs h)) (Decides-all p H P each xs (All-tail H x xs h)))
 
-pub Decides-some : {X : Type 0} (p : X → Bool) (P : X → Type 0) → ((x : X) → Decides (p x) (P x)) → (xs : List X) → Decides (list_any p xs) (Some_of P xs)
+pub Decides-some : {X : Type 0} (p : X → Bool) (P : X → Type 0) → ((x : X) → Decides (p x) (P x)) → (xs : List X)
+    → Decides (list_any p xs) (Some_of P xs)
 Decides-some p P each [] = (λ no. absurd (let no : false ≡ true = no in cc), λ s. absurd (contains_nothing s.0 s.1))
 Decides-some {X} p P each (x ∷ xs) = Decides-like _ to from (Decides-or _ _ (each x) (Decides-some p P each xs))
   where
@@ -47,7 +49,8 @@ Decides-some {X} p P each (x ∷ xs) = Decides-like _ to from (Decides-or _ _ (e
     from s = at s.0 s.2 (first_or_later x s.0 xs s.1)
 
 -- a test for each item of its equality with one item is that for its being there
-pub Decides-contains : {X : Type 0} (E : X → X → Bool) → ((a b : X) → Decides (E a b) (a ≡ b)) → (q : X) (xs : List X) → Decides (list_any (E q) xs) (Contains xs q)
+pub Decides-contains : {X : Type 0} (E : X → X → Bool) → ((a b : X) → Decides (E a b) (a ≡ b)) → (q : X) (xs : List X)
+    → Decides (list_any (E q) xs) (Contains xs q)
 Decides-contains {X} E exact q xs =
     Decides-like _ (λ s. subst (λ (x : X). Contains xs x) (sym s.2) s.1) (λ c. (q, c, refl)) (Decides-some (E q) (λ x. q ≡ x) (exact q) xs)
 
@@ -75,11 +78,13 @@ in_filter {X} p (first ∷ xs) x c = at (p first) refl (in_filter p xs x) c
     later : Contains xs x × (p x ≡ true) → Contains (first ∷ xs) x × (p x ≡ true)
     later s = (there first x xs s.0, s.1)
 
-    first_one : p first ≡ true → (first ≡ x) ⊎ Contains (filter p xs) x → (Contains (filter p xs) x → Contains xs x × (p x ≡ true)) → Contains (first ∷ xs) x × (p x ≡ true)
+    first_one : p first ≡ true → (first ≡ x) ⊎ Contains (filter p xs) x → (Contains (filter p xs) x → Contains xs x × (p x ≡ true))
+        → Contains (first ∷ xs) x × (p x ≡ true)
     first_one passes (inl e) rest = subst (λ (y : X). Contains (first ∷ xs) y × (p y ≡ true)) e (here first xs, passes)
     first_one passes (inr c) rest = later (rest c)
 
-    at : (b : Bool) → p first ≡ b → (Contains (filter p xs) x → Contains xs x × (p x ≡ true)) → Contains (cond b (first ∷ filter p xs) (filter p xs)) x → Contains (first ∷ xs) x × (p x ≡ true)
+    at : (b : Bool) → p first ≡ b → (Contains (filter p xs) x → Contains xs x × (p x ≡ true))
+        → Contains (cond b (first ∷ filter p xs) (filter p xs)) x → Contains (first ∷ xs) x × (p x ≡ true)
     at true passes rest c = first_one passes (first_or_later first x (filter p xs) c) rest
     at false fails rest c = later (rest c)
 
@@ -87,7 +92,8 @@ pub to_filter : {X : Type 0} (p : X → Bool) (xs : List X) (x : X) → Contains
 to_filter p [] x c passes = absurd (contains_nothing x c)
 to_filter {X} p (first ∷ xs) x c passes = at (p first) refl (first_or_later first x xs c) (λ later. to_filter p xs x later passes)
   where
-    at : (b : Bool) → p first ≡ b → (first ≡ x) ⊎ Contains xs x → (Contains xs x → Contains (filter p xs) x) → Contains (cond b (first ∷ filter p xs) (filter p xs)) x
+    at : (b : Bool) → p first ≡ b → (first ≡ x) ⊎ Contains xs x → (Contains xs x → Contains (filter p xs) x)
+        → Contains (cond b (first ∷ filter p xs) (filter p xs)) x
     at true is (inl e) rest = subst (λ (y : X). Contains (first ∷ filter p xs) y) e (here first (filter p xs))
     at true is (inr later) rest = there first x (filter p xs) (rest later)
     at false is (inl e) rest = absurd (let no : false ≡ true = sym is ∙ ap p e ∙ passes in cc)

@@ -14,5 +14,6 @@ use Rattle.dump_rules.specs.Verdict.{verdict}
 use Rattle.dump_rules.specs.DumpIn.{dump_in}
 
 unfoldable pub all_opened : Type 0
-unfolding digits chars is_utf8 serde_json_on_literals silo_words read_silo read_grain read_activation stated_hash meet_of cut_parts read_range is_dump verdict dump_in
+unfolding digits chars is_utf8 serde_json_on_literals silo_words read_silo read_grain read_activation stated_hash meet_of cut_parts
+    read_range is_dump verdict dump_in
 all_opened = Unit {0}

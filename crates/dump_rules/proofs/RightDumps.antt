@@ -80,9 +80,15 @@ least_of (x ∷ grains) = at (verdicts.least_grain grains) (least_of grains)
     itself : is_lt (grain_cmp x x) ≡ false
     itself = not_less_itself (grain_cmp x x) (grain_cmp_total.antisymm x x)
 
-    choose : (best : Grain) → Contains grains best → NoLess best grains → (b : Bool) → is_lt (grain_cmp best x) ≡ b → IsLeastOf (x ∷ grains) (Some (if b then best else x))
-    choose best c rest true less = (there x best grains c, with_first best (not_less_back (grain_cmp best x) (grain_cmp x best) (grain_cmp_total.antisymm x best) less) rest)
-    choose best c rest false not_less = (here x grains, with_first x itself (λ other d. not_less_along other best x (rest other d) not_less))
+    choose : (best : Grain) → Contains grains best → NoLess best grains → (b : Bool) → is_lt (grain_cmp best x) ≡ b
+        → IsLeastOf (x ∷ grains) (Some (if b then best else x))
+    choose best c rest true less = (
+      there x best grains c,
+      with_first best (not_less_back (grain_cmp best x) (grain_cmp x best) (grain_cmp_total.antisymm x best) less)
+          rest,
+    )
+    choose best c rest false not_less =
+        (here x grains, with_first x itself (λ other d. not_less_along other best x (rest other d) not_less))
 
     at : (least : Option Grain) → IsLeastOf grains least → IsLeastOf (x ∷ grains) (Some (verdicts.lesser_grain x least))
     at None none = (here x grains, with_first x itself (λ other c. absurd (none other c)))
@@ -106,10 +112,12 @@ abbrev IsFirstSuch : (DumpNode → Type 0) → List DumpNode → Option Silo →
 IsFirstSuch P nodes None = All P nodes
 IsFirstSuch P nodes (Some silo) = right.IsFirstNot P nodes silo
 
-first_such : (test : DumpNode → Bool) (H P : DumpNode → Type 0) → ((node : DumpNode) → H node → Decides (test node) (P node)) → (nodes : List DumpNode) → All H nodes
+first_such : (test : DumpNode → Bool) (H P : DumpNode → Type 0) → ((node : DumpNode) → H node → Decides (test node) (P node))
+    → (nodes : List DumpNode) → All H nodes
     → IsFirstSuch P nodes (verdicts.first_failing test nodes)
 first_such test H P each [] h = All-nil P
-first_such test H P each (node ∷ nodes) h = at (test node) (each node (All-head H node nodes h)) (first_such test H P each nodes (All-tail H node nodes h))
+first_such test H P each (node ∷ nodes) h =
+    at (test node) (each node (All-head H node nodes h)) (first_such test H P each nodes (All-tail H node nodes h))
   where
     later : (P node) → (silo : Option Silo) → IsFirstSuch P nodes silo → IsFirstSuch P (node ∷ nodes) silo
     later now None all = All-cons P node nodes now all
@@ -145,7 +153,8 @@ same_point a b place silo index = λ i. point_of (place i) (silo i) (index i)
 
 Decides-point : (a b : Point) → Decides (point_eq a b) (a ≡ b)
 Decides-point a b =
-    Decides-like _ (λ e. same_point a b e.0 e.1.0 e.1.1) (λ e. (ap (λ (p : Point). p.place) e, (ap (λ (p : Point). p.silo) e, ap (λ (p : Point). p.index) e)))
+    Decides-like _ (λ e. same_point a b e.0 e.1.0 e.1.1)
+    (λ e. (ap (λ (p : Point). p.place) e, (ap (λ (p : Point). p.silo) e, ap (λ (p : Point). p.index) e)))
     (Decides-and _ _ (Decides-eqb a.place b.place) (Decides-and _ _ (Decides-silo a.silo b.silo) (Decides-eqb a.index b.index)))
 
 Decides-its_ring : (dump : DumpValue) (node : DumpNode) → Decides (verdicts.has_its_ring dump node) (right.HasItsRing dump node)
@@ -161,7 +170,8 @@ Decides-inside : (dump : DumpValue) (pieces : List DumpPiece)
     → Decides (list_all (verdicts.has_entries_inside dump) pieces) (All (λ piece. All (right.IsHashedInto dump piece) piece.entries) pieces)
 Decides-inside dump pieces =
     Decides-all (verdicts.has_entries_inside dump) Anything (λ piece. All (right.IsHashedInto dump piece) piece.entries)
-    (λ piece _. Decides-all _ Anything (right.IsHashedInto dump piece) (λ entry _. (λ e. e, λ e. e)) piece.entries (all_anything piece.entries))
+    (λ piece _. Decides-all _ Anything (right.IsHashedInto dump piece) (λ entry _. (λ e. e, λ e. e)) piece.entries
+    (all_anything piece.entries))
     pieces (all_anything pieces)
 
 abbrev Apart : Entry → Entry → Type 0
@@ -171,15 +181,18 @@ not_among : (entry : Entry) (entries : List Entry) → ¬ Contains (map (λ e. e
 not_among entry [] absent = All-nil (Apart entry)
 not_among entry (first ∷ entries) absent =
     All-cons (Apart entry) first entries
-    (λ same. absent (subst (λ (g : Grain). Contains (first.grain ∷ map (λ e. e.grain) entries) g) (sym same) (here first.grain (map (λ e. e.grain) entries))))
+    (λ same. absent (subst (λ (g : Grain). Contains (first.grain ∷ map (λ e. e.grain) entries) g) (sym same)
+    (here first.grain (map (λ e. e.grain) entries))))
     (not_among entry entries (λ c. absent (there first.grain entry.grain (map (λ e. e.grain) entries) c)))
 
 apart_absent : (entry : Entry) (entries : List Entry) → All (Apart entry) entries → ¬ Contains (map (λ e. e.grain) entries) entry.grain
 apart_absent entry [] apart = λ c. contains_nothing entry.grain c
 apart_absent entry (first ∷ entries) apart =
-    λ c. at (first_or_later first.grain entry.grain (map (λ e. e.grain) entries) c) (apart_absent entry entries (All-tail (Apart entry) first entries apart))
+    λ c. at (first_or_later first.grain entry.grain (map (λ e. e.grain) entries) c)
+    (apart_absent entry entries (All-tail (Apart entry) first entries apart))
   where
-    at : (first.grain ≡ entry.grain) ⊎ Contains (map (λ e. e.grain) entries) entry.grain → ¬ Contains (map (λ e. e.grain) entries) entry.grain → ⊥
+    at : (first.grain ≡ entry.grain) ⊎ Contains (map (λ e. e.grain) entries) entry.grain
+        → ¬ Contains (map (λ e. e.grain) entries) entry.grain → ⊥
     at (inl e) rest = All-head (Apart entry) first entries apart (sym e)
     at (inr later) rest = rest later
 
@@ -189,30 +202,37 @@ Decides-single (entry ∷ entries) =
     Decides-like _
     (λ p. AllPairs-cons Apart entry entries (not_among entry entries p.0) p.1)
     (λ pairs. (apart_absent entry entries (pairs_head Apart entry entries pairs), pairs_tail Apart entry entries pairs))
-    (Decides-and _ _ (Decides-not _ (Decides-contains grain_eq Decides-grain entry.grain (map (λ e. e.grain) entries))) (Decides-single entries))
+    (Decides-and _ _ (Decides-not _ (Decides-contains grain_eq Decides-grain entry.grain (map (λ e. e.grain) entries)))
+    (Decides-single entries))
 
-Decides-right_pieces : (dump : DumpValue) (node : DumpNode) → verdicts.HasHashes node → Decides (verdicts.has_right_pieces dump node) (right.HasRightPieces dump node)
+Decides-right_pieces : (dump : DumpValue) (node : DumpNode) → verdicts.HasHashes node
+    → Decides (verdicts.has_right_pieces dump node) (right.HasRightPieces dump node)
 Decides-right_pieces dump node hashes =
     Decides-like _
     (λ p. record { ranges = p.0.0; inside = p.0.1; single = p.1 })
     (λ is. ((is.ranges, is.inside), is.single))
-    (Decides-and _ _ (Decides-and _ _ (Decides-has_its_ranges node hashes) (Decides-inside dump node.pieces)) (Decides-single (verdicts.node_entries node)))
+    (Decides-and _ _ (Decides-and _ _ (Decides-has_its_ranges node hashes) (Decides-inside dump node.pieces))
+    (Decides-single (verdicts.node_entries node)))
 
 -- ---- The grains that are firm on two nodes.
 Decides-firm_on : (grain : Grain) (node : DumpNode) → Decides (verdicts.is_firm_on grain node) (Contains (verdicts.firm_grains node) grain)
 Decides-firm_on grain node = Decides-contains grain_eq Decides-grain grain (verdicts.firm_grains node)
 
-Decides-firm_later : (grain : Grain) (nodes : List DumpNode) → Decides (list_any (verdicts.is_firm_on grain) nodes) (Some_of (λ node. Contains (verdicts.firm_grains node) grain) nodes)
-Decides-firm_later grain nodes = Decides-some (verdicts.is_firm_on grain) (λ node. Contains (verdicts.firm_grains node) grain) (Decides-firm_on grain) nodes
+Decides-firm_later : (grain : Grain) (nodes : List DumpNode)
+    → Decides (list_any (verdicts.is_firm_on grain) nodes) (Some_of (λ node. Contains (verdicts.firm_grains node) grain) nodes)
+Decides-firm_later grain nodes =
+    Decides-some (verdicts.is_firm_on grain) (λ node. Contains (verdicts.firm_grains node) grain) (Decides-firm_on grain) nodes
 
 abbrev firm_here : DumpNode → List DumpNode → List Grain
 firm_here node nodes = filter (λ grain. list_any (verdicts.is_firm_on grain) nodes) (verdicts.firm_grains node)
 
 firm_on_two_is : (nodes : List DumpNode) (grain : Grain) → Contains (verdicts.firm_on_two nodes) grain → right.IsFirmOnTwo grain nodes
 firm_on_two_is [] grain c = contains_nothing grain c
-firm_on_two_is (node ∷ nodes) grain c = at (in_append (firm_here node nodes) (verdicts.firm_on_two nodes) grain c) (firm_on_two_is nodes grain)
+firm_on_two_is (node ∷ nodes) grain c =
+    at (in_append (firm_here node nodes) (verdicts.firm_on_two nodes) grain c) (firm_on_two_is nodes grain)
   where
-    at : Contains (firm_here node nodes) grain ⊎ Contains (verdicts.firm_on_two nodes) grain → (Contains (verdicts.firm_on_two nodes) grain → right.IsFirmOnTwo grain nodes)
+    at : Contains (firm_here node nodes) grain ⊎ Contains (verdicts.firm_on_two nodes) grain
+        → (Contains (verdicts.firm_on_two nodes) grain → right.IsFirmOnTwo grain nodes)
         → right.IsFirmOnTwo grain (node ∷ nodes)
     at (inl c) rest =
         let both = in_filter (λ (g : Grain). list_any (verdicts.is_firm_on g) nodes) (verdicts.firm_grains node) grain c in
@@ -223,7 +243,8 @@ is_firm_on_two : (nodes : List DumpNode) (grain : Grain) → right.IsFirmOnTwo g
 is_firm_on_two [] grain never = absurd never
 is_firm_on_two (node ∷ nodes) grain (inl two) =
     to_append (firm_here node nodes) (verdicts.firm_on_two nodes) grain
-    (inl (to_filter (λ (g : Grain). list_any (verdicts.is_firm_on g) nodes) (verdicts.firm_grains node) grain two.0 ((Decides-firm_later grain nodes).1 two.1)))
+    (inl (to_filter (λ (g : Grain). list_any (verdicts.is_firm_on g) nodes) (verdicts.firm_grains node) grain two.0
+    ((Decides-firm_later grain nodes).1 two.1)))
 is_firm_on_two (node ∷ nodes) grain (inr later) =
     to_append (firm_here node nodes) (verdicts.firm_on_two nodes) grain (inr (is_firm_on_two nodes grain later))
 
@@ -232,7 +253,8 @@ Decides-among : (entries : List Entry) (entry : Entry) → Decides (verdicts.is_
 Decides-among entries entry = Decides-contains entry_eq Decides-entry entry entries
 
 Decides-missing : (dump : DumpValue) (entry : Entry)
-    → Decides (list_any (verdicts.is_missing_in dump entry) (verdicts.current_pieces dump)) (Some_of (λ piece. right.IsHashedInto dump piece entry × ¬ Contains piece.entries entry) (verdicts.current_pieces dump))
+    → Decides (list_any (verdicts.is_missing_in dump entry) (verdicts.current_pieces dump))
+    (Some_of (λ piece. right.IsHashedInto dump piece entry × ¬ Contains piece.entries entry) (verdicts.current_pieces dump))
 Decides-missing dump entry =
     Decides-some (verdicts.is_missing_in dump entry) (λ piece. right.IsHashedInto dump piece entry × ¬ Contains piece.entries entry)
     (λ piece. Decides-and _ _ (λ e. e, λ e. e) (Decides-not _ (Decides-among piece.entries entry))) (verdicts.current_pieces dump)
@@ -244,14 +266,16 @@ grains_of entries = map (λ entry. entry.grain) entries
 abbrev SomeEntry : List Entry → (Entry → Type 0) → Grain → Type 0
 SomeEntry entries P grain = (entry : Entry) × Contains entries entry × (entry.grain ≡ grain) × P entry
 
-grains_pass : (test : Entry → Bool) (P : Entry → Type 0) → ((entry : Entry) → Decides (test entry) (P entry)) → (entries : List Entry) (grain : Grain)
+grains_pass : (test : Entry → Bool) (P : Entry → Type 0) → ((entry : Entry) → Decides (test entry) (P entry))
+    → (entries : List Entry) (grain : Grain)
     → Contains (grains_of (filter test entries)) grain → SomeEntry entries P grain
 grains_pass test P each entries grain c =
     let found = in_map (λ (e : Entry). e.grain) (filter test entries) grain c in
     let passed = in_filter test entries found.0 found.1 in
     (found.0, passed.0, found.2, (each found.0).0 passed.1)
 
-passing_grains : (test : Entry → Bool) (P : Entry → Type 0) → ((entry : Entry) → Decides (test entry) (P entry)) → (entries : List Entry) (grain : Grain)
+passing_grains : (test : Entry → Bool) (P : Entry → Type 0) → ((entry : Entry) → Decides (test entry) (P entry))
+    → (entries : List Entry) (grain : Grain)
     → SomeEntry entries P grain → Contains (grains_of (filter test entries)) grain
 passing_grains test P each entries grain found =
     subst (λ (g : Grain). Contains (grains_of (filter test entries)) g) found.2
@@ -265,7 +289,8 @@ abbrev FirmOnTwo : DumpValue → Grain → Type 0
 FirmOnTwo dump grain = right.IsFirmOnTwo grain (verdicts.live_nodes dump)
 
 first_is : (dump : DumpValue) (ring pieces : Option Silo) (two missing strange : Option Grain)
-    → IsFirstSuch (right.HasItsRing dump) (verdicts.live_nodes dump) ring → IsFirstSuch (right.HasRightPieces dump) (verdicts.live_nodes dump) pieces
+    → IsFirstSuch (right.HasItsRing dump) (verdicts.live_nodes dump) ring
+    → IsFirstSuch (right.HasRightPieces dump) (verdicts.live_nodes dump) pieces
     → IsLeastSuch (FirmOnTwo dump) two → IsLeastSuch (right.IsMissing dump) missing → IsLeastSuch (right.IsStrange dump) strange
     → right.IsVerdict dump (verdicts.first_of
     (option_map verdicts.RingDiffers ring
@@ -278,7 +303,8 @@ first_is dump (Some silo) pieces two missing strange is_ring is_pieces is_two is
 first_is dump None (Some silo) two missing strange is_ring is_pieces is_two is_missing is_strange = (is_ring, is_pieces)
 first_is dump None None (Some grain) missing strange is_ring is_pieces is_two is_missing is_strange = (is_ring, is_pieces, is_two)
 first_is dump None None None (Some grain) strange is_ring is_pieces is_two is_missing is_strange = (is_ring, is_pieces, is_two, is_missing)
-first_is dump None None None None (Some grain) is_ring is_pieces is_two is_missing is_strange = (is_ring, is_pieces, is_two, is_missing, is_strange)
+first_is dump None None None None (Some grain) is_ring is_pieces is_two is_missing is_strange =
+    (is_ring, is_pieces, is_two, is_missing, is_strange)
 first_is dump None None None None None is_ring is_pieces is_two is_missing is_strange =
     record { rings = is_ring; pieces = is_pieces; one_firm = is_two; entered = is_missing; held = is_strange }
 
@@ -286,28 +312,39 @@ pub verdict_is : (dump : DumpValue) → AreHashes dump → right.IsVerdict dump 
 unfolding verdicts.verdict
 verdict_is dump hashes =
     first_is dump _ _ _ _ _
-    (first_such (verdicts.has_its_ring dump) Anything (right.HasItsRing dump) (λ node _. Decides-its_ring dump node) (verdicts.live_nodes dump) (all_anything (verdicts.live_nodes dump)))
-    (first_such (verdicts.has_right_pieces dump) verdicts.HasHashes (right.HasRightPieces dump) (Decides-right_pieces dump) (verdicts.live_nodes dump) hashes)
-    (least_such (FirmOnTwo dump) (verdicts.firm_on_two (verdicts.live_nodes dump)) (firm_on_two_is (verdicts.live_nodes dump)) (is_firm_on_two (verdicts.live_nodes dump)))
+    (first_such (verdicts.has_its_ring dump) Anything (right.HasItsRing dump) (λ node _. Decides-its_ring dump node)
+    (verdicts.live_nodes dump) (all_anything (verdicts.live_nodes dump)))
+    (first_such (verdicts.has_right_pieces dump) verdicts.HasHashes (right.HasRightPieces dump) (Decides-right_pieces dump)
+    (verdicts.live_nodes dump) hashes)
+    (least_such (FirmOnTwo dump) (verdicts.firm_on_two (verdicts.live_nodes dump)) (firm_on_two_is (verdicts.live_nodes dump))
+    (is_firm_on_two (verdicts.live_nodes dump)))
     (least_such (right.IsMissing dump) (grains_of (verdicts.missing_firm dump))
-    (grains_pass (λ entry. list_any (verdicts.is_missing_in dump entry) (verdicts.current_pieces dump)) _ (Decides-missing dump) (verdicts.firm_entries dump))
-    (passing_grains (λ entry. list_any (verdicts.is_missing_in dump entry) (verdicts.current_pieces dump)) _ (Decides-missing dump) (verdicts.firm_entries dump)))
+    (grains_pass (λ entry. list_any (verdicts.is_missing_in dump entry) (verdicts.current_pieces dump)) _ (Decides-missing dump)
+    (verdicts.firm_entries dump))
+    (passing_grains (λ entry. list_any (verdicts.is_missing_in dump entry) (verdicts.current_pieces dump)) _ (Decides-missing dump)
+    (verdicts.firm_entries dump)))
     (least_such (right.IsStrange dump) (grains_of (verdicts.strangers dump))
-    (grains_pass (λ entry. not (verdicts.is_entry_among (verdicts.held_entries dump) entry)) _ (λ entry. Decides-not _ (Decides-among (verdicts.held_entries dump) entry)) (verdicts.current_entries dump))
-    (passing_grains (λ entry. not (verdicts.is_entry_among (verdicts.held_entries dump) entry)) _ (λ entry. Decides-not _ (Decides-among (verdicts.held_entries dump) entry)) (verdicts.current_entries dump)))
+    (grains_pass (λ entry. not (verdicts.is_entry_among (verdicts.held_entries dump) entry)) _
+    (λ entry. Decides-not _ (Decides-among (verdicts.held_entries dump) entry)) (verdicts.current_entries dump))
+    (passing_grains (λ entry. not (verdicts.is_entry_among (verdicts.held_entries dump) entry)) _
+    (λ entry. Decides-not _ (Decides-among (verdicts.held_entries dump) entry)) (verdicts.current_entries dump)))
 
-all_middle : (P : DumpNode → Type 0) (before : List DumpNode) (node : DumpNode) (after : List DumpNode) → All P (before ++ node ∷ after) → P node
+all_middle : (P : DumpNode → Type 0) (before : List DumpNode) (node : DumpNode) (after : List DumpNode) → All P (before ++ node ∷ after)
+    → P node
 all_middle P [] node after all = All-head P node after all
 all_middle P (first ∷ before) node after all = all_middle P before node after (All-tail P first (before ++ node ∷ after) all)
 
 never_first : (P : DumpNode → Type 0) (nodes : List DumpNode) (silo : Silo) → right.IsFirstNot P nodes silo → All P nodes → ⊥
-never_first P nodes silo is all = is.not_here (all_middle P is.before is.node is.after (subst (λ (list : List DumpNode). All P list) is.split all))
+never_first P nodes silo is all =
+    is.not_here (all_middle P is.before is.node is.after (subst (λ (list : List DumpNode). All P list) is.split all))
 
 -- where all is right no fault is answered
 no_fault : (dump : DumpValue) (answer : Option verdicts.DumpFault) → right.IsVerdict dump answer → right.IsRightDump dump → answer ≡ None
 no_fault dump None is well = refl
-no_fault dump (Some (verdicts.RingDiffers silo)) is well = absurd (never_first (right.HasItsRing dump) (verdicts.live_nodes dump) silo is well.rings)
-no_fault dump (Some (verdicts.WrongRange silo)) is well = absurd (never_first (right.HasRightPieces dump) (verdicts.live_nodes dump) silo is.1 well.pieces)
+no_fault dump (Some (verdicts.RingDiffers silo)) is well =
+    absurd (never_first (right.HasItsRing dump) (verdicts.live_nodes dump) silo is well.rings)
+no_fault dump (Some (verdicts.WrongRange silo)) is well =
+    absurd (never_first (right.HasRightPieces dump) (verdicts.live_nodes dump) silo is.1 well.pieces)
 no_fault dump (Some (verdicts.TwoFirm grain)) is well = absurd (well.one_firm grain is.2.is)
 no_fault dump (Some (verdicts.MissingFirm grain)) is well = absurd (well.entered grain is.3.is)
 no_fault dump (Some (verdicts.Stranger grain)) is well = absurd (well.held grain is.4.is)

@@ -34,7 +34,8 @@ Not x later = x ≢ later
 absent : {X : Type 0} (x : X) (xs : List X) → ¬ Contains xs x → All (Not x) xs
 absent x [] none = All-nil (Not x)
 absent {X} x (y ∷ ys) none =
-    All-cons (Not x) y ys (λ same. none (subst (λ (q : X). Contains (y ∷ ys) q) (sym same) (here y ys))) (absent x ys (λ c. none (there y x ys c)))
+    All-cons (Not x) y ys (λ same. none (subst (λ (q : X). Contains (y ∷ ys) q) (sym same) (here y ys)))
+    (absent x ys (λ c. none (there y x ys c)))
 
 present : {X : Type 0} (x : X) (xs : List X) → All (Not x) xs → ¬ Contains xs x
 present x [] apart = λ c. contains_nothing x c
@@ -44,10 +45,12 @@ present {X} x (y ∷ ys) apart = λ c. at (first_or_later y x ys c) (present x y
     at (inl e) rest = All-head (Not x) y ys apart (sym e)
     at (inr later) rest = rest later
 
-distinct : {X : Type 0} (E : X → X → Bool) → ((a b : X) → Decides (E a b) (a ≡ b)) → (xs : List X) → Decides (test.are_distinct_by E xs) (right.AreDistinct xs)
+distinct : {X : Type 0} (E : X → X → Bool) → ((a b : X) → Decides (E a b) (a ≡ b)) → (xs : List X)
+    → Decides (test.are_distinct_by E xs) (right.AreDistinct xs)
 distinct E exact [] = (λ _. no_pairs Not, λ _. refl)
 distinct E exact (x ∷ xs) =
-    Decides-like _ (λ p. AllPairs-cons Not x xs (absent x xs p.0) p.1) (λ pairs. (present x xs (pairs_head Not x xs pairs), pairs_tail Not x xs pairs))
+    Decides-like _ (λ p. AllPairs-cons Not x xs (absent x xs p.0) p.1)
+    (λ pairs. (present x xs (pairs_head Not x xs pairs), pairs_tail Not x xs pairs))
     (Decides-and _ _ (Decides-not _ (Decides-contains E exact x xs)) (distinct E exact xs))
 
 negated : (b : Bool) → Decides (not b) (b ≡ false)
@@ -64,12 +67,15 @@ in_order {X} compare (x ∷ y ∷ rest) = Decides-like _ to from (Decides-and _ 
 
     to : (is_lt (compare y x) ≡ false) × IsSorted compare (y ∷ rest) → IsSorted compare (x ∷ y ∷ rest)
     to p zero d low high = p.0
-    to p (suc k) d low high = subst (λ (q : X). is_lt (compare q (slice_index_or (y ∷ rest) k d)) ≡ false) (sym (next k d)) (p.1 k d (omega arith) (omega (arith, high)))
+    to p (suc k) d low high =
+        subst (λ (q : X). is_lt (compare q (slice_index_or (y ∷ rest) k d)) ≡ false) (sym (next k d))
+        (p.1 k d (omega arith) (omega (arith, high)))
 
     from : IsSorted compare (x ∷ y ∷ rest) → (is_lt (compare y x) ≡ false) × IsSorted compare (y ∷ rest)
     from up = (
       up 0 x (omega arith) (omega arith),
-      λ k d low high. subst (λ (q : X). is_lt (compare q (slice_index_or (y ∷ rest) k d)) ≡ false) (next k d) (up (suc k) d (omega arith) (omega (arith, high))),
+      λ k d low high. subst (λ (q : X). is_lt (compare q (slice_index_or (y ∷ rest) k d)) ≡ false) (next k d)
+          (up (suc k) d (omega arith) (omega (arith, high))),
     )
 
 -- ---- Numbers.
@@ -87,12 +93,15 @@ range piece =
 
 row_numbers : (row : DumpRow) → Decides (test.has_row_numbers row) (right.HasRowNumbers row)
 row_numbers row =
-    Decides-like _ (λ p. record { dead = p.0.0.0; joined = p.0.0.1; left = p.0.1; places = p.1 }) (λ is. (((is.dead, is.joined), is.left), is.places))
-    (Decides-and _ _ (Decides-and _ _ (Decides-and _ _ (Decides-ltb row.dead _) (Decides-ltb row.joined _)) (Decides-ltb row.left _)) (each test.is_hash (λ place. place < circle) (λ place. Decides-ltb place circle) row.places))
+    Decides-like _ (λ p. record { dead = p.0.0.0; joined = p.0.0.1; left = p.0.1; places = p.1 })
+    (λ is. (((is.dead, is.joined), is.left), is.places))
+    (Decides-and _ _ (Decides-and _ _ (Decides-and _ _ (Decides-ltb row.dead _) (Decides-ltb row.joined _)) (Decides-ltb row.left _))
+    (each test.is_hash (λ place. place < circle) (λ place. Decides-ltb place circle) row.places))
 
 point_numbers : (point : Point) → Decides (test.has_point_numbers point) (right.HasPointNumbers point)
 point_numbers point =
-    Decides-like _ (λ p. record { place = p.0; index = p.1 }) (λ is. (is.place, is.index)) (Decides-and _ _ (Decides-ltb point.place circle) (Decides-ltb point.index _))
+    Decides-like _ (λ p. record { place = p.0; index = p.1 }) (λ is. (is.place, is.index))
+    (Decides-and _ _ (Decides-ltb point.place circle) (Decides-ltb point.index _))
 
 node_numbers : (node : DumpNode) → Decides (test.has_node_numbers node) (right.HasNodeNumbers node)
 node_numbers node =
@@ -104,8 +113,10 @@ numbers : (dump : DumpValue) → Decides (test.has_numbers dump) (right.HasNumbe
 numbers dump =
     Decides-like _ (λ p. record { current = p.0.0.0; points_above = p.0.0.1.0; points_within = p.0.0.1.1; rows = p.0.1; nodes = p.1 })
     (λ is. (((is.current, (is.points_above, is.points_within)), is.rows), is.nodes))
-    (Decides-and _ _ (Decides-and _ _ (Decides-and _ _ (Decides-ltb dump.current _) (Decides-and _ _ (Decides-ltb 0 dump.points) (at_most dump.points most_points)))
-    (each test.has_row_numbers right.HasRowNumbers row_numbers dump.rows)) (each test.has_node_numbers right.HasNodeNumbers node_numbers dump.nodes))
+    (Decides-and _ _ (Decides-and _ _ (Decides-and _ _ (Decides-ltb dump.current _)
+    (Decides-and _ _ (Decides-ltb 0 dump.points) (at_most dump.points most_points)))
+    (each test.has_row_numbers right.HasRowNumbers row_numbers dump.rows))
+    (each test.has_node_numbers right.HasNodeNumbers node_numbers dump.nodes))
 
 -- ---- Rows.
 places : (hashing : Hashing) (many : ℕ) → Decides (is_point_count hashing many && has_points hashing many) (right.MayName hashing many)
@@ -115,7 +126,8 @@ places Stated many = Decides-like _ (λ p. (p.1, p.0)) (λ p. (p.1, p.0)) (Decid
 row_of : (dump : DumpValue) (row : DumpRow) → Decides (test.is_row_of dump row) (right.IsRowOf dump row)
 row_of dump row =
     Decides-like _ (λ p. record { joined = p.0.0; made = p.0.1; places = p.1 }) (λ is. ((is.joined, is.made), is.places))
-    (Decides-and _ _ (Decides-and _ _ (Decides-ltb 0 row.joined) (at_most row.joined dump.current)) (places dump.hashing (length row.places)))
+    (Decides-and _ _ (Decides-and _ _ (Decides-ltb 0 row.joined) (at_most row.joined dump.current))
+    (places dump.hashing (length row.places)))
 
 -- ---- Pieces.
 settled : (its : DumpState) → Decides (is_settled_state its) (its ≡ Settled)
@@ -125,7 +137,8 @@ settled Recovering = (λ no. absurd (cc), λ no. absurd (cc))
 
 no_items : {X : Type 0} (xs : List X) → Decides (length xs == 0) (xs ≡ [])
 no_items [] = (λ _. refl, λ _. refl)
-no_items (x ∷ xs) = (λ no. absurd (let many : suc (length xs) ≡ 0 = (Decides-eqb (suc (length xs)) 0).0 no in omega (arith, many)), λ no. absurd (cc))
+no_items (x ∷ xs) =
+    (λ no. absurd (let many : suc (length xs) ≡ 0 = (Decides-eqb (suc (length xs)) 0).0 no in omega (arith, many)), λ no. absurd (cc))
 
 from_nobody : (from : Option Silo) → Decides (is_none from) (from ≡ None)
 from_nobody None = (λ _. refl, λ _. refl)
@@ -139,14 +152,18 @@ tells Recovering from = from_nobody from
 piece : (its : DumpPiece) → Decides (test.is_piece its) (right.IsPiece its)
 piece its =
     Decides-like _ (λ p. record { entries = p.0.0; from = p.0.1; in_order = p.1 }) (λ is. ((is.entries, is.from), is.in_order))
-    (Decides-and _ _ (Decides-and _ _ (Decides-or _ _ (settled its.state) (no_items its.entries)) (tells its.state its.from)) (in_order grain_cmp (map (λ entry. entry.grain) its.entries)))
+    (Decides-and _ _ (Decides-and _ _ (Decides-or _ _ (settled its.state) (no_items its.entries)) (tells its.state its.from))
+    (in_order grain_cmp (map (λ entry. entry.grain) its.entries)))
 
 -- ---- Nodes.
 has_row : (dump : DumpValue) (silo : Silo) → Decides (test.has_row dump silo) (Contains (test.row_silos dump) silo)
 has_row dump silo = Decides-contains silo_eq Decides-silo silo (test.row_silos dump)
 
-known : (dump : DumpValue) (node : DumpNode) → Decides (test.has_known_silos dump node) (Contains (test.row_silos dump) node.silo × All (Contains (test.row_silos dump)) (test.activation_silos node))
-known dump node = Decides-and _ _ (has_row dump node.silo) (each (test.has_row dump) (Contains (test.row_silos dump)) (has_row dump) (test.activation_silos node))
+known : (dump : DumpValue) (node : DumpNode) → Decides (test.has_known_silos dump node)
+    (Contains (test.row_silos dump) node.silo × All (Contains (test.row_silos dump)) (test.activation_silos node))
+known dump node =
+    Decides-and _ _ (has_row dump node.silo) (each (test.has_row dump) (Contains (test.row_silos dump)) (has_row dump)
+    (test.activation_silos node))
 
 node_of : (dump : DumpValue) (node : DumpNode) → Decides (test.is_node_of dump node) (right.IsNodeOf dump node)
 node_of dump node =
@@ -163,7 +180,8 @@ node_of dump node =
     })
     (λ is. (((((((is.known, is.known_activations), is.own), is.activations_once), is.grains_once), is.seen), is.in_order), is.pieces))
     (Decides-and _ _ (Decides-and _ _ (Decides-and _ _ (Decides-and _ _ (Decides-and _ _ (Decides-and _ _ (known dump node)
-    (each (λ held. silo_eq held.activation.silo node.silo) (λ held. held.activation.silo ≡ node.silo) (λ held. Decides-silo held.activation.silo node.silo) node.held))
+    (each (λ held. silo_eq held.activation.silo node.silo) (λ held. held.activation.silo ≡ node.silo)
+    (λ held. Decides-silo held.activation.silo node.silo) node.held))
     (distinct activation_eq Decides-activation (map (λ held. held.activation) node.held)))
     (distinct grain_eq Decides-grain (map (λ held. held.grain) node.held)))
     (at_most node.seen dump.current))

@@ -50,7 +50,8 @@ dump_hashes dump is =
     all_told has_node_numbers HasHashes has_hashes dump.nodes nodes
 
 standing_hashes : (dump : DumpValue) → is_dump dump ≡ true → All HasHashes (live_nodes dump)
-standing_hashes dump is = All-filter (λ node. not (is_dead_in (dump_view dump dump.current) node.silo)) HasHashes dump.nodes (dump_hashes dump is)
+standing_hashes dump is =
+    All-filter (λ node. not (is_dead_in (dump_view dump dump.current) node.silo)) HasHashes dump.nodes (dump_hashes dump is)
 
 -- the verdict over a dump says all that it has to
 pub dump_verdict : (dump : DumpValue) → is_dump dump ≡ true → IsVerdict dump (verdict dump)

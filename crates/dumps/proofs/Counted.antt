@@ -13,7 +13,8 @@ use Rattle.dumps.specs.ReadAs.{IsReadingBy}
 use Rattle.dumps.specs.declared.error.DumpError.TheVariants.{NotADump}
 
 -- what stands there, or nothing
-pub found_or_not : {A B : Type 0} (see : A → B) (found : Option A) (told : Option B) → option_map see found ≡ told → IsReadingBy see (ok_or found NotADump) told
+pub found_or_not : {A B : Type 0} (see : A → B) (found : Option A) (told : Option B) → option_map see found ≡ told
+    → IsReadingBy see (ok_or found NotADump) told
 found_or_not see None told is = sym is
 found_or_not see (Some x) told is = sym is
 
@@ -25,16 +26,21 @@ eqb_apart a b apart = by (eqb a b) refl
     by false other = other
 
 -- an object with as many members, and one with another number of them
-pub members_counted : (many : ℕ) (es : List Entry) (value : Data) → Some (members_view es) ≡ as_object value → length es ≡ many → members_in many value ≡ Some (members_view es)
+pub members_counted : (many : ℕ) (es : List Entry) (value : Data) → Some (members_view es) ≡ as_object value → length es ≡ many
+    → members_in many value ≡ Some (members_view es)
 members_counted many es value is so_many =
-    rw (← is) (ap (λ t. cond t (Some (members_view es)) None) ((Decides-eqb (members_len (members_view es)) many).1 (members_len-members_view es ∙ so_many)))
+    rw (← is) (ap (λ t. cond t (Some (members_view es)) None)
+    ((Decides-eqb (members_len (members_view es)) many).1 (members_len-members_view es ∙ so_many)))
 
-pub members_miscounted : (many : ℕ) (es : List Entry) (value : Data) → Some (members_view es) ≡ as_object value → length es ≢ many → members_in many value ≡ None
+pub members_miscounted : (many : ℕ) (es : List Entry) (value : Data) → Some (members_view es) ≡ as_object value → length es ≢ many
+    → members_in many value ≡ None
 members_miscounted many es value is apart =
-    rw (← is) (ap (λ t. cond t (Some (members_view es)) None) (eqb_apart (members_len (members_view es)) many (λ same. apart (sym (members_len-members_view es) ∙ same))))
+    rw (← is) (ap (λ t. cond t (Some (members_view es)) None)
+    (eqb_apart (members_len (members_view es)) many (λ same. apart (sym (members_len-members_view es) ∙ same))))
 
 -- a list that has neither two items nor three
-pub not_two : (values : List Value) (value : Data) → as_array value ≡ Some (items_view values) → length values ≢ 2 → option_and_then two_items (as_array value) ≡ None
+pub not_two : (values : List Value) (value : Data) → as_array value ≡ Some (items_view values) → length values ≢ 2
+    → option_and_then two_items (as_array value) ≡ None
 not_two values value is apart = rw is (by values apart)
   where
     by : (vs : List Value) → length vs ≢ 2 → two_items (items_view vs) ≡ None
@@ -43,7 +49,8 @@ not_two values value is apart = rw is (by values apart)
     by (one ∷ two ∷ []) other = absurd (other refl)
     by (one ∷ two ∷ three ∷ rest) other = refl
 
-pub not_three : (values : List Value) (value : Data) → as_array value ≡ Some (items_view values) → length values ≢ 3 → option_and_then three_items (as_array value) ≡ None
+pub not_three : (values : List Value) (value : Data) → as_array value ≡ Some (items_view values) → length values ≢ 3
+    → option_and_then three_items (as_array value) ≡ None
 not_three values value is apart = rw is (by values apart)
   where
     by : (vs : List Value) → length vs ≢ 3 → three_items (items_view vs) ≡ None

@@ -10,7 +10,8 @@ use Rattle.dumps.proofs.Tests.{two, two_pairs}
 use Rattle.dumps.proofs.Ties.{distinct_silos}
 use Rattle.dumps.proofs.NodeShapes.{both}
 
-pub row_is : (dump : DumpValue) (row : DumpRow) (j p : Bool) → j ≡ has_joined dump row → p ≡ has_places dump row → (j && (p && true)) ≡ is_row_of dump row
+pub row_is : (dump : DumpValue) (row : DumpRow) (j p : Bool) → j ≡ has_joined dump row → p ≡ has_places dump row
+    → (j && (p && true)) ≡ is_row_of dump row
 row_is dump row j p a b = two j p ∙ both _ _ _ _ a b
 
 pub shape_is : (dump : DumpValue) (rows nodes : List Silo) (a b c d e f : Bool) → rows ≡ row_silos dump → nodes ≡ node_silos dump
@@ -21,5 +22,6 @@ pub shape_is : (dump : DumpValue) (rows nodes : List Silo) (a b c d e f : Bool) 
 shape_is dump rows nodes a b c d e f its_rows its_nodes p q r s t u =
     two_pairs a b c d e f
     ∙ both _ _ _ _ (both _ _ _ _ (both _ _ _ _
-    (both _ _ _ _ (p ∙ (distinct_silos rows ∙ ap (are_distinct_by silo_eq) its_rows)) (q ∙ (distinct_silos nodes ∙ ap (are_distinct_by silo_eq) its_nodes)))
+    (both _ _ _ _ (p ∙ (distinct_silos rows ∙ ap (are_distinct_by silo_eq) its_rows))
+    (q ∙ (distinct_silos nodes ∙ ap (are_distinct_by silo_eq) its_nodes)))
     (both _ _ _ _ (r ∙ ap (are_in_order silo_cmp) its_rows) (s ∙ ap (are_in_order silo_cmp) its_nodes))) t) u

@@ -16,16 +16,19 @@ pub in_order_answer : {X : Type 0} (compare : X → X → Ordering) (xs : List X
     → IsAllAdjacentAnswer (λ x y b. b ≡ not (is_lt (compare y x))) xs answer → answer ≡ are_in_order compare xs
 in_order_answer {X} compare xs true each = up xs each
   where
-    up : (ys : List X) → ((k : ℕ) (d : X) → k + 1 < length ys → true ≡ not (is_lt (compare (get_or ys (k + 1) d) (get_or ys k d)))) → true ≡ are_in_order compare ys
+    up : (ys : List X) → ((k : ℕ) (d : X) → k + 1 < length ys → true ≡ not (is_lt (compare (get_or ys (k + 1) d) (get_or ys k d))))
+        → true ≡ are_in_order compare ys
     up [] next = refl
     up (y ∷ []) next = refl
     up (y ∷ z ∷ rest) next =
         up (z ∷ rest) (λ k d low. let e : suc k + 1 ≡ suc (k + 1) = omega arith in
-        subst (λ (n : ℕ). true ≡ not (is_lt (compare (get_or (y ∷ z ∷ rest) n d) (get_or (z ∷ rest) k d)))) e (next (suc k) d (omega (arith, low))))
+        subst (λ (n : ℕ). true ≡ not (is_lt (compare (get_or (y ∷ z ∷ rest) n d) (get_or (z ∷ rest) k d)))) e
+        (next (suc k) d (omega (arith, low))))
         ∙ ap (λ b. b && are_in_order compare (z ∷ rest)) (next 0 y (omega arith))
 in_order_answer {X} compare xs false some = down xs some.0 some.1 some.2
   where
-    down : (ys : List X) (k : ℕ) → k + 1 < length ys → ((d : X) → false ≡ not (is_lt (compare (get_or ys (k + 1) d) (get_or ys k d)))) → false ≡ are_in_order compare ys
+    down : (ys : List X) (k : ℕ) → k + 1 < length ys → ((d : X) → false ≡ not (is_lt (compare (get_or ys (k + 1) d) (get_or ys k d))))
+        → false ≡ are_in_order compare ys
     down [] k low next = absurd (omega (arith, low))
     down (y ∷ []) k low next = absurd (omega (arith, low))
     down (y ∷ z ∷ rest) zero low next = ap (λ b. b && are_in_order compare (z ∷ rest)) (next y)
@@ -49,7 +52,8 @@ sorted_answer {X} part compare agrees total xs answer tells = in_order_answer co
     same : (x y : X) (b : Bool) → partial_le part x y ≡ b → b ≡ not (is_lt (compare y x))
     same x y b is = sym is ∙ (ap (is_some_and is_le) (agrees x y) ∙ le_by (compare x y) (compare y x) (total.antisymm x y))
 
-    turn : (r : Bool) → IsAllAdjacentAnswer (λ x y b. partial_le part x y ≡ b) xs r → IsAllAdjacentAnswer (λ x y b. b ≡ not (is_lt (compare y x))) xs r
+    turn : (r : Bool) → IsAllAdjacentAnswer (λ x y b. partial_le part x y ≡ b) xs r
+        → IsAllAdjacentAnswer (λ x y b. b ≡ not (is_lt (compare y x))) xs r
     turn true each = λ k d low. same (get_or xs k d) (get_or xs (k + 1) d) true (each k d low)
     turn false some = (some.0, some.1, λ d. same (get_or xs some.0 d) (get_or xs (some.0 + 1) d) false (some.2 d))
 
@@ -59,7 +63,8 @@ list_all_alike p q alike [] = refl
 list_all_alike p q alike (x ∷ xs) = ap (λ b. b && list_all p xs) (alike x) ∙ ap (λ b. q x && b) (list_all_alike p q alike xs)
 
 -- a test of all that the items list
-pub list_all-flat_map : {X Y : Type 0} (p : Y → Bool) (f : X → List Y) (xs : List X) → list_all p (flat_map f xs) ≡ list_all (λ x. list_all p (f x)) xs
+pub list_all-flat_map : {X Y : Type 0} (p : Y → Bool) (f : X → List Y) (xs : List X)
+    → list_all p (flat_map f xs) ≡ list_all (λ x. list_all p (f x)) xs
 list_all-flat_map p f [] = refl
 list_all-flat_map p f (x ∷ xs) = list_all-append p (f x) (flat_map f xs) ∙ ap (λ b. list_all p (f x) && b) (list_all-flat_map p f xs)
 

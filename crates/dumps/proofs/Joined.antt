@@ -5,7 +5,8 @@ use Rattle.std.proofs.lemmas.List.{map_more, length-map, length-take-le}
 use Rattle.dump_rules.specs.Dump.{comma}
 
 -- one piece more
-pub then_more : (before between after one other : List ℕ) → between ≡ before ++ one → after ≡ between ++ other → after ≡ before ++ (one ++ other)
+pub then_more : (before between after one other : List ℕ) → between ≡ before ++ one → after ≡ between ++ other
+    → after ≡ before ++ (one ++ other)
 then_more before between after one other first then = then ∙ (ap (λ t. t ++ other) first ∙ append_assoc before one other)
 
 -- one text more behind some that are joined
@@ -13,7 +14,8 @@ pub join-more : (text : List ℕ) (texts : List (List ℕ)) (last : List ℕ)
     → join_with_byte comma (text ∷ (texts ++ last ∷ [])) ≡ join_with_byte comma (text ∷ texts) ++ comma ∷ last
 join-more text [] last = refl
 join-more text (next ∷ texts) last =
-    ap (λ t. text ++ comma ∷ t) (join-more next texts last) ∙ sym (append_assoc text (comma ∷ join_with_byte comma (next ∷ texts)) (comma ∷ last))
+    ap (λ t. text ++ comma ∷ t) (join-more next texts last)
+    ∙ sym (append_assoc text (comma ∷ join_with_byte comma (next ∷ texts)) (comma ∷ last))
 
 -- a list or an object on its way, with a text more
 pub member_more : (mark : ℕ) (before between after text : List ℕ) (texts : List (List ℕ)) (last : List ℕ)
@@ -65,7 +67,8 @@ four_members start one two three four end first second third fourth a b c d e =
     (member_more 123 start two three first (second ∷ []) third (member_more 123 start one two first [] second a b) c) d) e
 
 pub five_members : (start one two three four five end : List ℕ) (first second third fourth fifth : List ℕ)
-    → opened start one first → continued one two second → continued two three third → continued three four fourth → continued four five fifth
+    → opened start one first → continued one two second → continued two three third → continued three four fourth
+    → continued four five fifth
     → closed five end
     → end ≡ start ++ 123 ∷ (join_with_byte comma (first ∷ second ∷ third ∷ fourth ∷ fifth ∷ []) ++ 125 ∷ [])
 five_members start one two three four five end first second third fourth fifth a b c d e f =

@@ -13,13 +13,16 @@ pub names_apart : (one other : List ℕ) → bytes_eq one other ≡ false → ot
 names_apart one other differ same = true≢false (sym ((bytes_eq-Decides one other).1 (sym same)) ∙ differ)
 
 -- a member of another name changes nothing
-pub stands_on : {X : Type 0} (tells : Data → X → Type 0) (own name : List ℕ) (read : Option X) (value : Data) (found : Members) → (own ≡ name → ⊥)
+pub stands_on : {X : Type 0} (tells : Data → X → Type 0) (own name : List ℕ) (read : Option X) (value : Data) (found : Members)
+    → (own ≡ name → ⊥)
     → Stands tells own read found → Stands tells own read (put name value found)
 stands_on tells own name None value found apart stood = get_member-put_other own name value found apart ∙ stood
 stands_on tells own name (Some x) value found apart stood = (stood.0, get_member-put_other own name value found apart ∙ stood.1, stood.2)
 
-pub others_stand : {X S : Type 0} (tells : Data → X → Type 0) (stands : S → Members → Type 0) (names : S → List (List ℕ)) (own : List ℕ) (read : Option X) (others : S)
-    → ((name : List ℕ) (value : Data) (found : Members) → IsApart name (names others) → stands others found → stands others (put name value found))
+pub others_stand : {X S : Type 0} (tells : Data → X → Type 0) (stands : S → Members → Type 0) (names : S → List (List ℕ)) (own : List ℕ)
+    (read : Option X) (others : S)
+    → ((name : List ℕ) (value : Data) (found : Members) → IsApart name (names others) → stands others found
+    → stands others (put name value found))
     → (name : List ℕ) (value : Data) (found : Members) → IsApart name (own ∷ names others)
     → (Stands tells own read found × IsApart own (names others) × stands others found)
     → (Stands tells own read (put name value found) × IsApart own (names others) × stands others (put name value found))

@@ -43,7 +43,8 @@ on_ok P Q (Err e) then is = tt
 first_among : (name : List ℕ) (others : List (List ℕ)) → list_any (bytes_eq name) (name ∷ others) ≡ true
 first_among name others = ap (λ b. b || list_any (bytes_eq name) others) ((bytes_eq-Decides name name).1 refl)
 
-later_among : (first name : List ℕ) (others : List (List ℕ)) → list_any (bytes_eq name) others ≡ true → list_any (bytes_eq name) (first ∷ others) ≡ true
+later_among : (first name : List ℕ) (others : List (List ℕ)) → list_any (bytes_eq name) others ≡ true
+    → list_any (bytes_eq name) (first ∷ others) ≡ true
 later_among first name others is = by (bytes_eq name first)
   where
     by : (b : Bool) → (b || list_any (bytes_eq name) others) ≡ true
@@ -59,9 +60,11 @@ deeper : (low deep : ℕ) (ts : List Token) (value : Data) (rest : List Token) �
 deeper low deep ts value rest below at = λ depth h. at depth (omega (arith, below, h))
 
 -- ---- one member
-module _ {X S : Type 0} (tells : Data → X → Type 0) (low : ℕ) (stands : S → Members → Type 0) (names : S → List (List ℕ)) (many : S → ℕ) (deep : ℕ) where
+module _ {X S : Type 0} (tells : Data → X → Type 0) (low : ℕ) (stands : S → Members → Type 0) (names : S → List (List ℕ)) (many : S → ℕ)
+    (deep : ℕ) where
   abbrev pub all_stand : Member X S → Members → Type 0
-  all_stand m found = Stands tells (text_of_name m.name) m.value found × IsApart (text_of_name m.name) (names m.others) × stands m.others found
+  all_stand m found =
+      Stands tells (text_of_name m.name) m.value found × IsApart (text_of_name m.name) (names m.others) × stands m.others found
 
   abbrev pub all_names : Member X S → List (List ℕ)
   all_names m = text_of_name m.name ∷ names m.others
@@ -71,11 +74,15 @@ module _ {X S : Type 0} (tells : Data → X → Type 0) (low : ℕ) (stands : S 
 
   -- what has been read of the others stands on when a member of another name is found
   abbrev StandOn : S → Type 0
-  StandOn others = (name : List ℕ) (value : Data) (found : Members) → IsApart name (names others) → stands others found → stands others (put name value found)
+  StandOn others =
+      (name : List ℕ) (value : Data) (found : Members) → IsApart name (names others) → stands others found
+      → stands others (put name value found)
 
   -- the first one
-  own_read : (name : MemberName) (others : S) (x : X) (ts named rest : List Token) → StandOn others → ts ≡ Token.key (text_of_name name) ∷ named → TellsBy tells low named x rest
-      → IsRead all_stand all_names all_many (max low deep) (record { name = name; value = None; others = others }) (record { name = name; value = Some x; others = others }) ts rest
+  own_read : (name : MemberName) (others : S) (x : X) (ts named rest : List Token) → StandOn others
+      → ts ≡ Token.key (text_of_name name) ∷ named → TellsBy tells low named x rest
+      → IsRead all_stand all_names all_many (max low deep) (record { name = name; value = None; others = others })
+      (record { name = name; value = Some x; others = others }) ts rest
   own_read name others x ts named rest on is one = record {
     name = text_of_name name;
     named = named;
@@ -84,20 +91,30 @@ module _ {X S : Type 0} (tells : Data → X → Type 0) (low : ℕ) (stands : S 
     at = deeper low (max low deep) named one.0 rest (omega arith) one.1;
     among = first_among (text_of_name name) (names others);
     fresh = λ found stood. stood.0;
-    with_it = λ found stood. ((one.0, get_member-put (text_of_name name) one.0 found, one.2), stood.1, on (text_of_name name) one.0 found stood.1 stood.2);
+    with_it =
+        λ found stood. (
+          (one.0, get_member-put (text_of_name name) one.0 found, one.2),
+          stood.1,
+          on (text_of_name name) one.0 found stood.1
+              stood.2,
+        );
     same_names = refl;
     one_more = omega arith;
   }
 
-  pub own_read_if : (old : Member X S) (x : X) (ts named rest : List Token) → StandOn old.others → old.value ≡ None → ts ≡ Token.key (text_of_name old.name) ∷ named → TellsBy tells low named x rest
+  pub own_read_if : (old : Member X S) (x : X) (ts named rest : List Token) → StandOn old.others → old.value ≡ None
+      → ts ≡ Token.key (text_of_name old.name) ∷ named → TellsBy tells low named x rest
       → IsRead all_stand all_names all_many (max low deep) old (record { name = old.name; value = Some x; others = old.others }) ts rest
   own_read_if old x ts named rest on none is one =
-      subst (λ (value : Option X). IsRead all_stand all_names all_many (max low deep) (record { name = old.name; value = value; others = old.others }) (record { name = old.name; value = Some x; others = old.others }) ts rest)
+      subst (λ (value : Option X). IsRead all_stand all_names all_many (max low deep)
+      (record { name = old.name; value = value; others = old.others }) (record { name = old.name; value = Some x; others = old.others })
+      ts rest)
       (sym none) (own_read old.name old.others x ts named rest on is one)
 
   -- one of the others
   pub other_read : (own : MemberName) (read : Option X) (old new : S) (ts rest : List Token) → IsRead stands names many deep old new ts rest
-      → IsRead all_stand all_names all_many (max low deep) (record { name = own; value = read; others = old }) (record { name = own; value = read; others = new }) ts rest
+      → IsRead all_stand all_names all_many (max low deep) (record { name = own; value = read; others = old })
+      (record { name = own; value = read; others = new }) ts rest
   other_read own read old new ts rest one =
       let more = one.one_more in
       record {
@@ -109,7 +126,8 @@ module _ {X S : Type 0} (tells : Data → X → Type 0) (low : ℕ) (stands : S 
         among = later_among (text_of_name own) one.name (names old) one.among;
         fresh = λ found stood. one.fresh found stood.2;
         with_it = λ found stood. (
-          stands_on tells (text_of_name own) one.name read one.value found (none_of (text_of_name own) one.name (names old) stood.1 one.among) stood.0,
+          stands_on tells (text_of_name own) one.name read one.value found
+              (none_of (text_of_name own) one.name (names old) stood.1 one.among) stood.0,
           subst (IsApart (text_of_name own)) (sym one.same_names) stood.1,
           one.with_it found stood.2,
         );
@@ -128,12 +146,16 @@ module _ {S : Type 0} (stands : S → Members → Type 0) (names : S → List (L
     pub so_many : members_len found ≡ many read
 
   pub none_yet : (begun : S) (ts : List Token) → stands begun no_members → many begun ≡ 0 → SoFar begun ts begun ts
-  none_yet begun ts stand none = record { found = no_members; continues = λ all rest more. more; stand = stand; same_names = refl; so_many = sym none }
+  none_yet begun ts stand none =
+      record { found = no_members; continues = λ all rest more. more; stand = stand; same_names = refl; so_many = sym none }
 
-  pub one_more : (begun : S) (first ts r : List Token) (old new : S) → SoFar begun first old ts → IsRead stands names many deep old new ts r → SoFar begun first new r
+  pub one_more : (begun : S) (first ts r : List Token) (old new : S) → SoFar begun first old ts → IsRead stands names many deep old new ts r
+      → SoFar begun first new r
   one_more begun first ts r old new so one = record {
     found = put one.name one.value so.found;
-    continues = λ all rest more. so.continues all rest (member_at deep deep so.found all one.name ts one.named r one.value rest (omega arith) one.is one.at more);
+    continues =
+        λ all rest more. so.continues all rest (member_at deep deep so.found all one.name ts one.named r one.value rest (omega arith) one.is
+        one.at more);
     stand = one.with_it so.found so.stand;
     same_names = one.same_names ∙ so.same_names;
     so_many = members_len-put one.name one.value so.found (one.fresh so.found so.stand) ∙ ap suc so.so_many ∙ sym one.one_more;
@@ -145,7 +167,8 @@ module _ {S : Type 0} (stands : S → Members → Type 0) (names : S → List (L
       let long : length ts ≡ suc (length one.named) = ap length one.is in
       omega (arith, less, long)
 
-  pub all_read : (begun : S) (t0 first ts r : List Token) (read : S) → t0 ≡ Token.begin_object ∷ first → SoFar begun first read ts → ts ≡ Token.end_object ∷ r → AreRead stands names many deep begun read t0 r
+  pub all_read : (begun : S) (t0 first ts r : List Token) (read : S) → t0 ≡ Token.begin_object ∷ first → SoFar begun first read ts
+      → ts ≡ Token.end_object ∷ r → AreRead stands names many deep begun read t0 r
   all_read begun t0 first ts r read opened so over = record {
     found = so.found;
     at = object_at deep t0 first so.found r opened (so.continues so.found r (members_over deep so.found ts r over));
@@ -155,22 +178,27 @@ module _ {S : Type 0} (stands : S → Members → Type 0) (names : S → List (L
   }
 
 -- ---- a text that was read
-pub text_if : {X Y : Type 0} (reads : Data → Option Y) (see : X → Y) (ts : List Token) (text lent : List ℕ) (rest : List Token) (result : Result X DumpError)
-    → ts ≡ Token.string text ∷ rest → lent ≡ text → IsReadingBy see result (reads (string lent)) → IfOk result (λ x. TellsBy (λ value x. reads value ≡ Some (see x)) 0 ts x rest)
+pub text_if : {X Y : Type 0} (reads : Data → Option Y) (see : X → Y) (ts : List Token) (text lent : List ℕ) (rest : List Token)
+    (result : Result X DumpError)
+    → ts ≡ Token.string text ∷ rest → lent ≡ text → IsReadingBy see result (reads (string lent))
+    → IfOk result (λ x. TellsBy (λ value x. reads value ≡ Some (see x)) 0 ts x rest)
 text_if reads see ts text lent rest (Ok x) is same told = text_told reads ts text lent rest (see x) is same told
 text_if reads see ts text lent rest (Err e) is same told = tt
 
 -- ---- what the members tell, one by one, once all have been read
 module _ {X S : Type 0} where
   -- the others behind the first member, as they began, and as they were read
-  pub begun_behind : {Y : Type 0} (begun : Member Y (Member X S)) (name own : MemberName) (others : Member X S) (more : S) → begun ≡ record { name = name; value = None; others = others }
+  pub begun_behind : {Y : Type 0} (begun : Member Y (Member X S)) (name own : MemberName) (others : Member X S) (more : S)
+      → begun ≡ record { name = name; value = None; others = others }
       → others ≡ record { name = own; value = None; others = more } → begun.others ≡ record { name = own; value = None; others = more }
   begun_behind begun name own others more is next = ap (λ m. m.others) is ∙ next
 
-  pub others_behind : {Y : Type 0} (read : Member Y (Member X S)) (others : Member X S) (more : S) → read.others ≡ others → others.others ≡ more → read.others.others ≡ more
+  pub others_behind : {Y : Type 0} (read : Member Y (Member X S)) (others : Member X S) (more : S) → read.others ≡ others
+      → others.others ≡ more → read.others.others ≡ more
   others_behind read others more is next = ap (λ (m : Member X S). m.others) is ∙ next
 
-  pub value_behind : {Y : Type 0} (read : Member Y (Member X S)) (others : Member X S) (x : X) → read.others ≡ others → others.value ≡ Some x → read.others.value ≡ Some x
+  pub value_behind : {Y : Type 0} (read : Member Y (Member X S)) (others : Member X S) (x : X) → read.others ≡ others
+      → others.value ≡ Some x → read.others.value ≡ Some x
   value_behind read others x is value = ap (λ (m : Member X S). m.value) is ∙ value
 
 -- the first names of two lists of names
@@ -181,9 +209,12 @@ pub rest_same : (one other : List ℕ) (ones others : List (List ℕ)) → one �
 rest_same one other ones others same = cc
 
 -- what has been read of a member that began with the name
-pub member_tells : {X Y S : Type 0} (tells : Data → X → Type 0) (reads : Data → Option Y) (see : X → Y) → ((value : Data) (x : X) → tells value x → reads value ≡ Some (see x))
-    → (name : MemberName) (begun read : Member X S) (more : S) (x : X) (found : Members) → begun ≡ record { name = name; value = None; others = more } → text_of_name read.name ≡ text_of_name begun.name
-    → Stands tells (text_of_name read.name) read.value found → read.value ≡ Some x → member_in reads (text_of_name name) found ≡ Some (see x)
+pub member_tells : {X Y S : Type 0} (tells : Data → X → Type 0) (reads : Data → Option Y) (see : X → Y)
+    → ((value : Data) (x : X) → tells value x → reads value ≡ Some (see x))
+    → (name : MemberName) (begun read : Member X S) (more : S) (x : X) (found : Members)
+    → begun ≡ record { name = name; value = None; others = more } → text_of_name read.name ≡ text_of_name begun.name
+    → Stands tells (text_of_name read.name) read.value found → read.value ≡ Some x
+    → member_in reads (text_of_name name) found ≡ Some (see x)
 member_tells tells reads see agrees name begun read more x found is same stood value =
     by read.value value (subst (λ own. Stands tells own read.value found) (same ∙ ap (λ (m : Member _ _). text_of_name m.name) is) stood)
   where

@@ -27,9 +27,11 @@ pub numbers_told : (dump : DumpValue) (n r s : Bool) → dump.current < 2 ^ 64
     → (n && (r && (s && true))) ≡ has_numbers dump
 numbers_told dump n r s fits a b c =
     three n r s ∙ (both _ _ _ _ (both _ _ _ _ a b) c
-    ∙ sym (ap (λ t. ((t && is_number_of_points dump.points) && list_all has_row_numbers dump.rows) && list_all has_node_numbers dump.nodes) (version_is dump.current fits)))
+    ∙ sym (ap (λ t. ((t && is_number_of_points dump.points) && list_all has_row_numbers dump.rows) && list_all has_node_numbers dump.nodes)
+    (version_is dump.current fits)))
 
-pub row_told : (row : DumpRow) → row.dead < 2 ^ 64 → row.joined < 2 ^ 64 → row.left < 2 ^ 64 → list_all is_hash row.places ≡ has_row_numbers row
+pub row_told : (row : DumpRow) → row.dead < 2 ^ 64 → row.joined < 2 ^ 64 → row.left < 2 ^ 64
+    → list_all is_hash row.places ≡ has_row_numbers row
 row_told row dead joined left = sym
     (ap (λ t. ((t && is_version row.joined) && is_version row.left) && list_all is_hash row.places) (version_is row.dead dead)
     ∙ (ap (λ t. (t && is_version row.left) && list_all is_hash row.places) (version_is row.joined joined)
@@ -43,7 +45,8 @@ node_told node r p fits a b =
 
 -- the silos of a node's activations
 activations_told : (known : Silo → Bool) (node : DumpNode) → list_all known (activation_silos node)
-    ≡ (list_all (λ held. known held.activation.silo) node.held && list_all (λ piece. list_all (λ entry. known entry.activation.silo) piece.entries) node.pieces)
+    ≡ (list_all (λ held. known held.activation.silo) node.held && list_all
+    (λ piece. list_all (λ entry. known entry.activation.silo) piece.entries) node.pieces)
 activations_told known node =
     list_all-append known (map (λ held. held.activation.silo) node.held) (map (λ entry. entry.activation.silo) (node_entries node))
     ∙ both _ _ _ _ (list_all-map known (λ held. held.activation.silo) node.held)
@@ -51,7 +54,8 @@ activations_told known node =
     ∙ list_all-flat_map (λ entry. known entry.activation.silo) (λ piece. piece.entries) node.pieces)
 
 -- what is a known silo's own has a known silo
-own_known : (known : Silo → Bool) (silo : Silo) (held : List DumpHeld) → known silo ≡ true → list_all (λ one. silo_eq one.activation.silo silo) held ≡ true
+own_known : (known : Silo → Bool) (silo : Silo) (held : List DumpHeld) → known silo ≡ true
+    → list_all (λ one. silo_eq one.activation.silo silo) held ≡ true
     → list_all (λ one. known one.activation.silo) held ≡ true
 own_known known silo [] is own = refl
 own_known known silo (one ∷ held) is own =
@@ -69,11 +73,13 @@ known_and_own : (known : Silo → Bool) (node : DumpNode) (k o : Bool)
 known_and_own known node k o names own =
     both _ _ _ _ names own
     ∙ beside (known node.silo) (list_all (λ held. known held.activation.silo) node.held)
-    (list_all (λ piece. list_all (λ entry. known entry.activation.silo) piece.entries) node.pieces) (holds_its_own node) (own_known known node.silo node.held)
+    (list_all (λ piece. list_all (λ entry. known entry.activation.silo) piece.entries) node.pieces) (holds_its_own node)
+    (own_known known node.silo node.held)
     ∙ ap (λ t. (known node.silo && t) && holds_its_own node) (sym (activations_told known node))
 
 pub node_is : (dump : DumpValue) (set : BTreeSet Silo) (node : DumpNode) → HasItems silo_cmp set (row_silos dump) → (k o a g s i p : Bool)
-    → k ≡ (contains silo_cmp set node.silo && list_all (λ piece. list_all (λ entry. contains silo_cmp set entry.activation.silo) piece.entries) node.pieces)
+    → k ≡ (contains silo_cmp set node.silo && list_all
+    (λ piece. list_all (λ entry. contains silo_cmp set entry.activation.silo) piece.entries) node.pieces)
     → o ≡ holds_its_own node → a ≡ holds_activations_once node → g ≡ holds_grains_once node → s ≡ has_seen_a_version dump node
     → i ≡ has_pieces_in_order node → p ≡ list_all is_piece node.pieces
     → (k && (o && (a && (g && (s && (i && (p && true))))))) ≡ is_node_of dump node
@@ -85,6 +91,7 @@ node_is dump set node has k o a g s i p known own activations grains seen order 
     (list_all_alike (contains silo_cmp set) (has_row dump) (known_silos dump set has) (activation_silos node))))
     activations) grains) seen) order) pieces
 
-pub piece_is : (piece : DumpPiece) (s f o : Bool) → s ≡ has_entries_if_settled piece → f ≡ has_from_if_awaiting piece → o ≡ has_entries_in_order piece
+pub piece_is : (piece : DumpPiece) (s f o : Bool) → s ≡ has_entries_if_settled piece → f ≡ has_from_if_awaiting piece
+    → o ≡ has_entries_in_order piece
     → (s && (f && (o && true))) ≡ is_piece piece
 piece_is piece s f o a b c = three s f o ∙ both _ _ _ _ (both _ _ _ _ a b) c

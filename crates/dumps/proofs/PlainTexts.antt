@@ -47,7 +47,8 @@ escape_plain (x ∷ s) are =
     let parts = and_parts (is_plain_byte x) (list_all is_plain_byte s) are in
     let first = and_parts (nat_le 32 x && not (x == 34)) (not (x == 92)) parts.0 in
     let front = and_parts (nat_le 32 x) (not (x == 34)) first.0 in
-    ap₂ (λ one rest. one ++ rest) (escape_byte_plain x (apart x 34 front.1) (apart x 92 first.1) (leb-true 32 x front.0)) (escape_plain s parts.1)
+    ap₂ (λ one rest. one ++ rest) (escape_byte_plain x (apart x 34 front.1) (apart x 92 first.1) (leb-true 32 x front.0))
+    (escape_plain s parts.1)
 
 string_lexed : (s r : List ℕ) → list_all is_plain_byte s ≡ true → lex between (34 ∷ (s ++ 34 ∷ r)) ≡ token (string s) ∷ lex between r
 unfolding lex
@@ -67,7 +68,8 @@ cut_quoted bytes end within mark are =
 
 -- ---- bytes of a string, one after another
 -- in a string a byte that is no quotation mark and no backslash is passed over
-stays : (o s : Bool) (x : ℕ) (r : List ℕ) (k : Mode → List Lexeme) → lex_byte in_string (cond o operator (cond s space other)) x r k ≡ k in_string
+stays : (o s : Bool) (x : ℕ) (r : List ℕ) (k : Mode → List Lexeme)
+    → lex_byte in_string (cond o operator (cond s space other)) x r k ≡ k in_string
 stays true s x r k = refl
 stays false true x r k = refl
 stays false false x r k = refl
@@ -94,7 +96,8 @@ after_both : (one more : List ℕ) (o : Option (List ℕ)) → prepend one (prep
 after_both one more None = refl
 after_both one more (Some s) = ap Some (sym (append_assoc one more s))
 
-pub parts_stand : (bytes one middle more rest : List ℕ) → StandsFor bytes one middle → StandsFor middle more rest → StandsFor bytes (one ++ more) rest
+pub parts_stand : (bytes one middle more rest : List ℕ) → StandsFor bytes one middle → StandsFor middle more rest
+    → StandsFor bytes (one ++ more) rest
 parts_stand bytes one middle more rest first later =
     let front = first.fits in
     let back = later.fits in
@@ -108,7 +111,8 @@ plain_part_stands : (part rest : List ℕ) → list_all is_plain_byte part ≡ t
 plain_part_stands [] rest are = record { read = after_nothing (content plain rest); passed = refl; fits = omega arith }
 plain_part_stands (x ∷ part) rest are =
     let parts = and_parts (is_plain_byte x) (list_all is_plain_byte part) are in
-    parts_stand (x ∷ (part ++ rest)) (x ∷ []) (part ++ rest) part rest (plain_stands_first x (part ++ rest) parts.0) (plain_part_stands part rest parts.1)
+    parts_stand (x ∷ (part ++ rest)) (x ∷ []) (part ++ rest) part rest (plain_stands_first x (part ++ rest) parts.0)
+    (plain_part_stands part rest parts.1)
 
 pub plain_stand : (bytes part rest : List ℕ) → bytes ≡ part ++ rest → list_all is_plain_byte part ≡ true → StandsFor bytes part rest
 plain_stand bytes part rest is are = rw is (plain_part_stands part rest are)
@@ -127,7 +131,8 @@ kept_stands bytes x r next is = rw next (escape_stands x r is)
 
 -- a code below 128 is no surrogate, and one byte
 code_stands : (code : ℕ) (rest : List ℕ) → code < 128
-    → cond (is_high_surrogate code) (content (after_high code) rest) (cond (is_low_surrogate code) None (prepend (encode_utf8 code) (content plain rest))) ≡ prepend (code ∷ []) (content plain rest)
+    → cond (is_high_surrogate code) (content (after_high code) rest)
+    (cond (is_low_surrogate code) None (prepend (encode_utf8 code) (content plain rest))) ≡ prepend (code ∷ []) (content plain rest)
 unfolding encode_utf8
 code_stands code rest below =
     let high : nat_le 0xd800 code ≡ false = grind (arith, nat_tests) in
@@ -139,7 +144,8 @@ code_stands code rest below =
 digit_plain : (x : ℕ) → digit_value x < 16 → is_plain_byte x ≡ true
 digit_plain x is = grind (arith, nat_tests)
 
-code_read : (byte high low : ℕ) (rest : List ℕ) → AreDigitsOf byte high low → StandsFor (92 ∷ 117 ∷ 48 ∷ 48 ∷ high ∷ low ∷ rest) (byte ∷ []) rest
+code_read : (byte high low : ℕ) (rest : List ℕ) → AreDigitsOf byte high low
+    → StandsFor (92 ∷ 117 ∷ 48 ∷ 48 ∷ high ∷ low ∷ rest) (byte ∷ []) rest
 unfolding content lex code_unit
 code_read byte high low rest are =
     let first : nat_lt (digit_value high) 16 ≡ true = lt-ltb (digit_value high) 16 are.first in
@@ -148,13 +154,17 @@ code_read byte high low rest are =
     let code : 0 + digit_value high * 16 + digit_value low ≡ byte = omega arith in
     record {
       read = rw (first, second, code) (code_stands byte rest are.below);
-      passed = (plain_stands_first high (low ∷ rest) (digit_plain high are.first)).passed ∙ (plain_stands_first low rest (digit_plain low are.second)).passed;
+      passed =
+          (plain_stands_first high (low ∷ rest) (digit_plain high are.first)).passed
+          ∙ (plain_stands_first low rest (digit_plain low are.second)).passed;
       fits = omega arith;
     }
 
-pub code_read_if : (bytes zeros digits second rest : List ℕ) (byte high low : ℕ) → bytes ≡ 48 ∷ zeros → zeros ≡ 48 ∷ digits → digits ≡ high ∷ second → second ≡ low ∷ rest → AreDigitsOf byte high low
+pub code_read_if : (bytes zeros digits second rest : List ℕ) (byte high low : ℕ) → bytes ≡ 48 ∷ zeros → zeros ≡ 48 ∷ digits
+    → digits ≡ high ∷ second → second ≡ low ∷ rest → AreDigitsOf byte high low
     → StandsFor (92 ∷ 117 ∷ bytes) (byte ∷ []) rest
-code_read_if bytes zeros digits second rest byte high low one two three four are = rw (one, two, three, four) (code_read byte high low rest are)
+code_read_if bytes zeros digits second rest byte high low one two three four are =
+    rw (one, two, three, four) (code_read byte high low rest are)
 
 pub quoted_whole : (bytes text left rest : List ℕ) → StandsFor bytes text left → left ≡ 34 ∷ rest → IsQuoted bytes text rest
 unfolding content lex
@@ -194,7 +204,8 @@ no_colon (byte ∷ bytes) is = one_of (λ b. begins_colon (lex between (b ∷ by
 no_colon_behind : (bytes : List ℕ) → ends_value bytes ≡ true → begins_colon (lex between bytes) ≡ false
 no_colon_behind bytes is = ap begins_colon (blanks_passed bytes) ∙ no_colon (behind_blanks bytes) is
 
-word_ends_first : (blank : Bool) (byte : ℕ) (bytes : List ℕ) → is_space byte ≡ blank → ends_at_once (cond blank (behind_blanks bytes) (byte ∷ bytes)) ≡ true → ends_word (byte ∷ bytes) ≡ true
+word_ends_first : (blank : Bool) (byte : ℕ) (bytes : List ℕ) → is_space byte ≡ blank
+    → ends_at_once (cond blank (behind_blanks bytes) (byte ∷ bytes)) ≡ true → ends_word (byte ∷ bytes) ≡ true
 word_ends_first true byte bytes is ended = blank_of (λ b. ends_word (b ∷ bytes) ≡ true) refl refl refl refl byte is
 word_ends_first false byte bytes is ended = one_of (λ b. ends_word (b ∷ bytes) ≡ true) 44 93 125 refl refl refl byte ended
 
@@ -213,16 +224,20 @@ comma_passed bytes = refl
 pub begun_fresh : (place : Place) (bytes begun : List ℕ) → place ≡ Fresh → begun ≡ behind_blanks bytes → IsBegun place bytes begun
 begun_fresh place bytes begun fresh is = rw fresh (at_blanks Fresh bytes begun (sym is))
 
-pub begun_behind : (place : Place) (bytes rest begun : List ℕ) → place ≡ AfterValue → behind_blanks bytes ≡ 44 ∷ rest → begun ≡ behind_blanks rest → IsBegun place bytes begun
+pub begun_behind : (place : Place) (bytes rest begun : List ℕ) → place ≡ AfterValue → behind_blanks bytes ≡ 44 ∷ rest
+    → begun ≡ behind_blanks rest → IsBegun place bytes begun
 begun_behind place bytes rest begun after is next =
-    rw after (at_blanks AfterValue bytes (44 ∷ rest) is ∙ comma_passed rest ∙ ap (punctuate (begun_at AfterValue)) (blanks_passed rest ∙ ap (lex between) (sym next)))
+    rw after (at_blanks AfterValue bytes (44 ∷ rest) is ∙ comma_passed rest
+    ∙ ap (punctuate (begun_at AfterValue)) (blanks_passed rest ∙ ap (lex between) (sym next)))
 
-pub object_opened : (place : Place) (bytes : List ℕ) → punctuate (begun_at place) (lex between (123 ∷ bytes)) ≡ begin_object ∷ tokens_at Fresh bytes
+pub object_opened : (place : Place) (bytes : List ℕ)
+    → punctuate (begun_at place) (lex between (123 ∷ bytes)) ≡ begin_object ∷ tokens_at Fresh bytes
 unfolding lex punctuate
 object_opened Fresh bytes = refl
 object_opened AfterValue bytes = refl
 
-pub array_opened : (place : Place) (bytes : List ℕ) → punctuate (begun_at place) (lex between (91 ∷ bytes)) ≡ begin_array ∷ tokens_at Fresh bytes
+pub array_opened : (place : Place) (bytes : List ℕ)
+    → punctuate (begun_at place) (lex between (91 ∷ bytes)) ≡ begin_array ∷ tokens_at Fresh bytes
 unfolding lex punctuate
 array_opened Fresh bytes = refl
 array_opened AfterValue bytes = refl
@@ -237,33 +252,42 @@ unfolding lex punctuate
 array_closed Fresh bytes = refl
 array_closed AfterValue bytes = refl
 
-named : (place : Place) (s bytes : List ℕ) → punctuate (begun_at place) (token (string s) ∷ lex between (58 ∷ bytes)) ≡ key s ∷ tokens_at Fresh bytes
+named : (place : Place) (s bytes : List ℕ) → punctuate (begun_at place) (token (string s) ∷ lex between (58 ∷ bytes)) ≡ key s ∷ tokens_at
+    Fresh bytes
 unfolding lex punctuate
 named Fresh s bytes = refl
 named AfterValue s bytes = refl
 
-pub key_taken : (place : Place) (bytes name rest : List ℕ) → list_all is_plain_byte name ≡ true → IsNamed bytes name rest → punctuate (begun_at place) (lex between (34 ∷ bytes)) ≡ key name ∷ tokens_at Fresh rest
+pub key_taken : (place : Place) (bytes name rest : List ℕ) → list_all is_plain_byte name ≡ true → IsNamed bytes name rest
+    → punctuate (begun_at place) (lex between (34 ∷ bytes)) ≡ key name ∷ tokens_at Fresh rest
 key_taken place bytes name rest are is =
     ap (punctuate (begun_at place))
-    (ap (λ b. lex between (34 ∷ b)) is.is ∙ string_lexed name is.behind are ∙ ap (λ ls. token (string name) ∷ ls) (blanks_passed is.behind ∙ ap (lex between) is.ended))
+    (ap (λ b. lex between (34 ∷ b)) is.is ∙ string_lexed name is.behind are
+    ∙ ap (λ ls. token (string name) ∷ ls) (blanks_passed is.behind ∙ ap (lex between) is.ended))
     ∙ named place name rest
 
-valued : (place : Place) (s : List ℕ) (ls : List Lexeme) → begins_colon ls ≡ false → punctuate (begun_at place) (token (string s) ∷ ls) ≡ string s ∷ punctuate (place_of AfterValue) ls
+valued : (place : Place) (s : List ℕ) (ls : List Lexeme) → begins_colon ls ≡ false
+    → punctuate (begun_at place) (token (string s) ∷ ls) ≡ string s ∷ punctuate (place_of AfterValue) ls
 unfolding punctuate
 valued Fresh s ls apart = rw apart refl
 valued AfterValue s ls apart = rw apart refl
 
-pub string_taken : (place : Place) (bytes s rest : List ℕ) → IsQuoted bytes s rest → ends_value rest ≡ true → punctuate (begun_at place) (lex between (34 ∷ bytes)) ≡ string s ∷ tokens_at AfterValue rest
-string_taken place bytes s rest is ended = ap (punctuate (begun_at place)) is ∙ valued place s (lex between rest) (no_colon_behind rest ended)
+pub string_taken : (place : Place) (bytes s rest : List ℕ) → IsQuoted bytes s rest → ends_value rest ≡ true
+    → punctuate (begun_at place) (lex between (34 ∷ bytes)) ≡ string s ∷ tokens_at AfterValue rest
+string_taken place bytes s rest is ended =
+    ap (punctuate (begun_at place)) is ∙ valued place s (lex between rest) (no_colon_behind rest ended)
 
-counted : (place : Place) (s : List ℕ) (ls : List Lexeme) → punctuate (begun_at place) (token (number s) ∷ ls) ≡ number s ∷ punctuate (place_of AfterValue) ls
+counted : (place : Place) (s : List ℕ) (ls : List Lexeme)
+    → punctuate (begun_at place) (token (number s) ∷ ls) ≡ number s ∷ punctuate (place_of AfterValue) ls
 unfolding punctuate
 counted Fresh s ls = refl
 counted AfterValue s ls = refl
 
-number_taken : (place : Place) (n : ℕ) (bytes : List ℕ) → n < 2 ^ 64 → ends_value bytes ≡ true → punctuate (begun_at place) (lex between (decimal n ++ bytes)) ≡ number (decimal n) ∷ tokens_at AfterValue bytes
+number_taken : (place : Place) (n : ℕ) (bytes : List ℕ) → n < 2 ^ 64 → ends_value bytes ≡ true
+    → punctuate (begun_at place) (lex between (decimal n ++ bytes)) ≡ number (decimal n) ∷ tokens_at AfterValue bytes
 number_taken place n bytes fits ended =
-    ap (punctuate (begun_at place)) (lex-number (decimal n) bytes (IsNumber-decimal n fits) (word_ends bytes ended)) ∙ counted place (decimal n) (lex between bytes)
+    ap (punctuate (begun_at place)) (lex-number (decimal n) bytes (IsNumber-decimal n fits) (word_ends bytes ended))
+    ∙ counted place (decimal n) (lex between bytes)
 
 over : (place : Place) (bytes : List ℕ) → behind_blanks bytes ≡ [] → tokens_at place bytes ≡ []
 unfolding lex punctuate
@@ -271,12 +295,15 @@ over Fresh bytes is = at_blanks Fresh bytes [] is
 over AfterValue bytes is = at_blanks AfterValue bytes [] is
 
 -- ---- what the code asks of them
-pub over_if : (place : Place) (bytes left : List ℕ) (seen : List Token) (none : Bool) → tokens_at place bytes ≡ seen → left ≡ behind_blanks bytes → none ≡ (length left == 0) → OnTrue none (seen ≡ [])
+pub over_if : (place : Place) (bytes left : List ℕ) (seen : List Token) (none : Bool) → tokens_at place bytes ≡ seen
+    → left ≡ behind_blanks bytes → none ≡ (length left == 0) → OnTrue none (seen ≡ [])
 over_if place bytes left seen false is behind told = tt
 over_if place bytes [] seen true is behind told = sym is ∙ over place bytes (sym behind)
-over_if place bytes (byte ∷ left) seen true is behind told = let no : length (byte ∷ left) ≡ 0 = eqb-true (length (byte ∷ left)) 0 (sym told) in absurd (omega arith)
+over_if place bytes (byte ∷ left) seen true is behind told =
+    let no : length (byte ∷ left) ≡ 0 = eqb-true (length (byte ∷ left)) 0 (sym told) in absurd (omega arith)
 
-pub number_if : (place : Place) (bytes begun front back : List ℕ) (n : ℕ) → IsBegun place bytes begun → begun ≡ front ++ back → front ≡ decimal n → n < 2 ^ 64 → ends_value back ≡ true
+pub number_if : (place : Place) (bytes begun front back : List ℕ) (n : ℕ) → IsBegun place bytes begun → begun ≡ front ++ back
+    → front ≡ decimal n → n < 2 ^ 64 → ends_value back ≡ true
     → tokens_at place bytes ≡ number (decimal n) ∷ tokens_at AfterValue back
 number_if place bytes begun front back n is parts spelt fits ended =
     is ∙ ap (λ b. punctuate (begun_at place) (lex between b)) (parts ∙ ap (λ f. f ++ back) spelt) ∙ number_taken place n back fits ended
@@ -284,4 +311,5 @@ number_if place bytes begun front back n is parts spelt fits ended =
 pub unnamed_if : (bytes name unnamed unquoted : List ℕ) (found : Option (Bor (List ℕ))) → bytes ≡ name ++ unnamed → unnamed ≡ 34 ∷ unquoted
     → IfSome found (λ rest. behind_blanks unquoted ≡ 58 ∷ rest.now) → IfSome found (λ rest. IsNamed bytes name rest.now)
 unnamed_if bytes name unnamed unquoted None begun marked found = tt
-unnamed_if bytes name unnamed unquoted (Some rest) begun marked found = record { behind = unquoted; is = begun ∙ ap (λ b. name ++ b) marked; ended = found }
+unnamed_if bytes name unnamed unquoted (Some rest) begun marked found =
+    record { behind = unquoted; is = begun ∙ ap (λ b. name ++ b) marked; ended = found }

@@ -11,7 +11,8 @@ use Rattle.dump_rules.specs.Values.{items_in, list_in}
 abbrev pub onto : {X : Type 0} → List X → Option (List X) → Option (List X)
 onto front rest = option_map (λ xs. front ++ xs) rest
 
-onto-read : {X : Type 0} (front : List X) (x : X) (rest : Option (List X)) → onto front (option_map (λ xs. x ∷ xs) rest) ≡ onto (front ++ x ∷ []) rest
+onto-read : {X : Type 0} (front : List X) (x : X) (rest : Option (List X))
+    → onto front (option_map (λ xs. x ∷ xs) rest) ≡ onto (front ++ x ∷ []) rest
 onto-read front x None = refl
 onto-read front x (Some xs) = ap Some (sym (append_assoc front (x ∷ []) xs))
 
@@ -19,14 +20,16 @@ cut_at : (values : List Value) (i : ℕ) (value : Value) → i < length values �
     → items_view (drop i values) ≡ item (view value) (items_view (drop (i + 1) values))
 cut_at values i value within is = ap items_view (drop-cons values i value within) ∙ rw (add-one, ← is)
 
-pub item_read : {X : Type 0} (reads : Data → Option X) (values : List Value) (i : ℕ) (value : Value) (front : List X) (x : X) (whole : Option (List X))
+pub item_read : {X : Type 0} (reads : Data → Option X) (values : List Value) (i : ℕ) (value : Value) (front : List X) (x : X)
+    (whole : Option (List X))
     → i < length values → value ≡ get_or values i value → reads (view value) ≡ Some x
     → whole ≡ onto front (items_in reads (items_view (drop i values)))
     → whole ≡ onto (front ++ x ∷ []) (items_in reads (items_view (drop (i + 1) values)))
 item_read reads values i value front x whole within is read so_far =
     so_far ∙ rw (cut_at values i value within is) (rw read (onto-read front x (items_in reads (items_view (drop (i + 1) values)))))
 
-item_unread : {X : Type 0} (reads : Data → Option X) (values : List Value) (i : ℕ) (value : Value) (front : List X) (whole : Option (List X))
+item_unread : {X : Type 0} (reads : Data → Option X) (values : List Value) (i : ℕ) (value : Value) (front : List X)
+    (whole : Option (List X))
     → i < length values → value ≡ get_or values i value → reads (view value) ≡ None
     → whole ≡ onto front (items_in reads (items_view (drop i values)))
     → whole ≡ None

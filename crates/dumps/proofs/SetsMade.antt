@@ -75,7 +75,8 @@ distinct_more R total set items index item within here has apart new =
     ∙ (distinct_with (λ one. is_at (R one)) (both_ways R total) (take index items) item
     ∙ (ap (λ b. b && not (list_any (is_at (R item)) (take index items))) apart ∙ ap not (sym (has item) ∙ new)))
 
-pub distinct_no_more : {K : Type 0} (R : K → K → Ordering) (total : IsTotalOrder R) (set : BTreeSet K) (items : List K) (index : ℕ) (item : K)
+pub distinct_no_more : {K : Type 0} (R : K → K → Ordering) (total : IsTotalOrder R) (set : BTreeSet K) (items : List K) (index : ℕ)
+    (item : K)
     → index < length items → item ≡ get_or items index item → HasItems R set (take index items)
     → contains R set item ≡ true
     → are_distinct_by (λ one. is_at (R one)) items ≡ false
@@ -97,7 +98,8 @@ distinct_no_more {K} R total set items index item within here has old = by (are_
     by : (t : Bool) → are_distinct_by same items ≡ t → are_distinct_by same items ≡ false
     by false other = other
     by true all = absurd (never (are_distinct_by same (take index items))
-        (sym front ∙ same_if_none same (take (index + 1) items) (drop (index + 1) items) (ap (are_distinct_by same) (take-append-drop (index + 1) items) ∙ all)))
+        (sym front ∙ same_if_none same (take (index + 1) items) (drop (index + 1) items)
+        (ap (are_distinct_by same) (take-append-drop (index + 1) items) ∙ all)))
 
 -- what the answer of an insert tells, by a test of it
 pub was_there : (new had : Bool) → new ≡ not had → new ≡ false → had ≡ true

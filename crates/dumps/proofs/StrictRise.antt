@@ -32,15 +32,19 @@ first_below R total x xs up (suc k) d within =
 
 none_at : {X : Type 0} (p : X → Bool) (xs : List X) → ((k : ℕ) (d : X) → k < length xs → p (get_or xs k d) ≡ false) → list_any p xs ≡ false
 none_at p [] fails = refl
-none_at p (x ∷ xs) fails = ap (λ b. b || list_any p xs) (fails 0 x (omega arith)) ∙ none_at p xs (λ k d within. fails (suc k) d (omega (arith, within)))
+none_at p (x ∷ xs) fails =
+    ap (λ b. b || list_any p xs) (fails 0 x (omega arith)) ∙ none_at p xs (λ k d within. fails (suc k) d (omega (arith, within)))
 
-distinct_if_rising : {K : Type 0} (R : K → K → Ordering) → IsTotalOrder R → (xs : List K) → IsRising R xs → are_distinct_by (λ one. is_at (R one)) xs ≡ true
+distinct_if_rising : {K : Type 0} (R : K → K → Ordering) → IsTotalOrder R → (xs : List K) → IsRising R xs
+    → are_distinct_by (λ one. is_at (R one)) xs ≡ true
 distinct_if_rising R total [] up = refl
 distinct_if_rising R total (x ∷ xs) up =
-    ap (λ b. not b && are_distinct_by (λ one. is_at (R one)) xs) (none_at (is_at (R x)) xs (λ k d within. ap is_eq (first_below R total x xs up k d within)))
+    ap (λ b. not b && are_distinct_by (λ one. is_at (R one)) xs)
+    (none_at (is_at (R x)) xs (λ k d within. ap is_eq (first_below R total x xs up k d within)))
     ∙ distinct_if_rising R total xs (behind R x xs up)
 
 pub rising_told : {K : Type 0} (R : K → K → Ordering) → IsTotalOrder R → (xs : List K) (answer : Bool)
-    → IsAllAdjacentAnswer (λ one next b. b ≡ is_lt (R one next)) xs answer → answer ≡ true → are_distinct_by (λ one. is_at (R one)) xs ≡ true
+    → IsAllAdjacentAnswer (λ one next b. b ≡ is_lt (R one next)) xs answer → answer ≡ true
+    → are_distinct_by (λ one. is_at (R one)) xs ≡ true
 rising_told R total xs true each is = distinct_if_rising R total xs each
 rising_told R total xs false each is = absurd (cc)

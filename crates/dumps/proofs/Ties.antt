@@ -50,30 +50,36 @@ pub list_any_alike : {X : Type 0} (p q : X → Bool) → ((x : X) → p x ≡ q 
 list_any_alike p q alike [] = refl
 list_any_alike p q alike (x ∷ xs) = ap (λ b. b || list_any p xs) (alike x) ∙ ap (λ b. q x || b) (list_any_alike p q alike xs)
 
-pub distinct_alike : {X : Type 0} (p q : X → X → Bool) → ((x y : X) → p x y ≡ q x y) → (xs : List X) → are_distinct_by p xs ≡ are_distinct_by q xs
+pub distinct_alike : {X : Type 0} (p q : X → X → Bool) → ((x y : X) → p x y ≡ q x y) → (xs : List X)
+    → are_distinct_by p xs ≡ are_distinct_by q xs
 distinct_alike p q alike [] = refl
 distinct_alike p q alike (x ∷ xs) =
-    ap (λ b. not b && are_distinct_by p xs) (list_any_alike (p x) (q x) (alike x) xs) ∙ ap (λ b. not (list_any (q x) xs) && b) (distinct_alike p q alike xs)
+    ap (λ b. not b && are_distinct_by p xs) (list_any_alike (p x) (q x) (alike x) xs)
+    ∙ ap (λ b. not (list_any (q x) xs) && b) (distinct_alike p q alike xs)
 
 -- lists of silos and activations, each once
 pub distinct_silos : (xs : List Silo) → are_distinct_by (λ one. is_at (silo_cmp one)) xs ≡ are_distinct_by silo_eq xs
 distinct_silos = distinct_alike (λ one. is_at (silo_cmp one)) silo_eq silo_tie
 
-pub distinct_activations : (xs : List ActivationId) → are_distinct_by (λ one. is_at (activation_cmp one)) xs ≡ are_distinct_by activation_eq xs
+pub distinct_activations : (xs : List ActivationId)
+    → are_distinct_by (λ one. is_at (activation_cmp one)) xs ≡ are_distinct_by activation_eq xs
 distinct_activations = distinct_alike (λ one. is_at (activation_cmp one)) activation_eq activation_tie
 
 -- the set of those that have rows
-pub known_silos : (dump : DumpValue) (set : BTreeSet Silo) → HasItems silo_cmp set (row_silos dump) → (silo : Silo) → contains silo_cmp set silo ≡ has_row dump silo
+pub known_silos : (dump : DumpValue) (set : BTreeSet Silo) → HasItems silo_cmp set (row_silos dump) → (silo : Silo)
+    → contains silo_cmp set silo ≡ has_row dump silo
 known_silos dump set has silo = has silo ∙ list_any_alike (is_at (silo_cmp silo)) (silo_eq silo) (silo_tie silo) (row_silos dump)
 
 -- grains behind references
-any_lent : (grain : Grain) (grains : List (Bor Grain)) → list_any (λ (one : Bor Grain). is_eq (grain_cmp grain one.now)) grains ≡ list_any (grain_eq grain) (grains_lent grains)
+any_lent : (grain : Grain) (grains : List (Bor Grain))
+    → list_any (λ (one : Bor Grain). is_eq (grain_cmp grain one.now)) grains ≡ list_any (grain_eq grain) (grains_lent grains)
 any_lent grain [] = refl
 any_lent grain (one ∷ grains) =
     ap (λ b. b || list_any (λ (g : Bor Grain). is_eq (grain_cmp grain g.now)) grains) (grain_tie grain one.now)
     ∙ ap (λ b. grain_eq grain one.now || b) (any_lent grain grains)
 
-pub distinct_lent : (grains : List (Bor Grain)) → are_distinct_by (λ (one other : Bor Grain). is_eq (grain_cmp one.now other.now)) grains ≡ are_distinct_by grain_eq (grains_lent grains)
+pub distinct_lent : (grains : List (Bor Grain)) → are_distinct_by (λ (one other : Bor Grain). is_eq (grain_cmp one.now other.now)) grains
+    ≡ are_distinct_by grain_eq (grains_lent grains)
 distinct_lent [] = refl
 distinct_lent (grain ∷ grains) =
     ap (λ b. not b && are_distinct_by (λ (one other : Bor Grain). is_eq (grain_cmp one.now other.now)) grains) (any_lent grain.now grains)

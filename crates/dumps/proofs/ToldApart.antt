@@ -13,8 +13,10 @@ use Rattle.silo_address.proofs.Same.{Decides-grain}
 use Rattle.dump_rules.specs.DumpShape.{are_distinct_by}
 use Rattle.dumps.specs.Mixed.{Rises, grains_lent}
 
-pub rising_answer : (numbers : List ℕ) (answer : Bool) → IsAllAdjacentAnswer (λ one next b. b ≡ nat_lt one next) numbers answer → answer ≡ true → Rises numbers
-rising_answer numbers true each is = λ index d within. ltb-true (get_or numbers index d) (get_or numbers (index + 1) d) (sym (each index d within))
+pub rising_answer : (numbers : List ℕ) (answer : Bool) → IsAllAdjacentAnswer (λ one next b. b ≡ nat_lt one next) numbers answer
+    → answer ≡ true → Rises numbers
+rising_answer numbers true each is =
+    λ index d within. ltb-true (get_or numbers index d) (get_or numbers (index + 1) d) (sym (each index d within))
 rising_answer numbers false each is = absurd (cc)
 
 abbrev one_if : Bool → ℕ
@@ -68,11 +70,13 @@ once number (x ∷ xs) up = by (x == number) refl (once number xs (rises_behind 
         omega (arith, later, whole, here)
 
 -- ---- A grain that stands twice has a number that does.
-counted_there : (numbers : Grain → ℕ) (grain : Grain) (grains : List Grain) → list_any (grain_eq grain) grains ≡ true → 1 ≤ times (numbers grain) (map numbers grains)
+counted_there : (numbers : Grain → ℕ) (grain : Grain) (grains : List Grain) → list_any (grain_eq grain) grains ≡ true
+    → 1 ≤ times (numbers grain) (map numbers grains)
 counted_there numbers grain [] there = absurd (cc)
 counted_there numbers grain (one ∷ grains) there = by (grain_eq grain one) refl (counted_there numbers grain grains)
   where
-    whole : times (numbers grain) (map numbers (one ∷ grains)) ≡ one_if (numbers one == numbers grain) + times (numbers grain) (map numbers grains)
+    whole : times (numbers grain) (map numbers (one ∷ grains)) ≡ one_if (numbers one == numbers grain) + times (numbers grain)
+        (map numbers grains)
     whole = counted_one (numbers one) (numbers grain) (map numbers grains)
 
     itself : (n : ℕ) → (n == n) ≡ true
@@ -90,11 +94,13 @@ counted_there numbers grain (one ∷ grains) there = by (grain_eq grain one) ref
         let all = whole in
         omega (arith, rest, all)
 
-pub distinct_by_numbers : (numbers : Grain → ℕ) (grains : List Grain) → ((number : ℕ) → times number (map numbers grains) ≤ 1) → are_distinct_by grain_eq grains ≡ true
+pub distinct_by_numbers : (numbers : Grain → ℕ) (grains : List Grain) → ((number : ℕ) → times number (map numbers grains) ≤ 1)
+    → are_distinct_by grain_eq grains ≡ true
 distinct_by_numbers numbers [] each = refl
 distinct_by_numbers numbers (grain ∷ grains) each = by (list_any (grain_eq grain) grains) refl (distinct_by_numbers numbers grains fewer)
   where
-    whole : (number : ℕ) → times number (map numbers (grain ∷ grains)) ≡ one_if (numbers grain == number) + times number (map numbers grains)
+    whole : (number : ℕ) → times number (map numbers (grain ∷ grains)) ≡ one_if (numbers grain == number) + times number
+        (map numbers grains)
     whole number = counted_one (numbers grain) number (map numbers grains)
 
     fewer : (number : ℕ) → times number (map numbers grains) ≤ 1
@@ -103,7 +109,8 @@ distinct_by_numbers numbers (grain ∷ grains) each = by (list_any (grain_eq gra
     itself : (n : ℕ) → (n == n) ≡ true
     itself n = grind (arith, nat_tests)
 
-    by : (t : Bool) → list_any (grain_eq grain) grains ≡ t → are_distinct_by grain_eq grains ≡ true → are_distinct_by grain_eq (grain ∷ grains) ≡ true
+    by : (t : Bool) → list_any (grain_eq grain) grains ≡ t → are_distinct_by grain_eq grains ≡ true
+        → are_distinct_by grain_eq (grain ∷ grains) ≡ true
     by true there rest =
         let again = counted_there numbers grain grains there in
         let here : one_if (numbers grain == numbers grain) ≡ 1 = ap one_if (itself (numbers grain)) in
@@ -120,6 +127,7 @@ told_apart numbers grains sorted moved up =
     let least = once number sorted up in
     omega (arith, same, least))
 
-pub map_lent : (numbers : Grain → ℕ) (grains : List (Bor Grain)) → map (λ (grain : Bor Grain). numbers grain.now) grains ≡ map numbers (grains_lent grains)
+pub map_lent : (numbers : Grain → ℕ) (grains : List (Bor Grain))
+    → map (λ (grain : Bor Grain). numbers grain.now) grains ≡ map numbers (grains_lent grains)
 map_lent numbers [] = refl
 map_lent numbers (grain ∷ grains) = ap (λ ns. numbers grain.now ∷ ns) (map_lent numbers grains)

@@ -40,7 +40,8 @@ module _ {K V : Type 0} (text : K → List ℕ) where
   key_of grain [] names = inl refl
   key_of grain (e ∷ es) names = by (grain_eq grain (grain_at_slash (text e.0))) refl (key_of grain es names.1)
     where
-      by : (b : Bool) → grain_eq grain (grain_at_slash (text e.0)) ≡ b → (under_grain grain es ≡ None) ⊎ HasKey text grain → (cond b (Some e.1) (under_grain grain es) ≡ None) ⊎ HasKey text grain
+      by : (b : Bool) → grain_eq grain (grain_at_slash (text e.0)) ≡ b → (under_grain grain es ≡ None) ⊎ HasKey text grain
+          → (cond b (Some e.1) (under_grain grain es) ≡ None) ⊎ HasKey text grain
       by true same later = inr (e.0, names.0, sym ((Decides-grain grain (grain_at_slash (text e.0))).0 same))
       by false other later = later
 
@@ -49,7 +50,8 @@ module _ {K V : Type 0} (text : K → List ℕ) where
   name_of k [] names = inl refl
   name_of k (e ∷ es) names = by (bytes_eq (text k) (text e.0)) refl (name_of k es names.1)
     where
-      by : (b : Bool) → bytes_eq (text k) (text e.0) ≡ b → (under_key k es ≡ None) ⊎ IsName (text k) → (cond b (Some e.1) (under_key k es) ≡ None) ⊎ IsName (text k)
+      by : (b : Bool) → bytes_eq (text k) (text e.0) ≡ b → (under_key k es ≡ None) ⊎ IsName (text k)
+          → (cond b (Some e.1) (under_key k es) ≡ None) ⊎ IsName (text k)
       by true same later = inr (subst IsName (sym ((bytes_eq-Decides (text k) (text e.0)).0 same)) names.0)
       by false other later = later
 
@@ -61,7 +63,9 @@ module _ {K V : Type 0} (text : K → List ℕ) where
     by_grains agree grain = by (key_of grain es names) (key_of grain fs also)
       where
         at : HasKey text grain → AgreeAt grain
-        at key = subst AgreeAt key.2 ((λ i. option_eq E (sym (at_key key.0 key.1 es names) i) (sym (at_key key.0 key.1 fs also) i)) ∙ agree key.0)
+        at key =
+            subst AgreeAt key.2 ((λ i. option_eq E (sym (at_key key.0 key.1 es names) i) (sym (at_key key.0 key.1 fs also) i))
+            ∙ agree key.0)
 
         by : (under_grain grain es ≡ None) ⊎ HasKey text grain → (under_grain grain fs ≡ None) ⊎ HasKey text grain → AgreeAt grain
         by (inr key) there = at key
@@ -74,18 +78,23 @@ module _ {K V : Type 0} (text : K → List ℕ) where
         at : IsName (text k) → option_eq E (under_key k es) (under_key k fs) ≡ true
         at name = (λ i. option_eq E (at_key k name es names i) (at_key k name fs also i)) ∙ agree (grain_at_slash (text k))
 
-        by : (under_key k es ≡ None) ⊎ IsName (text k) → (under_key k fs ≡ None) ⊎ IsName (text k) → option_eq E (under_key k es) (under_key k fs) ≡ true
+        by : (under_key k es ≡ None) ⊎ IsName (text k) → (under_key k fs ≡ None) ⊎ IsName (text k)
+            → option_eq E (under_key k es) (under_key k fs) ≡ true
         by (inr name) there = at name
         by (inl none) (inr name) = at name
         by (inl none) (inl nor) = λ i. option_eq E (none i) (nor i)
 
-  pub equal_named : {S : Type 0} (E : V → V → Bool) (m n : IndexMap K V S) → AreNamed text m.entries → AreNamed text n.entries → (one other : List (Grain × V)) → named text m.entries ≡ one → named text n.entries ≡ other
-      → (r : Bool) → r ≡ index_map_eq (λ x y. bytes_eq (text x) (text y)) E m n → Decides r ((grain : Grain) → IsTrue (option_eq E (lookup (grain_eq grain) one) (lookup (grain_eq grain) other)))
+  pub equal_named : {S : Type 0} (E : V → V → Bool) (m n : IndexMap K V S) → AreNamed text m.entries → AreNamed text n.entries
+      → (one other : List (Grain × V)) → named text m.entries ≡ one → named text n.entries ≡ other
+      → (r : Bool) → r ≡ index_map_eq (λ x y. bytes_eq (text x) (text y)) E m n
+      → Decides r ((grain : Grain) → IsTrue (option_eq E (lookup (grain_eq grain) one) (lookup (grain_eq grain) other)))
   equal_named E m n names also one other is_one is_other r equal = (
     λ yes grain.
         (λ i. option_eq E (lookup (grain_eq grain) (sym is_one i)) (lookup (grain_eq grain) (sym is_other i)))
-        ∙ by_grains E m.entries n.entries names also (λ k. get_from_hash_map_eq (λ x y. bytes_eq (text x) (text y)) E (by_text text) m n (sym equal ∙ yes) k) grain,
+        ∙ by_grains E m.entries n.entries names also (λ k. get_from_hash_map_eq (λ x y. bytes_eq (text x) (text y)) E (by_text text) m n
+        (sym equal ∙ yes) k) grain,
     λ agree. equal
         ∙ hash_map_eq_from_get (λ x y. bytes_eq (text x) (text y)) E m n
-        (by_keys E m.entries n.entries names also (λ grain. (λ i. option_eq E (lookup (grain_eq grain) (is_one i)) (lookup (grain_eq grain) (is_other i))) ∙ agree grain)),
+        (by_keys E m.entries n.entries names also (λ grain.
+        (λ i. option_eq E (lookup (grain_eq grain) (is_one i)) (lookup (grain_eq grain) (is_other i))) ∙ agree grain)),
   )

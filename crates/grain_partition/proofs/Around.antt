@@ -3,7 +3,8 @@ use Rattle.std.proofs.Common.{arith, ◌≡◌, ℕ, ◌+◌, ◌-◌, ◌<◌, 
 use Rattle.std.proofs.lemmas.Bool.Decides.{nat_tests}
 use Rattle.ring_range.specs.Range.{circle, Range, distance, ahead, holds, within}
 
-pub distance-over : (first second third : ℕ) → first < circle → second < circle → third < circle → distance first second + distance second third < circle
+pub distance-over : (first second third : ℕ) → first < circle → second < circle → third < circle
+    → distance first second + distance second third < circle
     → distance first third ≡ distance first second + distance second third
 distance-over first second third f s t less = grind (arith, nat_tests)
 
@@ -23,6 +24,7 @@ pub within-full : (inner outer : Range) → outer.size ≡ circle → within inn
 within-full inner outer full = grind (arith, nat_tests)
 
 -- the hash before one that isn't the first
-pub step-back : (place hash : ℕ) (steps from : ℕ) → from < circle → place < circle → hash ≡ ahead from steps → 0 < steps → steps < circle → 0 < distance place hash
+pub step-back : (place hash : ℕ) (steps from : ℕ) → from < circle → place < circle → hash ≡ ahead from steps → 0 < steps → steps < circle
+    → 0 < distance place hash
     → distance place (ahead from (steps - 1)) ≡ distance place hash - 1
 step-back place hash steps from f p is some less away = grind (arith, nat_tests)

@@ -18,7 +18,7 @@ use Rattle.hash_ring.specs.declared.Hashing.{Hashing}
 use Rattle.range_moves.specs.declared.RingArc.{RingArc}
 use Rattle.range_moves.specs.Arcs.{all_places, arcs_per_hash}
 use Rattle.range_moves.specs.Moves.{move_between}
-use Rattle.directory_rules.specs.Piece.{Piece}
+use Rattle.directory_rules.specs.State.{Piece}
 use Rattle.directory_rules.specs.Sight.{is_handed_over, is_owner, piece_of, pieces_after, sealed, snapshot_for, was_settled}
 use Rattle.grain_partition.specs.BySilo.{Puts, all_of, arcs_under, giver_in, giver_of, given_by, owned_by, stands_under}
 use Rattle.grain_partition.specs.Sight.{AreApart, AreOfRings}
@@ -36,7 +36,8 @@ count_among p q (arc ∷ arcs) = by (q arc) (count_among p q arcs)
     all : count_by p (arc ∷ arcs) ≡ cond (p arc) 1 0 + count_by p arcs
     all = sum_by-cons (λ (a : RingArc). cond (p a) 1 0) arc arcs
 
-    by : (b : Bool) → count_by p (filter q arcs) ≤ count_by p arcs → count_by p (cond b (arc ∷ filter q arcs) (filter q arcs)) ≤ count_by p (arc ∷ arcs)
+    by : (b : Bool) → count_by p (filter q arcs) ≤ count_by p arcs
+        → count_by p (cond b (arc ∷ filter q arcs) (filter q arcs)) ≤ count_by p (arc ∷ arcs)
     by true rest = let these = sum_by-cons (λ (a : RingArc). cond (p a) 1 0) arc (filter q arcs) in omega (arith, these, all, rest)
     by false rest = omega (arith, all, rest)
 
@@ -54,7 +55,8 @@ pub owned_apart : (silo : Silo) (arcs : List RingArc) → AreOfRings arcs → Ar
 owned_apart silo arcs of = apart_among (λ arc. is_owner silo arc.to) arcs of
 
 -- ---- Those of one silo are enough for its sight.
-narrower : (p q : RingArc → Bool) → ((arc : RingArc) → p arc ≡ true → q arc ≡ true) → (arcs : List RingArc) → filter p (filter q arcs) ≡ filter p arcs
+narrower : (p q : RingArc → Bool) → ((arc : RingArc) → p arc ≡ true → q arc ≡ true) → (arcs : List RingArc)
+    → filter p (filter q arcs) ≡ filter p arcs
 narrower p q within [] = refl
 narrower p q within (arc ∷ arcs) = by (q arc) (p arc) refl refl (narrower p q within arcs)
   where
@@ -75,7 +77,8 @@ pub own_seen : (next : Bool) (hashing : Hashing) (view : ViewValue) (silo : Silo
 own_seen next hashing view silo pieces arcs = ap emptied (own_after next hashing view silo pieces arcs)
 
 -- who hands an arc over gives it up
-gives_up : (silo : Silo) (range : Range) (from to : Option Silo) (settled : Bool) → (is_owner silo from && is_some to && not (is_owner silo to) && settled) ≡ true
+gives_up : (silo : Silo) (range : Range) (from to : Option Silo) (settled : Bool)
+    → (is_owner silo from && is_some to && not (is_owner silo to) && settled) ≡ true
     → is_owner silo (giver_in (move_between range from to)) ≡ true
 gives_up silo range None to settled is = absurd (let no : false ≡ true = is in cc)
 gives_up silo range (Some owner) None settled is =
@@ -84,7 +87,8 @@ gives_up silo range (Some owner) None settled is =
 gives_up silo range (Some owner) (Some to) settled is = by (silo_eq owner to) refl
   where
     both_owners : (silo_eq owner silo && true ≡ true) × (not (silo_eq to silo) ≡ true)
-    both_owners = both (silo_eq owner silo && true) (not (silo_eq to silo)) (both (silo_eq owner silo && true && not (silo_eq to silo)) settled is).0
+    both_owners =
+        both (silo_eq owner silo && true) (not (silo_eq to silo)) (both (silo_eq owner silo && true && not (silo_eq to silo)) settled is).0
 
     own : silo_eq owner silo ≡ true
     own = (both (silo_eq owner silo) true both_owners.0).0
@@ -92,7 +96,8 @@ gives_up silo range (Some owner) (Some to) settled is = by (silo_eq owner to) re
     other : not (silo_eq to silo) ≡ true
     other = both_owners.1
 
-    by : (b : Bool) → silo_eq owner to ≡ b → is_owner silo (giver_in (cond b None (Some (record { range = range; from = Some owner; to = to })))) ≡ true
+    by : (b : Bool) → silo_eq owner to ≡ b → is_owner silo
+        (giver_in (cond b None (Some (record { range = range; from = Some owner; to = to })))) ≡ true
     by true same =
         let one : silo_eq to silo ≡ true = ap (λ s. silo_eq s silo) (sym ((Decides-silo owner to).0 same)) ∙ own in
         absurd (let no : false ≡ true = ap not (sym one) ∙ other in cc)
@@ -102,7 +107,8 @@ pub own_sealed : (hashing : Hashing) (view : ViewValue) (silo : Silo) (pieces : 
     → sealed hashing view silo pieces (given_by silo arcs) ≡ sealed hashing view silo pieces arcs
 own_sealed hashing view silo pieces arcs =
     ap (λ l. flat_map (λ arc. snapshot_for arc.to hashing view silo pieces arc.range) l)
-    (narrower (is_handed_over silo pieces) (λ arc. is_owner silo (giver_of arc)) (λ arc is. gives_up silo arc.range arc.from arc.to (was_settled pieces arc.range) is) arcs)
+    (narrower (is_handed_over silo pieces) (λ arc. is_owner silo (giver_of arc))
+    (λ arc is. gives_up silo arc.range arc.from arc.to (was_settled pieces arc.range) is) arcs)
 
 -- ---- An arc more under its silo.
 -- the order's test for one silo is that of equality
@@ -116,13 +122,15 @@ one_silo a b = by (is_at (silo_cmp a) b) (silo_eq a b) refl refl
         absurd (let no : false ≡ true = sym is ∙ same in cc)
     by false false is e = is ∙ sym e
 
-pub put_more : (silo : Silo) (arc : RingArc) (before after : List (Silo × List RingArc)) → Puts silo (arcs_under silo before ++ arc ∷ []) before after
+pub put_more : (silo : Silo) (arc : RingArc) (before after : List (Silo × List RingArc))
+    → Puts silo (arcs_under silo before ++ arc ∷ []) before after
     → (other : Silo) → arcs_under other after ≡ arcs_under other before ++ cond (silo_eq silo other) (arc ∷ []) []
 put_more silo arc before after puts other =
     ap all_of (puts other ∙ ap (λ b. cond b (Some (arcs_under silo before ++ arc ∷ [])) (stands_under other before)) (one_silo silo other))
     ∙ by (silo_eq silo other) refl
   where
     by : (b : Bool) → silo_eq silo other ≡ b
-        → all_of (cond b (Some (arcs_under silo before ++ arc ∷ [])) (stands_under other before)) ≡ arcs_under other before ++ cond b (arc ∷ []) []
+        → all_of (cond b (Some (arcs_under silo before ++ arc ∷ [])) (stands_under other before)) ≡ arcs_under other before ++ cond b
+        (arc ∷ []) []
     by true is = ap (λ s. arcs_under s before ++ arc ∷ []) ((Decides-silo silo other).0 is)
     by false is = sym (append-nil (arcs_under other before))

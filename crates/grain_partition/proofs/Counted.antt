@@ -15,9 +15,9 @@ use Rattle.hash_ring.specs.declared.Hashing.{Hashing}
 use Rattle.hash_ring.specs.Hash.{hash_grain}
 use Rattle.directory_rules.specs.Answer.{piece_with}
 use Rattle.directory_rules.specs.Members.{is_dead_in}
-use Rattle.directory_rules.specs.Piece.{Piece}
+use Rattle.directory_rules.specs.State.{Piece, Table}
 use Rattle.directory_rules.specs.Sight.{all_entries, entries_within, is_kept, is_settled, kept_entries, settled_pieces, was_settled}
-use Rattle.directory_rules.specs.Table.{Table, entries_of, lie_in, with_entry}
+use Rattle.directory_rules.specs.Table.{entries_of, lie_in, with_entry}
 use Rattle.directory_rules.specs.Laws.{lies_settled}
 use Rattle.directory_rules.proofs.Cases.{on_bool}
 use Rattle.grain_partition.specs.Holdings.{ArePieces, are_tidy}
@@ -40,12 +40,14 @@ module _ (hashing : Hashing) (range : Range) where
   entries_in pieces = flat_map (λ e. entries_of e.1.entries) pieces
 
   -- where no unsettled piece has a hash of the range, the entries that pass are those of the settled ones
-  settled_pass : (es : List (ℕ × Piece)) → are_tidy hashing es ≡ true → ((hash : ℕ) → hash < circle → holds range hash ≡ true → passing (unsettled hash) es ≡ 0)
+  settled_pass : (es : List (ℕ × Piece)) → are_tidy hashing es ≡ true
+      → ((hash : ℕ) → hash < circle → holds range hash ≡ true → passing (unsettled hash) es ≡ 0)
       → filter is_within (entries_in es) ≡ filter is_within (entries_in (settled_pieces es))
   settled_pass [] tidy miss = refl
   settled_pass (e ∷ es) tidy miss =
       filter-append is_within (entries_of e.1.entries) (entries_in es)
-      ∙ by (is_settled e.1.state) refl (settled_pass es so.1 (λ hash below held. let none = miss hash below held in omega (arith, none, counted (unsettled hash) e es)))
+      ∙ by (is_settled e.1.state) refl (settled_pass es so.1
+      (λ hash below held. let none = miss hash below held in omega (arith, none, counted (unsettled hash) e es)))
     where
       so : (lie_in hashing e.1.range (entries_of e.1.entries) ≡ true) × (are_tidy hashing es ≡ true)
       so = both (lie_in hashing e.1.range (entries_of e.1.entries)) (are_tidy hashing es) tidy
@@ -60,10 +62,14 @@ module _ (hashing : Hashing) (range : Range) where
           (λ f held. refl) refl
 
       by : (b : Bool) → is_settled e.1.state ≡ b → filter is_within (entries_in es) ≡ filter is_within (entries_in (settled_pieces es))
-          → filter is_within (entries_of e.1.entries) ++ filter is_within (entries_in es) ≡ filter is_within (entries_in (cond b (e ∷ settled_pieces es) (settled_pieces es)))
+          → filter is_within (entries_of e.1.entries) ++ filter is_within (entries_in es) ≡ filter is_within
+          (entries_in (cond b (e ∷ settled_pieces es) (settled_pieces es)))
       by true is rest =
-          ap (λ l. filter is_within (entries_of e.1.entries) ++ l) rest ∙ sym (filter-append is_within (entries_of e.1.entries) (entries_in (settled_pieces es)))
-      by false is rest = ap (λ l. l ++ filter is_within (entries_in es)) (none_pass hashing range e.1.range (apart is) (entries_of e.1.entries) so.0) ∙ rest
+          ap (λ l. filter is_within (entries_of e.1.entries) ++ l) rest
+          ∙ sym (filter-append is_within (entries_of e.1.entries) (entries_in (settled_pieces es)))
+      by false is rest =
+          ap (λ l. l ++ filter is_within (entries_in es)) (none_pass hashing range e.1.range (apart is) (entries_of e.1.entries) so.0)
+          ∙ rest
 
 -- a piece that has the hash is settled or not
 by_state : (settled has : Bool) → cond has 1 0 ≡ cond (settled && has) 1 0 + cond (not settled && has) 1 0
@@ -72,7 +78,8 @@ by_state true false = refl
 by_state false true = refl
 by_state false false = refl
 
-both_states : (hash : ℕ) (es : List (ℕ × Piece)) → passing (λ p. holds p.range hash) es ≡ passing (settles hash) es + passing (unsettled hash) es
+both_states : (hash : ℕ) (es : List (ℕ × Piece)) → passing (λ p. holds p.range hash) es ≡ passing (settles hash) es + passing
+    (unsettled hash) es
 both_states hash [] = refl
 both_states hash (e ∷ es) =
     let one = by_state (is_settled e.1.state) (holds e.1.range hash) in
@@ -92,11 +99,13 @@ module _ (hashing : Hashing) (pieces : List (ℕ × Piece)) (are : ArePieces pie
 
   -- in a settled range all entries are those of settled pieces
   pub settled_have_all : (range : Range) → IsRange range → was_settled pieces range ≡ true
-      → filter (λ e. holds range (hash_grain hashing e.0)) (all_entries pieces) ≡ filter (λ e. holds range (hash_grain hashing e.0)) (all_entries (settled_pieces pieces))
+      → filter (λ e. holds range (hash_grain hashing e.0)) (all_entries pieces) ≡ filter (λ e. holds range (hash_grain hashing e.0))
+      (all_entries (settled_pieces pieces))
   settled_have_all range ok settled =
       by_range hashing range pieces
       ∙ ap (fold with_entry [])
-      (settled_pass hashing range pieces tidy (λ hash below held. settled_alone hash below ((Decides-was_settled pieces are range ok).0 settled hash below held)))
+      (settled_pass hashing range pieces tidy (λ hash below held. settled_alone hash below
+      ((Decides-was_settled pieces are range ok).0 settled hash below held)))
       ∙ sym (by_range hashing range (settled_pieces pieces))
 
 -- ---- The walk.
@@ -135,7 +144,8 @@ module _ (hashing : Hashing) (pieces : List (ℕ × Piece)) (range : Range) wher
 
   module _ (are : ArePieces pieces) (tidy : are_tidy hashing pieces ≡ true) where
     -- once the rest has no hash, all are counted
-    pub counted_all : IsRange range → was_settled pieces range ≡ true → (rest : Range) (count : ℕ) → rest.size ≡ 0 → AreCounted rest count → count ≡ entries_within hashing pieces range
+    pub counted_all : IsRange range → was_settled pieces range ≡ true → (rest : Range) (count : ℕ) → rest.size ≡ 0 → AreCounted rest count
+        → count ≡ entries_within hashing pieces range
     counted_all ok settled rest count none so =
         so.long
         ∙ length_permutation _ _ (listed_all hashing nobody pieces range rest so.entries none so.listed)
@@ -146,9 +156,11 @@ module _ (hashing : Hashing) (pieces : List (ℕ × Piece)) (range : Range) wher
         ∙ settled_have_all hashing pieces are tidy range ok settled)
 
     -- one piece more
-    pub counted_more : (rest : Range) (ok : IsRange rest) (some : 0 < rest.size) (settled : was_settled pieces rest ≡ true) (piece : Piece) (with : piece_with rest.start pieces ≡ Some piece)
+    pub counted_more : (rest : Range) (ok : IsRange rest) (some : 0 < rest.size) (settled : was_settled pieces rest ≡ true) (piece : Piece)
+        (with : piece_with rest.start pieces ≡ Some piece)
         (again : fold with_entry [] (entries_of piece.entries) ≡ piece.entries) (count more : ℕ)
-        → more ≡ length (filter (λ e. holds (front hashing nobody pieces range are tidy rest ok some settled piece with again) (hash_grain hashing e.grain)) (entries_of piece.entries))
+        → more ≡ length (filter (λ e. holds (front hashing nobody pieces range are tidy rest ok some settled piece with again)
+        (hash_grain hashing e.grain)) (entries_of piece.entries))
         → AreCounted rest count → AreCounted (part_behind rest piece.range) (count + more)
     counted_more rest ok some settled piece with again count more is so =
         let first : Range = front hashing nobody pieces range are tidy rest ok some settled piece with again in
@@ -158,6 +170,8 @@ module _ (hashing : Hashing) (pieces : List (ℕ × Piece)) (range : Range) wher
         let long = so.long in
         record {
           entries = so.entries ++ picked;
-          listed = listed_more hashing nobody pieces range are tidy rest ok some settled piece with again so.entries (so.entries ++ picked) (IsPermutation-refl _) so.listed;
+          listed =
+              listed_more hashing nobody pieces range are tidy rest ok some settled piece with again so.entries (so.entries ++ picked)
+              (IsPermutation-refl _) so.listed;
           long = omega (arith, long, as_many, length-append so.entries picked);
         }

@@ -16,9 +16,9 @@ use Rattle.hash_ring.specs.declared.Hashing.{Hashing}
 use Rattle.hash_ring.specs.Hash.{hash_grain}
 use Rattle.directory_rules.specs.Answer.{piece_with}
 use Rattle.directory_rules.specs.Laws.{lies_settled}
-use Rattle.directory_rules.specs.Piece.{Piece}
+use Rattle.directory_rules.specs.State.{Piece, Table}
 use Rattle.directory_rules.specs.Sight.{all_entries, was_settled}
-use Rattle.directory_rules.specs.Table.{Table, entries_of, entry_at, with_entry}
+use Rattle.directory_rules.specs.Table.{entries_of, entry_at, with_entry}
 use Rattle.grain_table.proofs.ByGrain.{IsTable, nothing_is_table, same_tables}
 use Rattle.grain_table.proofs.Filters.{entries_passed, passed_is_table}
 use Rattle.hash_ring.proofs.HashesBelow.{grain_below}
@@ -40,12 +40,15 @@ within_all hashing range pieces = filter (λ e. within_range hashing range e.0) 
 -- of each grain there is what there is to be, or nothing yet, and then the rest has its hash
 pub record IsGathered (hashing : Hashing) (pieces : List (ℕ × Piece)) (range rest : Range) (table : Table) : Type 0 where
   pub is : IsTable table
-  pub each : (grain : Grain) → (entry_at grain table ≡ entry_at grain (within_all hashing range pieces)) ⊎ ((entry_at grain table ≡ None) × (holds rest (hash_grain hashing grain) ≡ true))
+  pub each : (grain : Grain) → (entry_at grain table ≡ entry_at grain (within_all hashing range pieces))
+      ⊎ ((entry_at grain table ≡ None) × (holds rest (hash_grain hashing grain) ≡ true))
 
 -- ---- What is found of those within a range.
 found_within : (hashing : Hashing) (range : Range) (table : Table) (grain : Grain)
-    → entry_at grain (filter (λ e. within_range hashing range e.0) table) ≡ cond (within_range hashing range grain) (entry_at grain table) None
-found_within hashing range table grain = lookup-filter-keys (is_at (grain_cmp grain)) (λ g. within_range hashing range g) (within_range hashing range grain) at table
+    → entry_at grain (filter (λ e. within_range hashing range e.0) table) ≡ cond (within_range hashing range grain) (entry_at grain table)
+    None
+found_within hashing range table grain =
+    lookup-filter-keys (is_at (grain_cmp grain)) (λ g. within_range hashing range g) (within_range hashing range grain) at table
   where
     at : (other : Grain) → is_at (grain_cmp grain) other ≡ true → within_range hashing range other ≡ within_range hashing range grain
     at other is = ap (within_range hashing range) (sym (grain_cmp_exact grain other (Equal-from (grain_cmp grain other) is)))
@@ -74,17 +77,22 @@ module _ (hashing : Hashing) (pieces : List (ℕ × Piece)) (are : ArePieces pie
   gathered_none = record { is = nothing_is_table; each = λ grain. by grain (within_range hashing range grain) refl }
     where
       by : (grain : Grain) (b : Bool) → within_range hashing range grain ≡ b
-          → (entry_at grain [] ≡ entry_at grain (within_all hashing range pieces)) ⊎ ((entry_at grain [] ≡ None) × (within_range hashing range grain ≡ true))
+          → (entry_at grain [] ≡ entry_at grain (within_all hashing range pieces))
+          ⊎ ((entry_at grain [] ≡ None) × (within_range hashing range grain ≡ true))
       by grain true is = inr (refl, is)
-      by grain false is = inl (sym (found_within hashing range (all_entries pieces) grain ∙ ap (λ b. cond b (entry_at grain (all_entries pieces)) None) is))
+      by grain false is =
+          inl (sym (found_within hashing range (all_entries pieces) grain ∙ ap (λ b. cond b (entry_at grain (all_entries pieces)) None) is))
 
   -- and all once the rest has no hash
-  pub gathered_all : (rest : Range) (table : Table) → rest.size ≡ 0 → IsGathered hashing pieces range rest table → table ≡ within_all hashing range pieces
+  pub gathered_all : (rest : Range) (table : Table) → rest.size ≡ 0 → IsGathered hashing pieces range rest table
+      → table ≡ within_all hashing range pieces
   gathered_all rest table none gathered =
-      same_tables table (within_all hashing range pieces) gathered.is (passed_is_table (λ e. within_range hashing range e.0) (all_entries pieces) all_is_table)
+      same_tables table (within_all hashing range pieces) gathered.is
+      (passed_is_table (λ e. within_range hashing range e.0) (all_entries pieces) all_is_table)
       (λ grain. by grain (gathered.each grain))
     where
-      by : (grain : Grain) → (entry_at grain table ≡ entry_at grain (within_all hashing range pieces)) ⊎ ((entry_at grain table ≡ None) × (holds rest (hash_grain hashing grain) ≡ true))
+      by : (grain : Grain) → (entry_at grain table ≡ entry_at grain (within_all hashing range pieces))
+          ⊎ ((entry_at grain table ≡ None) × (holds rest (hash_grain hashing grain) ≡ true))
           → entry_at grain table ≡ entry_at grain (within_all hashing range pieces)
       by grain (inl same) = same
       by grain (inr not_yet) = let less = below-holds rest (hash_grain hashing grain) not_yet.1 in absurd (omega (arith, less, none))
@@ -92,7 +100,9 @@ module _ (hashing : Hashing) (pieces : List (ℕ × Piece)) (are : ArePieces pie
   -- ---- One piece more.
   module _ (rest : Range) (ok : IsRange rest) (some : 0 < rest.size) (settled : was_settled pieces rest ≡ true) where
     lies : lies_settled rest.start pieces ≡ true
-    lies = (Decides-was_settled pieces are rest ok).0 settled rest.start ok.start_below (holds-below rest rest.start (omega (arith, distance-itself rest.start, some)))
+    lies =
+        (Decides-was_settled pieces are rest ok).0 settled rest.start ok.start_below
+        (holds-below rest rest.start (omega (arith, distance-itself rest.start, some)))
 
     -- there is one
     pub has_piece : (o : Option Piece) → o ≡ piece_with rest.start pieces → IsSome o
@@ -120,7 +130,8 @@ module _ (hashing : Hashing) (pieces : List (ℕ × Piece)) (are : ArePieces pie
         its_entries : piece.entries ≡ within_all hashing piece.range pieces
         its_entries =
             sym again
-            ∙ ap (fold with_entry []) (sym (of_one hashing piece.range piece.range.start piece refl pieces tidy are.once (found_with rest.start pieces are piece with)))
+            ∙ ap (fold with_entry []) (sym (of_one hashing piece.range piece.range.start piece refl pieces tidy are.once
+            (found_with rest.start pieces are piece with)))
             ∙ put_within hashing piece.range entries []
             ∙ sym (within-fold hashing piece.range entries [] (sorted-nil grain_cmp))
 
@@ -131,18 +142,22 @@ module _ (hashing : Hashing) (pieces : List (ℕ × Piece)) (are : ArePieces pie
         its_table = subst IsTable again (put_in_is_table [] (entries_of piece.entries) nothing_is_table)
 
         found_picked : (grain : Grain) → entry_at grain picked
-            ≡ cond (within_range hashing range grain) (cond (within_range hashing piece.range grain) (entry_at grain (all_entries pieces)) None) None
+            ≡ cond (within_range hashing range grain) (cond (within_range hashing piece.range grain) (entry_at grain (all_entries pieces))
+            None) None
         found_picked grain =
             found_within hashing range piece.entries grain
-            ∙ ap (λ o. cond (within_range hashing range grain) o None) (ap (entry_at grain) its_entries ∙ found_within hashing piece.range (all_entries pieces) grain)
+            ∙ ap (λ o. cond (within_range hashing range grain) o None)
+            (ap (entry_at grain) its_entries ∙ found_within hashing piece.range (all_entries pieces) grain)
 
-        found_new : (table new : Table) → new ≡ fold with_entry table (filter (λ e. within_range hashing range e.grain) (entries_of piece.entries)) → (grain : Grain)
+        found_new : (table new : Table) → new ≡ fold with_entry table
+            (filter (λ e. within_range hashing range e.grain) (entries_of piece.entries)) → (grain : Grain)
             → entry_at grain new ≡ option_or (entry_at grain picked) (entry_at grain table)
         found_new table new put grain =
             ap (entry_at grain) (put ∙ ap (put_in table) (sym (entries_passed (λ g. within_range hashing range g) piece.entries its_table)))
             ∙ found_all grain table picked (passed_is_table (λ e. within_range hashing range e.0) piece.entries its_table)
 
-        pub gathered_more : (table new : Table) → new ≡ fold with_entry table (filter (λ e. within_range hashing range e.grain) (entries_of piece.entries))
+        pub gathered_more : (table new : Table) → new ≡ fold with_entry table
+            (filter (λ e. within_range hashing range e.grain) (entries_of piece.entries))
             → IsGathered hashing pieces range rest table → IsGathered hashing pieces range (part_behind rest piece.range) new
         gathered_more table new put gathered = record {
           is = subst IsTable (sym new_is) (put_in_is_table table (entries_of picked) gathered.is);
@@ -153,31 +168,46 @@ module _ (hashing : Hashing) (pieces : List (ℕ × Piece)) (are : ArePieces pie
             new_is = put ∙ ap (put_in table) (sym (entries_passed (λ g. within_range hashing range g) piece.entries its_table))
 
             by : (grain : Grain) (b : Bool) → within_range hashing piece.range grain ≡ b
-                → (entry_at grain table ≡ entry_at grain (within_all hashing range pieces)) ⊎ ((entry_at grain table ≡ None) × (holds rest (hash_grain hashing grain) ≡ true))
+                → (entry_at grain table ≡ entry_at grain (within_all hashing range pieces))
+                ⊎ ((entry_at grain table ≡ None) × (holds rest (hash_grain hashing grain) ≡ true))
                 → (entry_at grain new ≡ entry_at grain (within_all hashing range pieces))
                 ⊎ ((entry_at grain new ≡ None) × (holds (part_behind rest piece.range) (hash_grain hashing grain) ≡ true))
             by grain true here so_far = inl (
                 found_new table new put grain
                 ∙ ap (λ o. option_or o (entry_at grain table))
-                (found_picked grain ∙ ap (λ b. cond (within_range hashing range grain) (cond b (entry_at grain (all_entries pieces)) None) None) here
+                (found_picked grain ∙ ap (λ b. cond (within_range hashing range grain) (cond b (entry_at grain (all_entries pieces)) None)
+                None) here
                 ∙ sym (found_within hashing range (all_entries pieces) grain))
                 ∙ old so_far)
               where
-                old : (entry_at grain table ≡ entry_at grain (within_all hashing range pieces)) ⊎ ((entry_at grain table ≡ None) × (holds rest (hash_grain hashing grain) ≡ true))
-                    → option_or (entry_at grain (within_all hashing range pieces)) (entry_at grain table) ≡ entry_at grain (within_all hashing range pieces)
-                old (inl same) = ap (option_or (entry_at grain (within_all hashing range pieces))) same ∙ or_same (entry_at grain (within_all hashing range pieces))
-                old (inr not_yet) = ap (option_or (entry_at grain (within_all hashing range pieces))) not_yet.0 ∙ or_none (entry_at grain (within_all hashing range pieces))
+                old : (entry_at grain table ≡ entry_at grain (within_all hashing range pieces))
+                    ⊎ ((entry_at grain table ≡ None) × (holds rest (hash_grain hashing grain) ≡ true))
+                    → option_or (entry_at grain (within_all hashing range pieces)) (entry_at grain table) ≡ entry_at grain
+                    (within_all hashing range pieces)
+                old (inl same) =
+                    ap (option_or (entry_at grain (within_all hashing range pieces))) same
+                    ∙ or_same (entry_at grain (within_all hashing range pieces))
+                old (inr not_yet) =
+                    ap (option_or (entry_at grain (within_all hashing range pieces))) not_yet.0
+                    ∙ or_none (entry_at grain (within_all hashing range pieces))
             by grain false aside so_far = old so_far
               where
                 stays : entry_at grain new ≡ entry_at grain table
                 stays =
                     found_new table new put grain
                     ∙ ap (λ o. option_or o (entry_at grain table))
-                    (found_picked grain ∙ ap (λ b. cond (within_range hashing range grain) (cond b (entry_at grain (all_entries pieces)) None) None) aside
+                    (found_picked grain ∙ ap (λ b. cond (within_range hashing range grain)
+                    (cond b (entry_at grain (all_entries pieces)) None) None) aside
                     ∙ none_where (within_range hashing range grain))
 
-                old : (entry_at grain table ≡ entry_at grain (within_all hashing range pieces)) ⊎ ((entry_at grain table ≡ None) × (holds rest (hash_grain hashing grain) ≡ true))
+                old : (entry_at grain table ≡ entry_at grain (within_all hashing range pieces))
+                    ⊎ ((entry_at grain table ≡ None) × (holds rest (hash_grain hashing grain) ≡ true))
                     → (entry_at grain new ≡ entry_at grain (within_all hashing range pieces))
                     ⊎ ((entry_at grain new ≡ None) × (holds (part_behind rest piece.range) (hash_grain hashing grain) ≡ true))
                 old (inl same) = inl (stays ∙ same)
-                old (inr not_yet) = inr (stays ∙ not_yet.0, behind_first pieces are rest ok piece.range settles_at (hash_grain hashing grain) (grain_below hashing grain) not_yet.1 aside)
+                old (inr not_yet) =
+                    inr (
+                      stays ∙ not_yet.0,
+                      behind_first pieces are rest ok piece.range settles_at (hash_grain hashing grain)
+                          (grain_below hashing grain) not_yet.1 aside,
+                    )

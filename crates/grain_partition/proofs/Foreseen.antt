@@ -7,7 +7,7 @@ use Rattle.hash_ring.specs.declared.Hashing.{Hashing}
 use Rattle.range_moves.specs.declared.RingArc.{RingArc}
 use Rattle.directory_rules.specs.declared.PieceState.{PieceState}
 use Rattle.directory_rules.specs.declared.PieceState.TheVariants.{Settled}
-use Rattle.directory_rules.specs.Piece.{Piece}
+use Rattle.directory_rules.specs.State.{Piece}
 use Rattle.directory_rules.specs.Sight.{is_owner, kept_entries, missing_state, piece_of, was_settled}
 use Rattle.directory_rules.proofs.Pieces.{piece_range}
 use Rattle.grain_partition.specs.Holdings.{ArePieces}
@@ -27,19 +27,23 @@ module _ (next : Bool) (hashing : Hashing) (view : ViewValue) (silo : Silo) (pie
   same_range arc = piece_range next hashing view silo pieces arc
 
   -- its range and its state tell it
-  pub told : (arc : RingArc) (state : PieceState) → state ≡ cond (was_settled pieces arc.range) Settled (missing_state next view silo arc.from)
+  pub told : (arc : RingArc) (state : PieceState) → state ≡ cond (was_settled pieces arc.range) Settled
+      (missing_state next view silo arc.from)
       → record { range = arc.range; state = state; entries = [] } ≡ piece_seen arc
   told arc state is = by (was_settled pieces arc.range) is
     where
       by : (b : Bool) → state ≡ cond b Settled (missing_state next view silo arc.from)
-          → record { range = arc.range; state = state; entries = [] } ≡ record (cond {A = Piece} b (record { range = arc.range; state = Settled; entries = kept_entries hashing view pieces arc.range }) (record { range = arc.range; state = missing_state next view silo arc.from; entries = [] })) { entries = [] }
+          → record { range = arc.range; state = state; entries = [] }
+          ≡ record (cond {A = Piece} b (record { range = arc.range; state = Settled; entries = kept_entries hashing view pieces arc.range })
+          (record { range = arc.range; state = missing_state next view silo arc.from; entries = [] })) { entries = [] }
       by true is = ap (λ s. record { range = arc.range; state = s; entries = [] }) is
       by false is = ap (λ s. record { range = arc.range; state = s; entries = [] }) is
 
   pub seen_are : (arcs : List RingArc) → made piece_seen is_owned arcs ≡ pieces_seen next hashing view silo pieces arcs
   seen_are arcs = emptied_back (filter is_owned arcs)
     where
-      emptied_back : (arcs : List RingArc) → map (λ arc. (arc.range.start, piece_seen arc)) arcs ≡ emptied (map (λ arc. (arc.range.start, piece_of next hashing view silo pieces arc)) arcs)
+      emptied_back : (arcs : List RingArc) → map (λ arc. (arc.range.start, piece_seen arc)) arcs ≡ emptied
+          (map (λ arc. (arc.range.start, piece_of next hashing view silo pieces arc)) arcs)
       emptied_back [] = refl
       emptied_back (arc ∷ arcs) = ap (λ l. (arc.range.start, piece_seen arc) ∷ l) (emptied_back arcs)
 

@@ -14,7 +14,7 @@ use Rattle.hash_ring.specs.declared.Hashing.{Hashing}
 use Rattle.hash_ring.specs.Hash.{hash_grain}
 use Rattle.directory_rules.specs.Answer.{piece_with}
 use Rattle.directory_rules.specs.Members.{is_dead_in}
-use Rattle.directory_rules.specs.Piece.{Piece}
+use Rattle.directory_rules.specs.State.{Piece}
 use Rattle.directory_rules.specs.Sight.{all_entries, is_kept, kept_entries, was_settled}
 use Rattle.directory_rules.specs.Table.{entries_of, with_entry}
 use Rattle.directory_rules.proofs.Cases.{on_bool}
@@ -35,13 +35,18 @@ use Rattle.grain_partition.proofs.Walks.{behind_first, behind_in_range, behind_i
 module _ (p q r : Entry → Bool) (one : (e : Entry) → r e ≡ cond (p e) true (q e)) (apart : (e : Entry) → p e ≡ true → q e ≡ false) where
   split : (es : List Entry) → IsPermutation (filter r es) (filter p es ++ filter q es)
   split [] = IsPermutation-refl []
-  split (e ∷ es) = subst (λ b. IsPermutation (cond b (e ∷ filter r es) (filter r es)) (filter p (e ∷ es) ++ filter q (e ∷ es))) (sym (one e)) (by (p e) (q e) refl refl (split es))
+  split (e ∷ es) =
+      subst (λ b. IsPermutation (cond b (e ∷ filter r es) (filter r es)) (filter p (e ∷ es) ++ filter q (e ∷ es))) (sym (one e))
+      (by (p e) (q e) refl refl (split es))
     where
       by : (a b : Bool) → p e ≡ a → q e ≡ b → IsPermutation (filter r es) (filter p es ++ filter q es)
-          → IsPermutation (cond (cond a true b) (e ∷ filter r es) (filter r es)) (cond a (e ∷ filter p es) (filter p es) ++ cond b (e ∷ filter q es) (filter q es))
+          → IsPermutation (cond (cond a true b) (e ∷ filter r es) (filter r es))
+          (cond a (e ∷ filter p es) (filter p es) ++ cond b (e ∷ filter q es) (filter q es))
       by true true is other rest = absurd (let no : true ≡ false = sym other ∙ apart e is in cc)
       by true false is other rest = IsPermutation-cons e _ _ rest
-      by false true is other rest = IsPermutation-trans _ _ _ (IsPermutation-cons e _ _ rest) (IsPermutation-sym _ _ (IsPermutation-middle (filter p es) e (filter q es)))
+      by false true is other rest =
+          IsPermutation-trans _ _ _ (IsPermutation-cons e _ _ rest)
+          (IsPermutation-sym _ _ (IsPermutation-middle (filter p es) e (filter q es)))
       by false false is other rest = rest
 
 pub same_picked : (p q : Entry → Bool) → ((e : Entry) → p e ≡ q e) → (es : List Entry) → filter p es ≡ filter q es
@@ -79,7 +84,8 @@ all_rest true true = refl
 all_rest true false = refl
 all_rest false living = refl
 
-front_test : (steps size covered : ℕ) → nat_lt steps (size - (size - covered)) ≡ (nat_lt steps size && not (nat_le covered steps && nat_lt steps size))
+front_test : (steps size covered : ℕ) → nat_lt steps (size - (size - covered))
+    ≡ (nat_lt steps size && not (nat_le covered steps && nat_lt steps size))
 front_test steps size covered = grind (arith, nat_tests)
 
 no_steps : (steps size : ℕ) → size ≡ 0 → nat_lt steps size ≡ false
@@ -103,30 +109,37 @@ module _ (hashing : Hashing) (view : ViewValue) (pieces : List (ℕ × Piece)) (
   listed_none = record {
     inner = λ hash below held. held;
     are = subst (λ l. IsPermutation l [])
-        (sym (none_picked (is_listed range) (λ e. all_rest (holds range (hash_grain hashing e.grain)) (not (is_dead_in view e.activation.silo))) all)) (IsPermutation-refl []);
+        (sym (none_picked (is_listed range) (λ e. all_rest (holds range (hash_grain hashing e.grain))
+        (not (is_dead_in view e.activation.silo))) all)) (IsPermutation-refl []);
   }
 
   kept_is : filter (is_kept hashing view range) all ≡ entries_of (kept_entries hashing view pieces range)
   kept_is = sym (values_kept (is_kept hashing view range) (all_entries pieces))
 
   -- once the rest has no hash, all is listed
-  pub listed_all : (rest : Range) (entries : List Entry) → rest.size ≡ 0 → AreListed rest entries → IsPermutation (entries_of (kept_entries hashing view pieces range)) entries
+  pub listed_all : (rest : Range) (entries : List Entry) → rest.size ≡ 0 → AreListed rest entries
+      → IsPermutation (entries_of (kept_entries hashing view pieces range)) entries
   listed_all rest entries none listed =
       subst (λ l. IsPermutation l entries)
       (sym (same_picked (is_kept hashing view range) (is_listed rest)
-      (λ e. without_rest (is_kept hashing view range e) (holds rest (hash_grain hashing e.grain)) (no_steps (distance rest.start (hash_grain hashing e.grain)) rest.size none)) all)
+      (λ e. without_rest (is_kept hashing view range e) (holds rest (hash_grain hashing e.grain))
+      (no_steps (distance rest.start (hash_grain hashing e.grain)) rest.size none)) all)
       ∙ kept_is) listed.are
 
   -- and sorted it is what is kept
-  pub listed_sorted : (sorted : List Entry) → IsPermutation (entries_of (kept_entries hashing view pieces range)) sorted → IsSorted entry_cmp sorted
+  pub listed_sorted : (sorted : List Entry) → IsPermutation (entries_of (kept_entries hashing view pieces range)) sorted
+      → IsSorted entry_cmp sorted
       → sorted ≡ entries_of (kept_entries hashing view pieces range)
   listed_sorted sorted moved in_order =
       sorted_again (kept_entries hashing view pieces range)
-      (passed_is_table (λ e. is_kept hashing view range e.1) (all_entries pieces) (put_in_is_table [] (flat_map (λ e. entries_of e.1.entries) pieces) nothing_is_table)) sorted moved in_order
+      (passed_is_table (λ e. is_kept hashing view range e.1) (all_entries pieces)
+      (put_in_is_table [] (flat_map (λ e. entries_of e.1.entries) pieces) nothing_is_table)) sorted moved in_order
 
   -- ---- One piece more.
-  module _ (are : ArePieces pieces) (tidy : are_tidy hashing pieces ≡ true) (rest : Range) (ok : IsRange rest) (some : 0 < rest.size) (settled : was_settled pieces rest ≡ true)
-      (piece : Piece) (with : piece_with rest.start pieces ≡ Some piece) (again : fold with_entry [] (entries_of piece.entries) ≡ piece.entries) where
+  module _ (are : ArePieces pieces) (tidy : are_tidy hashing pieces ≡ true) (rest : Range) (ok : IsRange rest) (some : 0 < rest.size)
+      (settled : was_settled pieces rest ≡ true)
+      (piece : Piece) (with : piece_with rest.start pieces ≡ Some piece)
+      (again : fold with_entry [] (entries_of piece.entries) ≡ piece.entries) where
     abbrev behind : Range
     behind = part_behind rest piece.range
 
@@ -139,7 +152,8 @@ module _ (hashing : Hashing) (view : ViewValue) (pieces : List (ℕ × Piece)) (
 
     front_is : (hash : ℕ) → hash < circle → holds front hash ≡ (holds rest hash && not (holds behind hash))
     front_is hash below =
-        ap (λ n. nat_lt (distance rest.start hash) (rest.size - n)) (size-part rest (piece.range.size - distance piece.range.start rest.start) rest.size)
+        ap (λ n. nat_lt (distance rest.start hash) (rest.size - n))
+        (size-part rest (piece.range.size - distance piece.range.start rest.start) rest.size)
         ∙ front_test (distance rest.start hash) rest.size (piece.range.size - distance piece.range.start rest.start)
         ∙ ap (λ b. holds rest hash && not b) (sym (behind_is pieces are rest ok piece.range at hash below))
 
@@ -156,12 +170,15 @@ module _ (hashing : Hashing) (view : ViewValue) (pieces : List (ℕ × Piece)) (
 
     picked_is : filter (is_kept hashing view front) (entries_of piece.entries) ≡ filter (is_kept hashing view front) all
     picked_is =
-        ap (λ t. filter (is_kept hashing view front) (entries_of t)) (sym again ∙ ap (fold with_entry []) (sym (append-nil (entries_of piece.entries))))
+        ap (λ t. filter (is_kept hashing view front) (entries_of t))
+        (sym again ∙ ap (fold with_entry []) (sym (append-nil (entries_of piece.entries))))
         ∙ sym (values_kept (is_kept hashing view front) (all_entries ((0, piece) ∷ [])))
-        ∙ ap entries_of (kept_of_part hashing view pieces are tidy front piece.range.start piece (found_with rest.start pieces are piece with) inside)
+        ∙ ap entries_of (kept_of_part hashing view pieces are tidy front piece.range.start piece
+        (found_with rest.start pieces are piece with) inside)
         ∙ values_kept (is_kept hashing view front) (all_entries pieces)
 
-    pub listed_more : (entries listed : List Entry) → IsPermutation (entries ++ filter (is_kept hashing view front) (entries_of piece.entries)) listed → AreListed rest entries
+    pub listed_more : (entries listed : List Entry) → IsPermutation
+        (entries ++ filter (is_kept hashing view front) (entries_of piece.entries)) listed → AreListed rest entries
         → AreListed behind listed
     listed_more entries listed moved so_far = record {
       inner = λ hash below held. so_far.inner hash below (last hash below held);
@@ -176,11 +193,13 @@ module _ (hashing : Hashing) (view : ViewValue) (pieces : List (ℕ × Piece)) (
         one : (e : Entry) → is_listed behind e ≡ cond (is_listed rest e) true (is_kept hashing view front e)
         one e =
             let below = grain_below hashing e.grain in
-            one_of (holds range (hash_grain hashing e.grain)) (is_living e) (holds rest (hash_grain hashing e.grain)) (holds behind (hash_grain hashing e.grain))
+            one_of (holds range (hash_grain hashing e.grain)) (is_living e) (holds rest (hash_grain hashing e.grain))
+            (holds behind (hash_grain hashing e.grain))
             (so_far.inner (hash_grain hashing e.grain) below) (last (hash_grain hashing e.grain) below)
             ∙ ap (λ b. cond (is_listed rest e) true (b && is_living e)) (sym (front_is (hash_grain hashing e.grain) below))
 
         apart : (e : Entry) → is_listed rest e ≡ true → is_kept hashing view front e ≡ false
         apart e is =
             ap (λ b. b && is_living e) (front_is (hash_grain hashing e.grain) (grain_below hashing e.grain))
-            ∙ not_both (is_kept hashing view range e) (is_living e) (holds rest (hash_grain hashing e.grain)) (holds behind (hash_grain hashing e.grain)) is
+            ∙ not_both (is_kept hashing view range e) (is_living e) (holds rest (hash_grain hashing e.grain))
+            (holds behind (hash_grain hashing e.grain)) is

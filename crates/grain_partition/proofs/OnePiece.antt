@@ -26,7 +26,8 @@ module _ {X : Type 0} where
   pub at_lookup : (P : ℕ × X → Type 0) (es : List (ℕ × X)) → All P es → (k : ℕ) (v : X) → lookup (is_at (nat_cmp k)) es ≡ Some v → P (k, v)
   at_lookup P [] all k v found = absurd (let no : None ≡ Some v = found in cc)
   at_lookup P (e ∷ es) all k v found =
-      by_entry k v (P (k, v)) e es found (λ key value. let Q : ℕ × X → Type 0 = P in subst Q (λ i. (sym key i, value i)) (All-head P e es all))
+      by_entry k v (P (k, v)) e es found (λ key value. let Q : ℕ × X → Type 0 = P in
+      subst Q (λ i. (sym key i, value i)) (All-head P e es all))
       (at_lookup P es (All-tail P e es all) k v)
 
   module _ (p : X → Bool) where
@@ -49,7 +50,8 @@ module _ {X : Type 0} where
         (λ later. let more = found_counts es k v later passes in let c = counted e es in omega arith)
 
     -- where one passes at most, what passes is found at one key
-    pub only_one : (es : List (ℕ × X)) → passing es ≤ 1 → (j k : ℕ) (v w : X) → lookup (is_at (nat_cmp j)) es ≡ Some v → lookup (is_at (nat_cmp k)) es ≡ Some w
+    pub only_one : (es : List (ℕ × X)) → passing es ≤ 1 → (j k : ℕ) (v w : X) → lookup (is_at (nat_cmp j)) es ≡ Some v
+        → lookup (is_at (nat_cmp k)) es ≡ Some w
         → p v ≡ true → p w ≡ true → j ≡ k
     only_one [] few j k v w one other passes too = absurd (let no : None ≡ Some v = one in cc)
     only_one (e ∷ es) few j k v w one other passes too =

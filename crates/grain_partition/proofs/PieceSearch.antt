@@ -12,7 +12,7 @@ use Rattle.std.proofs.lemmas.Map.Lookups.{exact_unsigned}
 use Rattle.membership_view.proofs.Found.{find_found, find_none}
 use Rattle.ring_range.specs.Range.{circle, IsRange, distance, holds}
 use Rattle.ring_range.proofs.Circle.{distance-up, distance-round, distance-itself}
-use Rattle.directory_rules.specs.Piece.{Piece}
+use Rattle.directory_rules.specs.State.{Piece}
 use Rattle.directory_rules.specs.Answer.{piece_with}
 use Rattle.grain_partition.specs.Holdings.{ArePieces}
 use Rattle.grain_partition.specs.Search.{BeginsNearest}
@@ -31,7 +31,8 @@ past_where hash other o none there = by (cases_lt hash other)
     by (inl gt) = gt
     by (inr le) = let no : false ≡ true = sym (ap is_some (none le)) ∙ there in cc
 
-module _ (pieces : List (ℕ × Piece)) (are : ArePieces pieces) (hash : ℕ) (below : hash < circle) (piece : Piece) (near : BeginsNearest pieces hash piece) where
+module _ (pieces : List (ℕ × Piece)) (are : ArePieces pieces) (hash : ℕ) (below : hash < circle) (piece : Piece)
+    (near : BeginsNearest pieces hash piece) where
   -- the piece has its own start
   has_start : has piece.range.start piece ≡ true
   has_start =
@@ -42,7 +43,8 @@ module _ (pieces : List (ℕ × Piece)) (are : ArePieces pieces) (hash : ℕ) (b
   start_below = (at_lookup (λ e. IsRange e.1.range) pieces are.ranges piece.range.start piece near.there).start_below
 
   -- a piece that has the hash is this one
-  is_this : (start : ℕ) (other : Piece) → lookup (is_at (nat_cmp start)) pieces ≡ Some other → has hash other ≡ true → start ≡ piece.range.start
+  is_this : (start : ℕ) (other : Piece) → lookup (is_at (nat_cmp start)) pieces ≡ Some other → has hash other ≡ true
+      → start ≡ piece.range.start
   is_this start other found held =
       let under : other.range.start ≡ start = at_lookup (λ e. e.1.range.start ≡ e.0) pieces are.under_start start other found in
       let before : distance start piece.range.start ≤ distance start hash = near.nearest start (subst (λ o. IsSome o) (sym found) refl) in
@@ -56,7 +58,8 @@ module _ (pieces : List (ℕ × Piece)) (are : ArePieces pieces) (hash : ℕ) (b
   pub piece_with_nearest : piece_with hash pieces ≡ (if has hash piece then Some piece else None)
   piece_with_nearest = by (find (λ e. has hash e.1) pieces) refl
     where
-      by : (o : Option (ℕ × Piece)) → find (λ e. has hash e.1) pieces ≡ o → option_map (λ e. e.1) o ≡ (if has hash piece then Some piece else None)
+      by : (o : Option (ℕ × Piece)) → find (λ e. has hash e.1) pieces ≡ o
+          → option_map (λ e. e.1) o ≡ (if has hash piece then Some piece else None)
       by None is =
           ap (λ b. if b then Some piece else None)
           (sym (find_none nat_cmp_total (λ k p. has hash p) exact_unsigned pieces is piece.range.start piece near.there))
@@ -66,9 +69,11 @@ module _ (pieces : List (ℕ × Piece)) (are : ArePieces pieces) (hash : ℕ) (b
           let same : f.1 ≡ piece = same_Some f.1 piece (sym got.0 ∙ ap (λ k. lookup (is_at (nat_cmp k)) pieces) this ∙ near.there) in
           ap (λ p. Some p) same ∙ ap (λ b. if b then Some piece else None) (sym (ap (has hash) (sym same) ∙ got.1))
 
-module _ (pieces : List (ℕ × Piece)) (are : ArePieces pieces) (hash start : ℕ) (piece : Piece) (found : lookup (is_at (nat_cmp start)) pieces ≡ Some piece) where
+module _ (pieces : List (ℕ × Piece)) (are : ArePieces pieces) (hash start : ℕ) (piece : Piece)
+    (found : lookup (is_at (nat_cmp start)) pieces ≡ Some piece) where
   -- what is told by the key of a piece is told by its range's start
-  begins : ((other : ℕ) → IsSome (lookup (is_at (nat_cmp other)) pieces) → distance other start ≤ distance other hash) → BeginsNearest pieces hash piece
+  begins : ((other : ℕ) → IsSome (lookup (is_at (nat_cmp other)) pieces) → distance other start ≤ distance other hash)
+      → BeginsNearest pieces hash piece
   begins nearest =
       let is : piece.range.start ≡ start = at_lookup (λ e. e.1.range.start ≡ e.0) pieces are.under_start start piece found in record {
         there = ap (λ k. lookup (is_at (nat_cmp k)) pieces) is ∙ found;
@@ -76,10 +81,12 @@ module _ (pieces : List (ℕ × Piece)) (are : ArePieces pieces) (hash start : �
       }
 
   -- a piece is the nearest where it begins at or before the hash, and none begins between the two
-  pub nearest_before : start ≤ hash → ((other : ℕ) → other ≤ hash → IsSome (lookup (is_at (nat_cmp other)) pieces) → other ≤ start) → BeginsNearest pieces hash piece
+  pub nearest_before : start ≤ hash → ((other : ℕ) → other ≤ hash → IsSome (lookup (is_at (nat_cmp other)) pieces) → other ≤ start)
+      → BeginsNearest pieces hash piece
   nearest_before before last = begins (λ other there. by (cases_lt hash other) there)
     where
-      by : {other : ℕ} → (hash < other) ⊎ (other ≤ hash) → IsSome (lookup (is_at (nat_cmp other)) pieces) → distance other start ≤ distance other hash
+      by : {other : ℕ} → (hash < other) ⊎ (other ≤ hash) → IsSome (lookup (is_at (nat_cmp other)) pieces)
+          → distance other start ≤ distance other hash
       by {other} (inr le) there =
           let up = distance-up other start (last other le there) in
           let on = distance-up other hash le in omega arith
@@ -88,7 +95,8 @@ module _ (pieces : List (ℕ × Piece)) (are : ArePieces pieces) (hash start : �
           let on = distance-round other hash gt in omega arith
 
   -- and where none begins at or before the hash, it is the last of all
-  pub nearest_round : ((other : ℕ) → IsSome (lookup (is_at (nat_cmp other)) pieces) → (hash < other) × (other ≤ start)) → BeginsNearest pieces hash piece
+  pub nearest_round : ((other : ℕ) → IsSome (lookup (is_at (nat_cmp other)) pieces) → (hash < other) × (other ≤ start))
+      → BeginsNearest pieces hash piece
   nearest_round last = begins (λ other there.
       let both = last other there in
       let below : start < circle = subst (λ k. k < circle) (at_lookup (λ e. e.1.range.start ≡ e.0) pieces are.under_start start piece found)

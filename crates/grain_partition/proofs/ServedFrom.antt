@@ -15,7 +15,7 @@ use Rattle.directory_rules.specs.declared.Act.{Act}
 use Rattle.directory_rules.specs.declared.Act.TheVariants.{Register, Deregister, Find}
 use Rattle.directory_rules.specs.declared.Request.{Request}
 use Rattle.directory_rules.specs.declared.Reply.{Reply}
-use Rattle.directory_rules.specs.Piece.{Piece, Holding}
+use Rattle.directory_rules.specs.State.{Piece, Holding}
 use Rattle.directory_rules.specs.Answer.{Answered, answered, answered_from, after_numbered, is_numbered, piece_with, served_by, serving_piece, turned, with_piece}
 use Rattle.grain_partition.specs.Holdings.{ArePieces}
 use Rattle.grain_partition.specs.Served.{IsTurnOf}
@@ -34,14 +34,17 @@ found_with hash pieces are piece with = by (find (λ e. holds e.1.range hash) pi
         let got = find_found nat_cmp_total (λ k p. holds p.range hash) pieces are.in_order f is in
         let same : f.1 ≡ piece = same_Some f.1 piece with in
         let under : f.1.range.start ≡ f.0 = at_lookup (λ e. e.1.range.start ≡ e.0) pieces are.under_start f.0 f.1 got.0 in
-        ap (λ (p : Piece). lookup (is_at (nat_cmp p.range.start)) pieces) (sym same) ∙ ap (λ k. lookup (is_at (nat_cmp k)) pieces) under ∙ got.0 ∙ ap (λ p. Some p) same
+        ap (λ (p : Piece). lookup (is_at (nat_cmp p.range.start)) pieces) (sym same) ∙ ap (λ k. lookup (is_at (nat_cmp k)) pieces) under
+        ∙ got.0 ∙ ap (λ p. Some p) same
 
-pub serving_found : (holding : Holding) → ArePieces holding.pieces → (request : Request) (piece : Piece) → serving_piece holding request ≡ Ok piece
+pub serving_found : (holding : Holding) → ArePieces holding.pieces → (request : Request) (piece : Piece)
+    → serving_piece holding request ≡ Ok piece
     → lookup (is_at (nat_cmp piece.range.start)) holding.pieces ≡ Some piece
 serving_found holding are request piece serves = found_with request.hash holding.pieces are piece (serving_has holding request piece serves)
 
 -- what comes of a Register or a Deregister that is served
-served_numbered : (act : Act) → is_numbered act ≡ true → (piece : Piece) (holding : Holding) (request : Request) → served_by act piece holding request ≡ after_numbered (turned act piece.entries) piece holding request
+served_numbered : (act : Act) → is_numbered act ≡ true → (piece : Piece) (holding : Holding) (request : Request)
+    → served_by act piece holding request ≡ after_numbered (turned act piece.entries) piece holding request
 served_numbered (Register entry previous) numbered piece holding request = refl
 served_numbered (Deregister entry) numbered piece holding request = refl
 served_numbered (Find grain) numbered piece holding request = cc
@@ -52,8 +55,10 @@ answer holding request reply pieces = record {
   holding = record holding { served = insert_entry silo_cmp holding.served request.sender request.number; pieces = pieces };
 }
 
-pub numbered_answer : (holding : Holding) → ArePieces holding.pieces → (request : Request) (piece : Piece) → serving_piece holding request ≡ Ok piece → is_numbered request.act ≡ true
-    → (reply : Reply) (pieces : List (ℕ × Piece)) → IsTurnOf request.act piece.range.start holding.pieces pieces reply → answered holding request ≡ answer holding request reply pieces
+pub numbered_answer : (holding : Holding) → ArePieces holding.pieces → (request : Request) (piece : Piece)
+    → serving_piece holding request ≡ Ok piece → is_numbered request.act ≡ true
+    → (reply : Reply) (pieces : List (ℕ × Piece)) → IsTurnOf request.act piece.range.start holding.pieces pieces reply
+    → answered holding request ≡ answer holding request reply pieces
 numbered_answer holding are request piece serves numbered reply pieces turn =
     let same : turn.piece ≡ piece = same_Some turn.piece piece (sym turn.there ∙ serving_found holding are request piece serves) in
     ap (λ s. answered_from s holding request) serves ∙ served_numbered request.act numbered piece holding request
@@ -64,19 +69,25 @@ numbered_answer holding are request piece serves numbered reply pieces turn =
 
     placed : turn.piece ≡ piece → with_piece (record piece { entries = (turned request.act piece.entries).table }) holding.pieces ≡ pieces
     placed same =
-        ap (λ (p : Piece). set_value (is_at (nat_cmp piece.range.start)) holding.pieces (record p { entries = (turned request.act p.entries).table })) (sym same) ∙ sym turn.table_is
+        ap (λ (p : Piece). set_value (is_at (nat_cmp piece.range.start)) holding.pieces
+        (record p { entries = (turned request.act p.entries).table })) (sym same) ∙ sym turn.table_is
 
 abbrev replied : Reply → Holding → Answered
 replied reply holding = record { reply = reply; holding = holding }
 
 -- the same by what serving it answers
-pub answer_after : {E : Type 0} (holding new : Holding) → ArePieces holding.pieces → (request : Request) (piece : Piece) → serving_piece holding request ≡ Ok piece
+pub answer_after : {E : Type 0} (holding new : Holding) → ArePieces holding.pieces → (request : Request) (piece : Piece)
+    → serving_piece holding request ≡ Ok piece
     → is_numbered request.act ≡ true → (start : ℕ) → start ≡ piece.range.start → (result : Result Reply E)
     → IfOk result (IsTurnOf request.act start holding.pieces new.pieces)
-    → OnOk result (new ≡ record holding { served = insert_entry silo_cmp holding.served request.sender request.number; pieces = new.pieces })
+    → OnOk result (new ≡ record holding {
+      served = insert_entry silo_cmp holding.served request.sender request.number;
+      pieces = new.pieces;
+    })
     → IfOk result (λ reply. answered holding request ≡ record { reply = reply; holding = new })
 answer_after holding new are request piece serves numbered start at (Ok reply) turn noted =
-    numbered_answer holding are request piece serves numbered reply new.pieces (subst (λ k. IsTurnOf request.act k holding.pieces new.pieces reply) at turn)
+    numbered_answer holding are request piece serves numbered reply new.pieces
+    (subst (λ k. IsTurnOf request.act k holding.pieces new.pieces reply) at turn)
     ∙ ap (λ h. replied reply h) (sym noted)
 answer_after holding new are request piece serves numbered start at (Err fault) turn noted = tt
 

@@ -14,7 +14,7 @@ use Rattle.std.proofs.lemmas.Bool.{and_from, or_right}
 use Rattle.membership_view.proofs.Found.{find_found, find_none}
 use Rattle.texts.proofs.Decided.{both}
 use Rattle.ring_range.specs.Range.{circle, Range, holds}
-use Rattle.directory_rules.specs.Piece.{Piece}
+use Rattle.directory_rules.specs.State.{Piece}
 use Rattle.directory_rules.specs.Answer.{piece_with}
 use Rattle.directory_rules.specs.Sight.{is_settled}
 use Rattle.directory_rules.specs.Laws.{lies_settled}
@@ -25,7 +25,8 @@ use Rattle.grain_partition.proofs.OnePiece.{by_entry, only_one}
 use Rattle.grain_partition.proofs.ServedFrom.{found_with}
 
 -- what is found and passes
-pub any_lookup : {X : Type 0} (p : X → Bool) (es : List (ℕ × X)) (k : ℕ) (v : X) → lookup (is_at (nat_cmp k)) es ≡ Some v → p v ≡ true → list_any (λ e. p e.1) es ≡ true
+pub any_lookup : {X : Type 0} (p : X → Bool) (es : List (ℕ × X)) (k : ℕ) (v : X) → lookup (is_at (nat_cmp k)) es ≡ Some v → p v ≡ true
+    → list_any (λ e. p e.1) es ≡ true
 any_lookup p [] k v found passes = cc
 any_lookup p (e ∷ es) k v found passes =
     by_entry k v ((p e.1 || list_any (λ e. p e.1) es) ≡ true) e es found
@@ -47,7 +48,8 @@ any-find p (x ∷ xs) = by (p x) (any-find p xs)
     by true later = refl
     by false later = later
 
-pub passes_of_any : {X : Type 0} (p : X → Bool) (es : List (ℕ × X)) → IsStrictlySortedBy nat_cmp (keys_of es) → list_any (λ e. p e.1) es ≡ true → Passes p es
+pub passes_of_any : {X : Type 0} (p : X → Bool) (es : List (ℕ × X)) → IsStrictlySortedBy nat_cmp (keys_of es)
+    → list_any (λ e. p e.1) es ≡ true → Passes p es
 passes_of_any p es s any = by (find (λ e. p e.1) es) refl (sym (any-find (λ e. p e.1) es) ∙ any)
   where
     by : (o : Option _) → find (λ e. p e.1) es ≡ o → is_some o ≡ true → Passes p es
@@ -60,10 +62,12 @@ abbrev pub settles : ℕ → Piece → Bool
 settles hash piece = is_settled piece.state && holds piece.range hash
 
 -- the piece that has a hash has it
-pub with_has : (hash : ℕ) (pieces : List (ℕ × Piece)) → ArePieces pieces → (piece : Piece) → piece_with hash pieces ≡ Some piece → holds piece.range hash ≡ true
+pub with_has : (hash : ℕ) (pieces : List (ℕ × Piece)) → ArePieces pieces → (piece : Piece) → piece_with hash pieces ≡ Some piece
+    → holds piece.range hash ≡ true
 with_has hash pieces are piece with = by (find (λ e. holds e.1.range hash) pieces) refl with
   where
-    by : (o : Option (ℕ × Piece)) → find (λ e. holds e.1.range hash) pieces ≡ o → option_map (λ e. e.1) o ≡ Some piece → holds piece.range hash ≡ true
+    by : (o : Option (ℕ × Piece)) → find (λ e. holds e.1.range hash) pieces ≡ o → option_map (λ e. e.1) o ≡ Some piece
+        → holds piece.range hash ≡ true
     by None is with = cc
     by (Some f) is with =
         let got = find_found nat_cmp_total (λ k p. holds p.range hash) pieces are.in_order f is in
@@ -82,7 +86,9 @@ module _ (pieces : List (ℕ × Piece)) (are : ArePieces pieces) (hash : ℕ) (b
 
   -- without a piece that has it, it lies in none
   pub none_settles : piece_with hash pieces ≡ None → lies_settled hash pieces ≡ false
-  none_settles without = on_bool (λ b. lies_settled hash pieces ≡ b → b ≡ false) (lies_settled hash pieces) (λ t lies. absurd (never (passes_of_any (settles hash) pieces are.in_order lies))) (λ f lies. refl) refl
+  none_settles without =
+      on_bool (λ b. lies_settled hash pieces ≡ b → b ≡ false) (lies_settled hash pieces)
+      (λ t lies. absurd (never (passes_of_any (settles hash) pieces are.in_order lies))) (λ f lies. refl) refl
     where
       never : Passes (settles hash) pieces → ⊥
       never one = by (find (λ e. holds e.1.range hash) pieces) refl without

@@ -17,7 +17,7 @@ use Rattle.ring_range.specs.Range.{circle, Range, IsRange, distance, ahead, hold
 use Rattle.ring_range.specs.Cut.{IsInside, IsCut, cut_parts}
 use Rattle.ring_range.proofs.Circle.{distance-ahead, distance-itself, distance-zero, ahead-lt}
 use Rattle.ring_range.proofs.Cuts.{is_cut, ranges}
-use Rattle.directory_rules.specs.Piece.{Piece}
+use Rattle.directory_rules.specs.State.{Piece}
 use Rattle.directory_rules.specs.Sight.{is_settled, is_in_settled, was_settled}
 use Rattle.directory_rules.proofs.Cases.{on_bool}
 use Rattle.directory_rules.proofs.Throughout.{settled_throughout}
@@ -62,7 +62,8 @@ module _ (pieces : List (ℕ × Piece)) (are : ArePieces pieces) (part : Range) 
   here_begins = below-holds here.range part.start (both (is_settled here.state) (holds here.range part.start) first.passes).1
 
   -- a hash that the part's piece lacks, and has the one before of, is where another piece begins
-  module _ (steps : ℕ) (more : 0 < steps) (within_part : steps < part.size) (ends : before + steps ≡ here.range.size) (less : here.range.size < circle) where
+  module _ (steps : ℕ) (more : 0 < steps) (within_part : steps < part.size) (ends : before + steps ≡ here.range.size)
+      (less : here.range.size < circle) where
     abbrev hash : ℕ
     hash = ahead part.start steps
 
@@ -111,7 +112,8 @@ module _ (pieces : List (ℕ × Piece)) (are : ArePieces pieces) (part : Range) 
     begins away =
         let back = step-back next.value.range.start hash steps part.start ok.start_below next_range.start_below refl more (omega (arith, ok.size_within)) away in
         let has_last = holds-below next.value.range last (omega (arith, back, below-holds next.value.range hash next_has)) in
-        apart (only_one (λ p. holds p.range last) pieces (are.once last last_below) first.key next.key here next.value first.there next.there here_has_last has_last)
+        apart (only_one (λ p. holds p.range last) pieces (are.once last last_below) first.key next.key here next.value first.there
+        next.there here_has_last has_last)
 
     begins_within : ⊥
     begins_within =
@@ -125,12 +127,14 @@ module _ (pieces : List (ℕ × Piece)) (are : ArePieces pieces) (part : Range) 
 
   -- so it has all of the part
   ends_too_early : here.range.size < circle → here.range.size < before + part.size → ⊥
-  ends_too_early less early = begins_within (here.range.size - before) (omega (arith, here_begins)) (omega (arith, here_begins)) (omega (arith, here_begins)) less
+  ends_too_early less early =
+      begins_within (here.range.size - before) (omega (arith, here_begins)) (omega (arith, here_begins)) (omega (arith, here_begins)) less
 
   pub part_in_settled : is_in_settled pieces part ≡ true
   part_in_settled =
       any_lookup (λ p. is_settled p.state && within part p.range) pieces first.key here first.there
-      (and_from (is_settled here.state) (within part here.range) (both (is_settled here.state) (holds here.range part.start) first.passes).0 (inside (cases_lt here.range.size circle)))
+      (and_from (is_settled here.state) (within part here.range) (both (is_settled here.state) (holds here.range part.start) first.passes).0
+      (inside (cases_lt here.range.size circle)))
     where
       inside : (here.range.size < circle) ⊎ (circle ≤ here.range.size) → within part here.range ≡ true
       inside (inr full) = within-full part here.range (omega (arith, here_range.size_within))
@@ -140,7 +144,8 @@ module _ (pieces : List (ℕ × Piece)) (are : ArePieces pieces) (part : Range) 
           ends (inl early) = absurd (ends_too_early less early)
           ends (inr le) = within-before part here.range le
 
-all_in_settled : (pieces : List (ℕ × Piece)) (parts : List Range) → ((part : Range) → Contains parts part → is_in_settled pieces part ≡ true) → list_all (is_in_settled pieces) parts ≡ true
+all_in_settled : (pieces : List (ℕ × Piece)) (parts : List Range)
+    → ((part : Range) → Contains parts part → is_in_settled pieces part ≡ true) → list_all (is_in_settled pieces) parts ≡ true
 all_in_settled pieces [] each = refl
 all_in_settled pieces (part ∷ parts) each =
     and_from (is_in_settled pieces part) (list_all (is_in_settled pieces) parts) (each part (Contains-head part parts))
@@ -166,9 +171,11 @@ counts {X} p xs x there passes = at xs there.0 there.1 there.2
         omega (arith, more, sum_by-cons (λ x. cond (p x) 1 0) y xs)
 
 -- a part's hashes are the range's
-part_lies : (range part : Range) (parts : List Range) (hash : ℕ) → Contains parts part → count_by (λ p. holds p hash) parts ≡ (if holds range hash then 1 else 0)
+part_lies : (range part : Range) (parts : List Range) (hash : ℕ) → Contains parts part
+    → count_by (λ p. holds p hash) parts ≡ (if holds range hash then 1 else 0)
     → holds part hash ≡ true → holds range hash ≡ true
-part_lies range part parts hash there count held = on_bool (λ b. holds range hash ≡ b → b ≡ true) (holds range hash) (λ t is. refl) (λ f is. absurd (none is)) refl
+part_lies range part parts hash there count held =
+    on_bool (λ b. holds range hash ≡ b → b ≡ true) (holds range hash) (λ t is. refl) (λ f is. absurd (none is)) refl
   where
     none : holds range hash ≡ false → ⊥
     none is =
@@ -176,7 +183,8 @@ part_lies range part parts hash there count held = on_bool (λ b. holds range ha
         let zero : count_by (λ p. holds p hash) parts ≡ 0 = count ∙ ap (λ b. if b then 1 else 0) is in omega arith
 
 -- whether a range was settled is whether each of its hashes lies in a settled piece
-pub Decides-was_settled : (pieces : List (ℕ × Piece)) → ArePieces pieces → (range : Range) → IsRange range → Decides (was_settled pieces range) (LiesSettled pieces range)
+pub Decides-was_settled : (pieces : List (ℕ × Piece)) → ArePieces pieces → (range : Range) → IsRange range
+    → Decides (was_settled pieces range) (LiesSettled pieces range)
 Decides-was_settled pieces are range ok = (
   settled_throughout pieces range ok are.ranges (starts_below pieces are),
   λ lies. all_in_settled pieces (cut_parts range (keys_of pieces)) (λ part there.

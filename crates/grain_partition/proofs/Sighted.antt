@@ -10,7 +10,7 @@ use Rattle.silo_address.specs.Silo.{Silo}
 use Rattle.membership_view.specs.View.{ViewValue}
 use Rattle.hash_ring.specs.declared.Hashing.{Hashing}
 use Rattle.range_moves.specs.declared.RingArc.{RingArc}
-use Rattle.directory_rules.specs.Piece.{Piece}
+use Rattle.directory_rules.specs.State.{Piece}
 use Rattle.directory_rules.specs.Sight.{is_owner, piece_of, pieces_after}
 use Rattle.directory_rules.specs.declared.PieceState.TheVariants.{Settled}
 use Rattle.directory_rules.proofs.Cases.{on_bool}
@@ -22,16 +22,19 @@ use Rattle.grain_partition.proofs.FromArcs.{made, pieces-made, sorted_made}
 use Rattle.grain_partition.proofs.AtTheEnd.{insert_entry-end}
 
 -- what pieces keep
-pub pieces-after : (next : Bool) (hashing : Hashing) (view : ViewValue) (silo : Silo) (pieces : List (ℕ × Piece)) (arcs : List RingArc) → AreApart arcs
+pub pieces-after : (next : Bool) (hashing : Hashing) (view : ViewValue) (silo : Silo) (pieces : List (ℕ × Piece)) (arcs : List RingArc)
+    → AreApart arcs
     → ArePieces (pieces_after next hashing view silo pieces arcs)
 pieces-after next hashing view silo pieces arcs apart =
-    pieces-made (piece_of next hashing view silo pieces) (λ arc. is_owner silo arc.to) (piece_range next hashing view silo pieces) arcs apart
+    pieces-made (piece_of next hashing view silo pieces) (λ arc. is_owner silo arc.to) (piece_range next hashing view silo pieces) arcs
+    apart
 
 -- the range of a piece that is made
 pub made_range : (tidy next : Bool) (hashing : Hashing) (view : ViewValue) (silo : Silo) (pieces : List (ℕ × Piece)) (arc : RingArc)
     → (piece_made tidy next hashing view silo pieces arc).range ≡ arc.range
 made_range tidy next hashing view silo pieces arc =
-    on_bool (λ b. (cond {A = Piece} b (record { range = arc.range; state = Settled; entries = [] }) (piece_of next hashing view silo pieces arc)).range ≡ arc.range)
+    on_bool (λ b. (cond {A = Piece} b (record { range = arc.range; state = Settled; entries = [] })
+    (piece_of next hashing view silo pieces arc)).range ≡ arc.range)
     (tidy && stays pieces arc.range) (λ t. refl) (λ f. piece_range next hashing view silo pieces arc)
 
 -- ---- Pieces made of arcs, one after another.
@@ -42,7 +45,8 @@ module _ (f : RingArc → Piece) (q : RingArc → Bool) (same : (arc : RingArc) 
   owned_first : (arc : RingArc) (rest : List RingArc) → q arc ≡ true → made f q (arc ∷ rest) ≡ entry_of arc ∷ made f q rest
   owned_first arc rest owned = ap (λ b. map entry_of (cond b (arc ∷ filter q rest) (filter q rest))) owned
 
-  module _ (arcs : List RingArc) (apart : AreApart arcs) (i : ℕ) (arc : RingArc) (below : i < length arcs) (item : arc ≡ get_or arcs i arc) (owned : q arc ≡ true)
+  module _ (arcs : List RingArc) (apart : AreApart arcs) (i : ℕ) (arc : RingArc) (below : i < length arcs) (item : arc ≡ get_or arcs i arc)
+      (owned : q arc ≡ true)
       (front : List (ℕ × Piece)) (so_far : front ++ made f q (drop i arcs) ≡ made f q arcs) where
     whole : front ++ entry_of arc ∷ made f q (drop (i + 1) arcs) ≡ made f q arcs
     whole =

@@ -17,9 +17,9 @@ use Rattle.ring_range.specs.Range.{Range, IsRange, holds, within}
 use Rattle.hash_ring.specs.declared.Hashing.{Hashing}
 use Rattle.hash_ring.specs.Hash.{hash_grain}
 use Rattle.directory_rules.specs.Answer.{piece_with}
-use Rattle.directory_rules.specs.Piece.{Piece}
+use Rattle.directory_rules.specs.State.{Piece, Table}
 use Rattle.directory_rules.specs.Sight.{entries_within, is_in_settled, is_settled, was_settled}
-use Rattle.directory_rules.specs.Table.{Table, entries_of, lie_in, with_entry}
+use Rattle.directory_rules.specs.Table.{entries_of, lie_in, with_entry}
 use Rattle.grain_table.proofs.ByGrain.{IsTable, nothing_is_table}
 use Rattle.grain_table.proofs.Filters.{passed_is_table}
 use Rattle.hash_ring.proofs.HashesBelow.{grain_below}
@@ -56,16 +56,20 @@ module _ (hashing : Hashing) where
   own_lie : (piece : Piece) → lie_in hashing piece.range (entries_of (own piece).entries) ≡ true
   own_lie piece =
       ap (lie_in hashing piece.range) (own_entries piece)
-      ∙ list_all-from_AllPass (is_own piece) (filter (is_own piece) (entries_of piece.entries)) (filter_passes (is_own piece) (entries_of piece.entries))
+      ∙ list_all-from_AllPass (is_own piece) (filter (is_own piece) (entries_of piece.entries))
+      (filter_passes (is_own piece) (entries_of piece.entries))
 
   -- its table is made again of its entries, as it was
-  own_again : (piece : Piece) → fold with_entry [] (entries_of piece.entries) ≡ piece.entries → fold with_entry [] (entries_of (own piece).entries) ≡ (own piece).entries
+  own_again : (piece : Piece) → fold with_entry [] (entries_of piece.entries) ≡ piece.entries
+      → fold with_entry [] (entries_of (own piece).entries) ≡ (own piece).entries
   own_again piece again =
       put_in_nothing (own piece).entries
-      (passed_is_table (λ t. is_own piece t.1) piece.entries (subst IsTable again (put_in_is_table [] (entries_of piece.entries) nothing_is_table)))
+      (passed_is_table (λ t. is_own piece t.1) piece.entries
+      (subst IsTable again (put_in_is_table [] (entries_of piece.entries) nothing_is_table)))
 
   -- where all its entries are its own, all are left
-  all_own : (range : Range) (table : Table) → lie_in hashing range (entries_of table) ≡ true → filter (λ t. holds range (hash_grain hashing t.1.grain)) table ≡ table
+  all_own : (range : Range) (table : Table) → lie_in hashing range (entries_of table) ≡ true
+      → filter (λ t. holds range (hash_grain hashing t.1.grain)) table ≡ table
   all_own range [] lie = refl
   all_own range (t ∷ ts) lie =
       let so = both (holds range (hash_grain hashing t.1.grain)) (lie_in hashing range (entries_of ts)) lie in
@@ -75,7 +79,8 @@ module _ (hashing : Hashing) where
   abbrev at : ℕ × Piece → ℕ × Piece
   at e = (e.0, own e.1)
 
-  having-tidied : (p : Range → Bool) (es : List (ℕ × Piece)) → count_by (λ e. p e.1.range) (tidied hashing es) ≡ count_by (λ e. p e.1.range) es
+  having-tidied : (p : Range → Bool) (es : List (ℕ × Piece))
+      → count_by (λ e. p e.1.range) (tidied hashing es) ≡ count_by (λ e. p e.1.range) es
   having-tidied p [] = refl
   having-tidied p (e ∷ es) =
       sum_by-cons (λ (x : ℕ × Piece). cond (p x.1.range) 1 0) (at e) (tidied hashing es)
@@ -93,7 +98,9 @@ module _ (hashing : Hashing) where
 
   pub are_tidy-tidied : (pieces : List (ℕ × Piece)) → are_tidy hashing (tidied hashing pieces) ≡ true
   are_tidy-tidied [] = refl
-  are_tidy-tidied (e ∷ es) = and_from (lie_in hashing e.1.range (entries_of (own e.1).entries)) (are_tidy hashing (tidied hashing es)) (own_lie e.1) (are_tidy-tidied es)
+  are_tidy-tidied (e ∷ es) =
+      and_from (lie_in hashing e.1.range (entries_of (own e.1).entries)) (are_tidy hashing (tidied hashing es)) (own_lie e.1)
+      (are_tidy-tidied es)
 
   -- tidy pieces stay as they are
   pub tidied-tidy : (pieces : List (ℕ × Piece)) → are_tidy hashing pieces ≡ true → tidied hashing pieces ≡ pieces
@@ -105,16 +112,21 @@ module _ (hashing : Hashing) where
   -- and a range has in them what it has by the rule
   pub settled_entries-tidy : (pieces : List (ℕ × Piece)) → are_tidy hashing pieces ≡ true → (range : Range)
       → settled_entries hashing pieces range ≡ (if was_settled pieces range then Some (entries_within hashing pieces range) else None)
-  settled_entries-tidy pieces tidy range = ap (λ l. if was_settled pieces range then Some (entries_within hashing l range) else None) (tidied-tidy pieces tidy)
+  settled_entries-tidy pieces tidy range =
+      ap (λ l. if was_settled pieces range then Some (entries_within hashing l range) else None) (tidied-tidy pieces tidy)
 
-  is_in_settled-tidied : (pieces : List (ℕ × Piece)) (range : Range) → is_in_settled (tidied hashing pieces) range ≡ is_in_settled pieces range
+  is_in_settled-tidied : (pieces : List (ℕ × Piece)) (range : Range)
+      → is_in_settled (tidied hashing pieces) range ≡ is_in_settled pieces range
   is_in_settled-tidied [] range = refl
   is_in_settled-tidied (e ∷ es) range = ap (λ b. (is_settled e.1.state && within range e.1.range) || b) (is_in_settled-tidied es range)
 
-  pub was_settled-tidied : (pieces : List (ℕ × Piece)) (range : Range) → was_settled (tidied hashing pieces) range ≡ was_settled pieces range
-  was_settled-tidied pieces range = λ i. list_all (λ part. is_in_settled-tidied pieces part i) (cut_parts range (keys_of-map_values own pieces i))
+  pub was_settled-tidied : (pieces : List (ℕ × Piece)) (range : Range)
+      → was_settled (tidied hashing pieces) range ≡ was_settled pieces range
+  was_settled-tidied pieces range =
+      λ i. list_all (λ part. is_in_settled-tidied pieces part i) (cut_parts range (keys_of-map_values own pieces i))
 
-  piece_with-tidied : (hash : ℕ) (pieces : List (ℕ × Piece)) → piece_with hash (tidied hashing pieces) ≡ option_map own (piece_with hash pieces)
+  piece_with-tidied : (hash : ℕ) (pieces : List (ℕ × Piece))
+      → piece_with hash (tidied hashing pieces) ≡ option_map own (piece_with hash pieces)
   piece_with-tidied hash [] = refl
   piece_with-tidied hash (e ∷ es) = by (holds e.1.range hash) (piece_with-tidied hash es)
     where
@@ -131,20 +143,24 @@ module _ (hashing : Hashing) where
     AreCountedOfTidied rest count = AreCounted hashing (tidied hashing pieces) range rest count
 
     -- once the rest has no hash, all are counted
-    pub all_of_tidied : IsRange range → was_settled pieces range ≡ true → (rest : Range) (count : ℕ) → rest.size ≡ 0 → AreCountedOfTidied rest count
+    pub all_of_tidied : IsRange range → was_settled pieces range ≡ true → (rest : Range) (count : ℕ) → rest.size ≡ 0
+        → AreCountedOfTidied rest count
         → count ≡ entries_within hashing (tidied hashing pieces) range
     all_of_tidied ok settled rest count none so =
         counted_all hashing (tidied hashing pieces) range (pieces-tidied pieces are) (are_tidy-tidied pieces) ok
         (was_settled-tidied pieces range ∙ settled) rest count none so
 
     -- one piece more: within what the rest has of it, all its entries are its own
-    pub more_of_tidied : (rest : Range) → IsRange rest → 0 < rest.size → was_settled pieces rest ≡ true → (piece : Piece) → piece_with rest.start pieces ≡ Some piece
+    pub more_of_tidied : (rest : Range) → IsRange rest → 0 < rest.size → was_settled pieces rest ≡ true → (piece : Piece)
+        → piece_with rest.start pieces ≡ Some piece
         → fold with_entry [] (entries_of piece.entries) ≡ piece.entries → (count more : ℕ)
-        → more ≡ length (filter (λ e. holds (record { start = rest.start; size = rest.size - (part_behind rest piece.range).size }) (hash_grain hashing e.grain)) (entries_of piece.entries))
+        → more ≡ length (filter (λ e. holds (record { start = rest.start; size = rest.size - (part_behind rest piece.range).size })
+        (hash_grain hashing e.grain)) (entries_of piece.entries))
         → AreCountedOfTidied rest count → AreCountedOfTidied (part_behind rest piece.range) (count + more)
     more_of_tidied rest ok some settled piece with again count more is so =
         counted_more hashing (tidied hashing pieces) range ares tidy rest ok some here (own piece) there (own_again piece again) count more
-        (is ∙ ap length (sym (ap (filter in_front) (own_entries piece) ∙ narrowed in_front (is_own piece) inner (entries_of piece.entries)))) so
+        (is ∙ ap length (sym (ap (filter in_front) (own_entries piece)
+        ∙ narrowed in_front (is_own piece) inner (entries_of piece.entries)))) so
       where
         ares : ArePieces (tidied hashing pieces)
         ares = pieces-tidied pieces are
@@ -159,7 +175,8 @@ module _ (hashing : Hashing) where
         there = piece_with-tidied rest.start pieces ∙ ap (option_map own) with
 
         in_front : Entry → Bool
-        in_front e = holds (record { start = rest.start; size = rest.size - (part_behind rest piece.range).size }) (hash_grain hashing e.grain)
+        in_front e =
+            holds (record { start = rest.start; size = rest.size - (part_behind rest piece.range).size }) (hash_grain hashing e.grain)
 
         inner : (e : Entry) → in_front e ≡ true → is_own piece e ≡ true
         inner e held =

@@ -21,7 +21,8 @@ module _ {K X : Type 0} {R : K → K → Ordering} (o : IsTotalOrder R) where
   set_value-insert_entry : (k : K) (v w : X) (es : List (K × X)) → IsStrictlySortedBy R (keys_of es) → lookup (is_at (R k)) es ≡ Some w
       → set_value (is_at (R k)) (insert_entry R es k v) w ≡ es
   set_value-insert_entry k v w [] s there = cc
-  set_value-insert_entry k v w (e ∷ es) s there = by (R k e.0) refl there (set_value-insert_entry k v w es (sorted_tail R e.0 (keys_of es) s))
+  set_value-insert_entry k v w (e ∷ es) s there =
+      by (R k e.0) refl there (set_value-insert_entry k v w es (sorted_tail R e.0 (keys_of es) s))
     where
       by : (r : Ordering) → R k e.0 ≡ r → cond (is_eq r) (Some e.1) (lookup (is_at (R k)) es) ≡ Some w
           → (lookup (is_at (R k)) es ≡ Some w → set_value (is_at (R k)) (insert_entry R es k v) w ≡ es)
@@ -29,9 +30,11 @@ module _ {K X : Type 0} {R : K → K → Ordering} (o : IsTotalOrder R) where
       by Less is there later = absurd
           (let no : None ≡ Some w = sym (lookup-none (is_at (R k)) (e ∷ es) (none_below_head o k e es s is)) ∙ ap (λ r. cond (is_eq r) (Some e.1) (lookup (is_at (R k)) es)) is ∙ there in cc)
       by Equal is there later =
-          ap (λ r. cond (is_eq r) ((e.0, w) ∷ es) ((e.0, v) ∷ set_value (is_at (R k)) es w)) is ∙ ap (λ x. (e.0, x) ∷ es) (sym (same_Some e.1 w there))
+          ap (λ r. cond (is_eq r) ((e.0, w) ∷ es) ((e.0, v) ∷ set_value (is_at (R k)) es w)) is
+          ∙ ap (λ x. (e.0, x) ∷ es) (sym (same_Some e.1 w there))
       by Greater is there later =
-          ap (λ r. cond (is_eq r) ((e.0, w) ∷ insert_entry R es k v) (e ∷ set_value (is_at (R k)) (insert_entry R es k v) w)) is ∙ ap (λ l. e ∷ l) (later there)
+          ap (λ r. cond (is_eq r) ((e.0, w) ∷ insert_entry R es k v) (e ∷ set_value (is_at (R k)) (insert_entry R es k v) w)) is
+          ∙ ap (λ l. e ∷ l) (later there)
 
 -- a number that is noted and unnoted is as it was
 pub number_again : (silo : Silo) (number : ℕ) (before : Option ℕ) (served : List (Silo × ℕ)) → IsStrictlySortedBy silo_cmp (keys_of served)

@@ -8,7 +8,7 @@ use Rattle.ring_range.specs.Range.{circle, Range, IsRange, distance, holds, part
 use Rattle.ring_range.specs.Cut as cut
 use Rattle.ring_range.proofs.Circle.{distance-itself}
 use Rattle.ring_range.proofs.Parts.{holds-part, IsRange-part}
-use Rattle.directory_rules.specs.Piece.{Piece}
+use Rattle.directory_rules.specs.State.{Piece}
 use Rattle.directory_rules.specs.Sight.{was_settled}
 use Rattle.directory_rules.specs.Laws.{lies_settled}
 use Rattle.directory_rules.proofs.Cases.{on_bool}
@@ -30,15 +30,18 @@ unfolding cut.cut_parts
 settled-nothing pieces range none = rw none refl
 
 -- a range whose first hash lies in no settled piece isn't
-pub unsettled-first : (pieces : List (ℕ × Piece)) → ArePieces pieces → (range : Range) → IsRange range → 0 < range.size → lies_settled range.start pieces ≡ false
+pub unsettled-first : (pieces : List (ℕ × Piece)) → ArePieces pieces → (range : Range) → IsRange range → 0 < range.size
+    → lies_settled range.start pieces ≡ false
     → was_settled pieces range ≡ false
 unsettled-first pieces are range ok some lies =
     false_from_not (was_settled pieces range) (Decides-was_settled pieces are range ok)
     (λ all. let no : false ≡ true = sym lies ∙ all range.start ok.start_below (holds-below range range.start (omega (arith, distance-itself range.start))) in cc)
 
-module _ (pieces : List (ℕ × Piece)) (are : ArePieces pieces) (range : Range) (ok : IsRange range) (first : Range) (at : SettlesAt pieces range.start first) where
+module _ (pieces : List (ℕ × Piece)) (are : ArePieces pieces) (range : Range) (ok : IsRange range) (first : Range)
+    (at : SettlesAt pieces range.start first) where
   first_ok : IsRange first
-  first_ok = subst (λ r. IsRange r) at.range_is (at_lookup (λ e. IsRange e.1.range) pieces are.ranges at.piece.range.start at.piece at.there)
+  first_ok =
+      subst (λ r. IsRange r) at.range_is (at_lookup (λ e. IsRange e.1.range) pieces are.ranges at.piece.range.start at.piece at.there)
 
   abbrev covered : ℕ
   covered = first.size - distance first.start range.start
@@ -46,21 +49,26 @@ module _ (pieces : List (ℕ × Piece)) (are : ArePieces pieces) (range : Range)
   begins : distance first.start range.start < first.size
   begins = below-holds first range.start at.has
 
-  pub behind_is : (hash : ℕ) → hash < circle → holds (part_behind range first) hash ≡ (nat_le covered (distance range.start hash) && nat_lt (distance range.start hash) range.size)
+  pub behind_is : (hash : ℕ) → hash < circle → holds (part_behind range first) hash
+      ≡ (nat_le covered (distance range.start hash) && nat_lt (distance range.start hash) range.size)
   behind_is hash below = holds-part range covered range.size hash ok (omega arith) below
 
   -- a hash behind is the range's
   pub behind_in_range : (hash : ℕ) → hash < circle → holds (part_behind range first) hash ≡ true → holds range hash ≡ true
-  behind_in_range hash below held = (both (nat_le covered (distance range.start hash)) (nat_lt (distance range.start hash) range.size) (sym (behind_is hash below) ∙ held)).1
+  behind_in_range hash below held =
+      (both (nat_le covered (distance range.start hash)) (nat_lt (distance range.start hash) range.size)
+      (sym (behind_is hash below) ∙ held)).1
 
   behind_in : LiesSettled pieces range → LiesSettled pieces (part_behind range first)
   behind_in lies hash below held = lies hash below (behind_in_range hash below held)
 
   -- a hash of the range that isn't the first piece's is behind
-  pub behind_first : (hash : ℕ) → hash < circle → holds range hash ≡ true → holds first hash ≡ false → holds (part_behind range first) hash ≡ true
+  pub behind_first : (hash : ℕ) → hash < circle → holds range hash ≡ true → holds first hash ≡ false
+      → holds (part_behind range first) hash ≡ true
   behind_first hash below held apart = by (cases_lt (distance range.start hash) covered)
     where
-      tests : covered ≤ distance range.start hash → distance range.start hash < range.size → (nat_le covered (distance range.start hash) && nat_lt (distance range.start hash) range.size) ≡ true
+      tests : covered ≤ distance range.start hash → distance range.start hash < range.size
+          → (nat_le covered (distance range.start hash) && nat_lt (distance range.start hash) range.size) ≡ true
       tests le lt = grind (arith, nat_tests)
 
       by : (distance range.start hash < covered) ⊎ (covered ≤ distance range.start hash) → holds (part_behind range first) hash ≡ true

@@ -18,8 +18,8 @@ use Rattle.texts.proofs.Entries.{all_above, sorted-insert_entry}
 use Rattle.ring_range.specs.Range.{Range, holds}
 use Rattle.hash_ring.specs.declared.Hashing.{Hashing}
 use Rattle.hash_ring.specs.Hash.{hash_grain}
-use Rattle.directory_rules.specs.Piece.{Piece}
-use Rattle.directory_rules.specs.Table.{Table, entries_of, with_entry}
+use Rattle.directory_rules.specs.State.{Piece, Table}
+use Rattle.directory_rules.specs.Table.{entries_of, with_entry}
 
 module _ {K X : Type 0} {R : K → K → Ordering} (o : IsTotalOrder R) (exact : CmpEqualImpliesEq R) (p : K → Bool) where
   abbrev passed : List (K × X) → List (K × X)
@@ -34,20 +34,24 @@ module _ {K X : Type 0} {R : K → K → Ordering} (o : IsTotalOrder R) (exact :
       by false rest = rest
 
   -- below all others it stands first
-  insert_entry-first : (k : K) (v : X) (es : List (K × X)) → AllByRecursion (λ y. R k y ≡ Less) (keys_of es) → insert_entry R es k v ≡ (k, v) ∷ es
+  insert_entry-first : (k : K) (v : X) (es : List (K × X)) → AllByRecursion (λ y. R k y ≡ Less) (keys_of es)
+      → insert_entry R es k v ≡ (k, v) ∷ es
   insert_entry-first k v [] above = refl
   insert_entry-first k v (e ∷ es) above = ap (λ r. match_ordering r ((k, v) ∷ e ∷ es) ((e.0, v) ∷ es) (e ∷ insert_entry R es k v)) above.0
 
   -- an entry that passes is put in among those that pass
-  passed-insert_entry : (k : K) (v : X) → p k ≡ true → (es : List (K × X)) → IsStrictlySortedBy R (keys_of es) → passed (insert_entry R es k v) ≡ insert_entry R (passed es) k v
+  passed-insert_entry : (k : K) (v : X) → p k ≡ true → (es : List (K × X)) → IsStrictlySortedBy R (keys_of es)
+      → passed (insert_entry R es k v) ≡ insert_entry R (passed es) k v
   passed-insert_entry k v passes [] s = ap (λ b. cond b ((k, v) ∷ []) []) passes
   passed-insert_entry k v passes (e ∷ es) s = by (R k e.0) refl (passed-insert_entry k v passes es (sorted_tail R e.0 (keys_of es) s))
     where
       by : (r : Ordering) → R k e.0 ≡ r → passed (insert_entry R es k v) ≡ insert_entry R (passed es) k v
-          → passed (match_ordering r ((k, v) ∷ e ∷ es) ((e.0, v) ∷ es) (e ∷ insert_entry R es k v)) ≡ insert_entry R (cond (p e.0) (e ∷ passed es) (passed es)) k v
+          → passed (match_ordering r ((k, v) ∷ e ∷ es) ((e.0, v) ∷ es) (e ∷ insert_entry R es k v)) ≡ insert_entry R
+          (cond (p e.0) (e ∷ passed es) (passed es)) k v
       by Less is later =
           ap (λ b. cond b ((k, v) ∷ passed (e ∷ es)) (passed (e ∷ es))) passes
-          ∙ sym (insert_entry-first k v (passed (e ∷ es)) (all_passed (λ y. R k y ≡ Less) (e ∷ es) (is, all_above o k e.0 es is (sorted_head R e.0 (keys_of es) s))))
+          ∙ sym (insert_entry-first k v (passed (e ∷ es))
+          (all_passed (λ y. R k y ≡ Less) (e ∷ es) (is, all_above o k e.0 es is (sorted_head R e.0 (keys_of es) s))))
       by Equal is later =
           let here : p e.0 ≡ true = ap p (sym (exact k e.0 is)) ∙ passes in
           ap (λ b. cond b ((e.0, v) ∷ passed es) (passed es)) here
@@ -55,7 +59,8 @@ module _ {K X : Type 0} {R : K → K → Ordering} (o : IsTotalOrder R) (exact :
           ∙ ap (λ r. match_ordering r ((k, v) ∷ e ∷ passed es) ((e.0, v) ∷ passed es) (e ∷ insert_entry R (passed es) k v)) is)
       by Greater is later = on (p e.0)
         where
-          on : (b : Bool) → cond b (e ∷ passed (insert_entry R es k v)) (passed (insert_entry R es k v)) ≡ insert_entry R (cond b (e ∷ passed es) (passed es)) k v
+          on : (b : Bool) → cond b (e ∷ passed (insert_entry R es k v)) (passed (insert_entry R es k v)) ≡ insert_entry R
+              (cond b (e ∷ passed es) (passed es)) k v
           on true =
               ap (λ l. e ∷ l) later
               ∙ sym (ap (λ r. match_ordering r ((k, v) ∷ e ∷ passed es) ((e.0, v) ∷ passed es) (e ∷ insert_entry R (passed es) k v)) is)
@@ -84,19 +89,23 @@ with_within hashing range table entry = if within_range hashing range entry.grai
 
 module _ (hashing : Hashing) (range : Range) where
   -- to put in those within the range is to put in each that is
-  pub put_within : (entries : List Entry) (table : Table) → fold with_entry table (filter (λ e. within_range hashing range e.grain) entries) ≡ fold (with_within hashing range) table entries
+  pub put_within : (entries : List Entry) (table : Table)
+      → fold with_entry table (filter (λ e. within_range hashing range e.grain) entries) ≡ fold (with_within hashing range) table entries
   put_within [] table = refl
   put_within (entry ∷ entries) table = by (within_range hashing range entry.grain) (λ t. put_within entries t)
     where
-      by : (b : Bool) → ((t : Table) → fold with_entry t (filter (λ e. within_range hashing range e.grain) entries) ≡ fold (with_within hashing range) t entries)
-          → fold with_entry table (cond b (entry ∷ filter (λ e. within_range hashing range e.grain) entries) (filter (λ e. within_range hashing range e.grain) entries))
+      by : (b : Bool) → ((t : Table) → fold with_entry t (filter (λ e. within_range hashing range e.grain) entries) ≡ fold
+          (with_within hashing range) t entries)
+          → fold with_entry table (cond b (entry ∷ filter (λ e. within_range hashing range e.grain) entries)
+          (filter (λ e. within_range hashing range e.grain) entries))
           ≡ fold (with_within hashing range) (cond b (with_entry table entry) table) entries
       by true rest = rest (with_entry table entry)
       by false rest = rest table
 
   -- of all entries put in those within the range are those within it put in
   pub within-fold : (entries : List Entry) (table : Table) → IsStrictlySortedBy grain_cmp (keys_of table)
-      → filter (λ e. within_range hashing range e.0) (fold with_entry table entries) ≡ fold (with_within hashing range) (filter (λ e. within_range hashing range e.0) table) entries
+      → filter (λ e. within_range hashing range e.0) (fold with_entry table entries) ≡ fold (with_within hashing range)
+      (filter (λ e. within_range hashing range e.0) table) entries
   within-fold [] table s = refl
   within-fold (entry ∷ entries) table s =
       within-fold entries (with_entry table entry) (sorted-insert_entry grain_cmp_total entry.grain entry table s)
@@ -104,11 +113,14 @@ module _ (hashing : Hashing) (range : Range) where
     where
       by : (b : Bool) → within_range hashing range entry.grain ≡ b
           → filter (λ e. within_range hashing range e.0) (with_entry table entry)
-          ≡ (if b then with_entry (filter (λ e. within_range hashing range e.0) table) entry else filter (λ e. within_range hashing range e.0) table)
+          ≡ (if b then with_entry (filter (λ e. within_range hashing range e.0) table) entry else filter
+          (λ e. within_range hashing range e.0) table)
       by true is = passed-insert_entry grain_cmp_total grain_cmp_exact (within_range hashing range) entry.grain entry is table s
       by false is = passed-other grain_cmp_total grain_cmp_exact (within_range hashing range) entry.grain entry is table
 
-  fold_behind : (one other : List Entry) (table : Table) → fold (with_within hashing range) table (one ++ other) ≡ fold (with_within hashing range) (fold (with_within hashing range) table one) other
+  fold_behind : (one other : List Entry) (table : Table)
+      → fold (with_within hashing range) table (one ++ other) ≡ fold (with_within hashing range)
+      (fold (with_within hashing range) table one) other
   fold_behind [] other table = refl
   fold_behind (entry ∷ entries) other table = fold_behind entries other (with_within hashing range table entry)
 
@@ -118,5 +130,6 @@ module _ (hashing : Hashing) (range : Range) where
       → fold (with_within hashing range) new (flat_map (λ e. entries_of e.1.entries) rest)
       ≡ fold (with_within hashing range) table (flat_map (λ e. entries_of e.1.entries) ((start, piece) ∷ rest))
   one_piece_more start piece rest table new put =
-      ap (λ t. fold (with_within hashing range) t (flat_map (λ e. entries_of e.1.entries) rest)) (put ∙ put_within (entries_of piece.entries) table)
+      ap (λ t. fold (with_within hashing range) t (flat_map (λ e. entries_of e.1.entries) rest))
+      (put ∙ put_within (entries_of piece.entries) table)
       ∙ sym (fold_behind (entries_of piece.entries) (flat_map (λ e. entries_of e.1.entries) rest) table)

@@ -9,7 +9,7 @@ use Rattle.ring_range.specs.Range.{Range}
 use Rattle.hash_ring.specs.declared.Hashing.{Hashing}
 use Rattle.range_moves.specs.declared.RingArc.{RingArc}
 use Rattle.directory_rules.specs.declared.PieceState.TheVariants.{Settled}
-use Rattle.directory_rules.specs.Piece.{Piece}
+use Rattle.directory_rules.specs.State.{Piece}
 use Rattle.directory_rules.specs.Sight.{is_owner, is_settled, kept_entries, piece_of}
 
 -- whether the piece is settled, and has every hash of a range that begins where it does

@@ -1,7 +1,7 @@
 -- What is settled of a range, hash by hash.
 use Rattle.std.specs.Prelude.{◌≡◌, ℕ, true, List}
 use Rattle.ring_range.specs.Range.{Range, EachHash, holds}
-use Rattle.directory_rules.specs.Piece.{Piece}
+use Rattle.directory_rules.specs.State.{Piece}
 use Rattle.directory_rules.specs.Laws.{lies_settled}
 
 -- each hash of the range is in a settled piece

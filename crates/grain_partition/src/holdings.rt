@@ -1,13 +1,13 @@
 ghost use Rattle.std.specs.Map.Iter.{ShowsInOrder, deref_pair};
-ghost use Rattle.std.specs.Prelude.{◌≡◌, ◌↔◌, ℕ, [], ◌≤◌, ◌^◌, IsTrue, IsSome, IfOk, OnOk, OnErr, MatchResult, length, option_copied};
+ghost use Rattle.std.specs.Prelude.{◌≡◌, ◌↔◌, ℕ, [], ◌≤◌, ◌^◌, IsTrue, IsSome, IfOk, OnOk, OnErr, MatchResult, count_by, length, not, option_copied};
 ghost use Rattle.std.specs.Map.{lookup};
 ghost use Rattle.std.specs.Ordering.{nat_cmp};
 ghost use Rattle.std.specs.BTreeMap.{insert_entry, is_at};
 ghost use Rattle.silo_address.specs.Silo.{silo_cmp};
-ghost use Rattle.directory_rules.specs.Piece.{Piece as PieceValue};
+ghost use Rattle.directory_rules.specs.State.{Piece as PieceValue};
 ghost use Rattle.directory_rules.specs.Answer.{answered, is_numbered, last_served, piece_with, serving_piece, with_piece};
 ghost use Rattle.directory_rules.specs.declared.PieceState.TheVariants.{Recovering, Settled};
-ghost use Rattle.directory_rules.specs.Sight.{all_entries, pieces_after, sealed, was_settled};
+ghost use Rattle.directory_rules.specs.Sight.{all_entries, is_settled, pieces_after, sealed, was_settled};
 ghost use Rattle.grain_partition.specs.Holdings.{ArePieces, HasPiece, IsHolding, tidied, settled_entries};
 ghost use Rattle.grain_partition.specs.Seen.{pieces_seen};
 ghost use Rattle.grain_partition.specs.Served.{IsTurnOf};
@@ -21,6 +21,7 @@ use crate::seen::pieces_seen;
 use crate::served::serve_numbered;
 use crate::settled::are_settled;
 use crate::sight::sight;
+use crate::unsettled::unsettled_count;
 use crate::{ArcsBySilo, Piece};
 use directory_rules::{Act, Reply, Request, Why};
 use grain_table::{HashedRequest, Table};
@@ -44,11 +45,10 @@ pub struct Holding {
 }
 
 impl Model for Holding {
-    ghost use Rattle.directory_rules.specs.Piece.{Holding as HoldingValue};
+    ghost use Rattle.directory_rules.specs.State.{Holding as HoldingValue};
+    ghost use Rattle.grain_partition.specs.Holdings.{IsHolding};
 
     ghost Value = { HoldingValue };
-
-    ghost use Rattle.grain_partition.specs.Holdings.{IsHolding};
 
     ghost view = { λ h. record { seen = h.seen; served = h.served.entries; pieces = h.pieces.entries } };
 
@@ -80,6 +80,13 @@ impl Holding {
         ensures runs { ShowsInOrder (deref_pair {K = ℕ} {X = PieceValue}) }
     {
         self.pieces.iter()
+    }
+
+    /// How many pieces aren't settled. Costs a walk over them.
+    pub fn unsettled_count(&self) -> usize
+        ensures { result ≡ count_by (λ e. not (is_settled e.1.state)) self.now.pieces }
+    {
+        unsettled_count(&self.pieces)
     }
 
     /// The piece that begins at this hash; `None` where none does.

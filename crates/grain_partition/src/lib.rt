@@ -16,6 +16,7 @@ mod seen;
 mod served;
 mod settled;
 mod sight;
+mod unsettled;
 
 pub use by_silo::ArcsBySilo;
 pub use directory_rules::{Act, PieceState, Reply, Request, Why};

@@ -24,7 +24,7 @@ pub struct Piece {
 }
 
 impl Model for Piece {
-    ghost use Rattle.directory_rules.specs.Piece.{Piece as PieceValue};
+    ghost use Rattle.directory_rules.specs.State.{Piece as PieceValue};
 
     ghost Value = { PieceValue };
 

@@ -20,11 +20,13 @@ use Rattle.grain_table.proofs.Order.{hashed_cmp_total}
 use Rattle.grain_table.proofs.ByGrain.{entry_of, found_at}
 
 -- behind the first entries that are hashed in order its grain has none
-pub none_behind : (hashing : Hashing) (e : HashedGrain × ActivationId) (es : Hashed) → AreHashed hashing (e ∷ es) → entry_at e.0.grain (by_grain es) ≡ None
+pub none_behind : (hashing : Hashing) (e : HashedGrain × ActivationId) (es : Hashed) → AreHashed hashing (e ∷ es)
+    → entry_at e.0.grain (by_grain es) ≡ None
 none_behind hashing e es are =
     sym (found_at hashing e.0 es are.keys.0 are.keys.1)
     ∙ ap (option_map (entry_of e.0.grain)) (lookup-none (is_at (hashed_cmp e.0)) es
-    (none_past_head (eq_by_cmp_equiv hashed_cmp_total) e.0 e es (IsDistinct-from_sorted hashed_cmp (keys_of (e ∷ es)) are.in_order) (ap is_eq (tied_itself hashed_cmp_total e.0))))
+    (none_past_head (eq_by_cmp_equiv hashed_cmp_total) e.0 e es (IsDistinct-from_sorted hashed_cmp (keys_of (e ∷ es)) are.in_order)
+    (ap is_eq (tied_itself hashed_cmp_total e.0))))
 
 pub are_behind : (hashing : Hashing) (e : HashedGrain × ActivationId) (es : Hashed) → AreHashed hashing (e ∷ es) → AreHashed hashing es
 are_behind hashing e es are = record { in_order = sorted_tail hashed_cmp e.0 (keys_of es) are.in_order; keys = are.keys.1 }

@@ -21,13 +21,16 @@ module _ {K V : Type 0} (bytes : K → List ℕ) where
   lookup_read x is (e ∷ es) are = λ i. cond (is_eq (keys_order x (bytes e.0) is are.0 i)) (Some e.1) (lookup_read x is es are.1 i)
 
   pub removed_read : (x : List ℕ) → IsKeyBytes x → (es : List (K × V)) → AreKeyBytes bytes es
-      → hashed_in bytes (remove_entry (λ k. is_eq (slice_cmp nat_cmp x (bytes k))) es) ≡ remove_entry (is_at (hashed_cmp (key_in x))) (hashed_in bytes es)
+      → hashed_in bytes (remove_entry (λ k. is_eq (slice_cmp nat_cmp x (bytes k))) es) ≡ remove_entry (is_at (hashed_cmp (key_in x)))
+      (hashed_in bytes es)
   removed_read x is [] are = refl
   removed_read x is (e ∷ es) are =
       by (is_eq (slice_cmp nat_cmp x (bytes e.0))) (remove_entry (λ k. is_eq (slice_cmp nat_cmp x (bytes k))) es)
-      ∙ (λ i. cond (is_eq (keys_order x (bytes e.0) is are.0 i)) (hashed_in bytes es) ((key_in (bytes e.0), e.1) ∷ removed_read x is es are.1 i))
+      ∙ (λ i. cond (is_eq (keys_order x (bytes e.0) is are.0 i)) (hashed_in bytes es)
+      ((key_in (bytes e.0), e.1) ∷ removed_read x is es are.1 i))
     where
-      by : (b : Bool) (rest : List (K × V)) → hashed_in bytes (cond b es (e ∷ rest)) ≡ cond b (hashed_in bytes es) ((key_in (bytes e.0), e.1) ∷ hashed_in bytes rest)
+      by : (b : Bool) (rest : List (K × V)) → hashed_in bytes (cond b es (e ∷ rest)) ≡ cond b (hashed_in bytes es)
+          ((key_in (bytes e.0), e.1) ∷ hashed_in bytes rest)
       by true rest = refl
       by false rest = refl
 
@@ -43,15 +46,18 @@ module _ {K V : Type 0} (bytes : K → List ℕ) where
     abbrev put : List (K × V) → List (K × V)
     put es = insert_entry (λ x y. slice_cmp nat_cmp (bytes x) (bytes y)) es k v
 
-    pub put_read : (es : List (K × V)) → AreKeyBytes bytes es → hashed_in bytes (put es) ≡ insert_entry hashed_cmp (hashed_in bytes es) (key_in (bytes k)) v
+    pub put_read : (es : List (K × V)) → AreKeyBytes bytes es
+        → hashed_in bytes (put es) ≡ insert_entry hashed_cmp (hashed_in bytes es) (key_in (bytes k)) v
     put_read [] are = refl
     put_read (e ∷ es) are =
         by (slice_cmp nat_cmp (bytes k) (bytes e.0)) (put es)
-        ∙ (λ i. match_ordering (keys_order (bytes k) (bytes e.0) is are.0 i) ((key_in (bytes k), v) ∷ hashed_in bytes (e ∷ es)) ((key_in (bytes e.0), v) ∷ hashed_in bytes es)
+        ∙ (λ i. match_ordering (keys_order (bytes k) (bytes e.0) is are.0 i) ((key_in (bytes k), v) ∷ hashed_in bytes (e ∷ es))
+        ((key_in (bytes e.0), v) ∷ hashed_in bytes es)
         ((key_in (bytes e.0), e.1) ∷ put_read es are.1 i))
       where
         by : (o : Ordering) (rest : List (K × V)) → hashed_in bytes (match_ordering o ((k, v) ∷ e ∷ es) ((e.0, v) ∷ es) (e ∷ rest))
-            ≡ match_ordering o ((key_in (bytes k), v) ∷ hashed_in bytes (e ∷ es)) ((key_in (bytes e.0), v) ∷ hashed_in bytes es) ((key_in (bytes e.0), e.1) ∷ hashed_in bytes rest)
+            ≡ match_ordering o ((key_in (bytes k), v) ∷ hashed_in bytes (e ∷ es)) ((key_in (bytes e.0), v) ∷ hashed_in bytes es)
+            ((key_in (bytes e.0), e.1) ∷ hashed_in bytes rest)
         by Less rest = refl
         by Equal rest = refl
         by Greater rest = refl
@@ -60,20 +66,23 @@ module _ {K V : Type 0} (bytes : K → List ℕ) where
     put_are [] are = (is, tt)
     put_are (e ∷ es) are = by (slice_cmp nat_cmp (bytes k) (bytes e.0)) (put_are es are.1)
       where
-        by : (o : Ordering) → AreKeyBytes bytes (put es) → AreKeyBytes bytes (match_ordering o ((k, v) ∷ e ∷ es) ((e.0, v) ∷ es) (e ∷ put es))
+        by : (o : Ordering) → AreKeyBytes bytes (put es)
+            → AreKeyBytes bytes (match_ordering o ((k, v) ∷ e ∷ es) ((e.0, v) ∷ es) (e ∷ put es))
         by Less rest = (is, are)
         by Equal rest = are
         by Greater rest = (are.0, rest)
 
   -- ---- What passes a test.
-  pub passed_read : (p : K × V → Bool) (q : HashedGrain × V → Bool) (es : List (K × V)) → AllByRecursion (λ e. p e ≡ q (key_in (bytes e.0), e.1)) es
+  pub passed_read : (p : K × V → Bool) (q : HashedGrain × V → Bool) (es : List (K × V))
+      → AllByRecursion (λ e. p e ≡ q (key_in (bytes e.0), e.1)) es
       → hashed_in bytes (filter p es) ≡ filter q (hashed_in bytes es)
   passed_read p q [] same = refl
   passed_read p q (e ∷ es) same =
       by (p e) (filter p es)
       ∙ (λ i. cond (same.0 i) ((key_in (bytes e.0), e.1) ∷ passed_read p q es same.1 i) (passed_read p q es same.1 i))
     where
-      by : (b : Bool) (rest : List (K × V)) → hashed_in bytes (cond b (e ∷ rest) rest) ≡ cond b ((key_in (bytes e.0), e.1) ∷ hashed_in bytes rest) (hashed_in bytes rest)
+      by : (b : Bool) (rest : List (K × V)) → hashed_in bytes (cond b (e ∷ rest) rest) ≡ cond b
+          ((key_in (bytes e.0), e.1) ∷ hashed_in bytes rest) (hashed_in bytes rest)
       by true rest = refl
       by false rest = refl
 
@@ -86,6 +95,7 @@ module _ {K V : Type 0} (bytes : K → List ℕ) where
       by false rest = rest
 
   -- what holds of the bytes of each key, of each entry
-  pub each_key : (P : K × V → Type 0) → ((e : K × V) → IsKeyBytes (bytes e.0) → P e) → (es : List (K × V)) → AreKeyBytes bytes es → AllByRecursion P es
+  pub each_key : (P : K × V → Type 0) → ((e : K × V) → IsKeyBytes (bytes e.0) → P e) → (es : List (K × V)) → AreKeyBytes bytes es
+      → AllByRecursion P es
   each_key P so [] are = tt
   each_key P so (e ∷ es) are = (so e are.0, each_key P so es are.1)

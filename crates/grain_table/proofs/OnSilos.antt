@@ -48,33 +48,42 @@ added_among (x ∷ silos) new = by (silo_cmp new x) refl (added_among silos new)
     by Equal is rest = ap (λ r. is_eq r || is_among silos new) is
     by Greater is rest = or_right (is_at (silo_cmp new) x) (is_among (insert_key silo_cmp silos new) new) rest
 
-all_more : (P Q : HashedGrain × ActivationId → Type 0) → ((e : HashedGrain × ActivationId) → P e → Q e) → (es : Hashed) → AllByRecursion P es → AllByRecursion Q es
+all_more : (P Q : HashedGrain × ActivationId → Type 0) → ((e : HashedGrain × ActivationId) → P e → Q e) → (es : Hashed)
+    → AllByRecursion P es → AllByRecursion Q es
 all_more P Q more [] all = tt
 all_more P Q more (e ∷ es) all = (more e all.0, all_more P Q more es all.1)
 
-pub kept_noted : (hashing : Hashing) (silos : List Silo) (new : Silo) (es : Hashed) → AreKept hashing silos es → AreKept hashing (insert_key silo_cmp silos new) es
+pub kept_noted : (hashing : Hashing) (silos : List Silo) (new : Silo) (es : Hashed) → AreKept hashing silos es
+    → AreKept hashing (insert_key silo_cmp silos new) es
 kept_noted hashing silos new es kept = record {
   are = kept.are;
-  on = all_more (λ e. is_among silos e.1.silo ≡ true) (λ e. is_among (insert_key silo_cmp silos new) e.1.silo ≡ true) (λ e among. among_added silos new e.1.silo among) es kept.on;
+  on =
+      all_more (λ e. is_among silos e.1.silo ≡ true) (λ e. is_among (insert_key silo_cmp silos new) e.1.silo ≡ true)
+      (λ e among. among_added silos new e.1.silo among) es kept.on;
 }
 
-pub kept_put : (hashing : Hashing) (silos : List Silo) (key : HashedGrain) (activation : ActivationId) (es : Hashed) → IsKeyOf hashing key → AreKept hashing silos es
+pub kept_put : (hashing : Hashing) (silos : List Silo) (key : HashedGrain) (activation : ActivationId) (es : Hashed) → IsKeyOf hashing key
+    → AreKept hashing silos es
     → AreKept hashing (insert_key silo_cmp silos activation.silo) (insert_entry hashed_cmp es key activation)
 kept_put hashing silos key activation es is kept =
     let noted = kept_noted hashing silos activation.silo es kept in
     record {
       are = hashed_put hashing key activation es is kept.are;
-      on = all_insert hashed_cmp (λ e. is_among (insert_key silo_cmp silos activation.silo) e.1.silo ≡ true) hashed_cmp_exact key activation es (added_among silos activation.silo) noted.on;
+      on =
+          all_insert hashed_cmp (λ e. is_among (insert_key silo_cmp silos activation.silo) e.1.silo ≡ true) hashed_cmp_exact key activation
+          es (added_among silos activation.silo) noted.on;
     }
 
-pub kept_taken : (hashing : Hashing) (silos : List Silo) (test : HashedGrain → Bool) (es : Hashed) → AreKept hashing silos es → AreKept hashing silos (remove_entry test es)
+pub kept_taken : (hashing : Hashing) (silos : List Silo) (test : HashedGrain → Bool) (es : Hashed) → AreKept hashing silos es
+    → AreKept hashing silos (remove_entry test es)
 kept_taken hashing silos test es kept = record {
   are = hashed_taken hashing test es kept.are;
   on = all_without test (λ e. is_among silos e.1.silo ≡ true) es kept.on;
 }
 
 -- ---- Those that pass.
-pub kept_some : (hashing : Hashing) (silos : List Silo) (q : HashedGrain × ActivationId → Bool) (es : Hashed) → AreKept hashing silos es → AreKept hashing silos (filter q es)
+pub kept_some : (hashing : Hashing) (silos : List Silo) (q : HashedGrain × ActivationId → Bool) (es : Hashed) → AreKept hashing silos es
+    → AreKept hashing silos (filter q es)
 kept_some hashing silos q es kept = record {
   are = passed_are_hashed hashing q es kept.are;
   on = all_passed q (λ e. is_among silos e.1.silo ≡ true) es kept.on;
@@ -86,7 +95,8 @@ module _ (p : Silo → Bool) where
   among_passed (x ∷ silos) silo passes among = by (is_at (silo_cmp silo) x) refl (p x) refl among (among_passed silos silo passes)
     where
       by : (a : Bool) → is_at (silo_cmp silo) x ≡ a → (b : Bool) → p x ≡ b → (a || is_among silos silo) ≡ true
-          → (is_among silos silo ≡ true → is_among (filter p silos) silo ≡ true) → is_among (cond b (x ∷ filter p silos) (filter p silos)) silo ≡ true
+          → (is_among silos silo ≡ true → is_among (filter p silos) silo ≡ true)
+          → is_among (cond b (x ∷ filter p silos) (filter p silos)) silo ≡ true
       by true at true is some rest = ap (λ a. a || is_among (filter p silos) silo) at
       by true at false is some rest =
           absurd (let no : false ≡ true = sym is ∙ ap p (sym (silo_cmp_exact silo x (Equal-from (silo_cmp silo x) at))) ∙ passes in cc)
@@ -99,11 +109,13 @@ module _ (p : Silo → Bool) where
   on_passed silos (e ∷ es) on = by (p e.1.silo) refl (on_passed silos es on.1)
     where
       by : (b : Bool) → p e.1.silo ≡ b → AllByRecursion (λ e. is_among (filter p silos) e.1.silo ≡ true) (filter (λ e. p e.1.silo) es)
-          → AllByRecursion (λ e. is_among (filter p silos) e.1.silo ≡ true) (cond b (e ∷ filter (λ e. p e.1.silo) es) (filter (λ e. p e.1.silo) es))
+          → AllByRecursion (λ e. is_among (filter p silos) e.1.silo ≡ true)
+          (cond b (e ∷ filter (λ e. p e.1.silo) es) (filter (λ e. p e.1.silo) es))
       by true is rest = (among_passed silos e.1.silo is on.0, rest)
       by false is rest = rest
 
-  pub kept_passed : (hashing : Hashing) (silos : List Silo) (es : Hashed) → AreKept hashing silos es → AreKept hashing (filter p silos) (filter (λ e. p e.1.silo) es)
+  pub kept_passed : (hashing : Hashing) (silos : List Silo) (es : Hashed) → AreKept hashing silos es
+      → AreKept hashing (filter p silos) (filter (λ e. p e.1.silo) es)
   kept_passed hashing silos es kept = record {
     are = passed_are_hashed hashing (λ e. p e.1.silo) es kept.are;
     on = on_passed silos es kept.on;
@@ -115,17 +127,20 @@ module _ (dead : Silo → Bool) where
   none_among [] silo none among = absurd (let no : false ≡ true = among in cc)
   none_among (x ∷ silos) silo none among = by (is_at (silo_cmp silo) x) refl (dead x) refl none among (none_among silos silo)
     where
-      by : (a : Bool) → is_at (silo_cmp silo) x ≡ a → (b : Bool) → dead x ≡ b → (b || list_any dead silos) ≡ false → (a || is_among silos silo) ≡ true
+      by : (a : Bool) → is_at (silo_cmp silo) x ≡ a → (b : Bool) → dead x ≡ b → (b || list_any dead silos) ≡ false
+          → (a || is_among silos silo) ≡ true
           → (list_any dead silos ≡ false → is_among silos silo ≡ true → dead silo ≡ false) → dead silo ≡ false
       by a at true is none some rest = absurd (let no : true ≡ false = none in cc)
       by true at false is none some rest = ap dead (silo_cmp_exact silo x (Equal-from (silo_cmp silo x) at)) ∙ is
       by false at false is none some rest = rest none some
 
-  pub all_living : (silos : List Silo) → list_any dead silos ≡ false → (es : Hashed) → AllByRecursion (λ e. is_among silos e.1.silo ≡ true) es → es ≡ filter (λ e. not (dead e.1.silo)) es
+  pub all_living : (silos : List Silo) → list_any dead silos ≡ false → (es : Hashed)
+      → AllByRecursion (λ e. is_among silos e.1.silo ≡ true) es → es ≡ filter (λ e. not (dead e.1.silo)) es
   all_living silos none [] on = refl
   all_living silos none (e ∷ es) on =
       ap (λ l. e ∷ l) (all_living silos none es on.1)
-      ∙ sym (ap (λ b. cond (not b) (e ∷ filter (λ e. not (dead e.1.silo)) es) (filter (λ e. not (dead e.1.silo)) es)) (none_among silos e.1.silo none on.0))
+      ∙ sym (ap (λ b. cond (not b) (e ∷ filter (λ e. not (dead e.1.silo)) es) (filter (λ e. not (dead e.1.silo)) es))
+      (none_among silos e.1.silo none on.0))
 
 -- ---- Nothing yet.
 pub kept_nothing : (hashing : Hashing) (silos : List Silo) → AreKept hashing silos []

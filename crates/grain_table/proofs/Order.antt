@@ -49,10 +49,12 @@ by_first Greater Equal tied = let no : Greater ≡ Equal = tied refl in cc
 by_first Greater Greater tied = refl
 
 -- among keys a grain is found by its key just where it is found by itself
-pub at_key : (hashing : Hashing) (grain : Grain) (key : HashedGrain) → key.hash ≡ hash_grain hashing key.grain → is_at (hashed_cmp (key_of hashing grain)) key ≡ is_at (grain_cmp grain) key.grain
+pub at_key : (hashing : Hashing) (grain : Grain) (key : HashedGrain) → key.hash ≡ hash_grain hashing key.grain
+    → is_at (hashed_cmp (key_of hashing grain)) key ≡ is_at (grain_cmp grain) key.grain
 at_key hashing grain key is =
     by_first (nat_cmp (hash_grain hashing grain) key.hash) (text_cmp grain key.grain)
     (λ tied. ap (λ h. nat_cmp (hash_grain hashing grain) h) (is ∙ ap (hash_grain hashing) (sym (text_cmp_exact grain key.grain tied)))
     ∙ tied_itself nat_cmp_total (hash_grain hashing grain))
     ∙ by_first (slice_cmp nat_cmp (grain_text grain) (grain_text key.grain)) (grain_cmp grain key.grain)
-    (λ tied. ap (λ g. slice_cmp nat_cmp (grain_text grain) (grain_text g)) (sym (grain_cmp_exact grain key.grain tied)) ∙ tied_itself nat_list_cmp_total (grain_text grain))
+    (λ tied. ap (λ g. slice_cmp nat_cmp (grain_text grain) (grain_text g)) (sym (grain_cmp_exact grain key.grain tied))
+    ∙ tied_itself nat_list_cmp_total (grain_text grain))

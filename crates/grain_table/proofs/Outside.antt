@@ -15,7 +15,8 @@ use Rattle.texts.proofs.Decided.{both}
 use Rattle.ring_range.specs.Range.{Range, IsRange, circle, holds}
 use Rattle.hash_ring.specs.declared.Hashing.{Hashing}
 use Rattle.hash_ring.specs.Hash.{hash_grain}
-use Rattle.directory_rules.specs.Table.{Table, entries_of, entry_at, lie_in}
+use Rattle.directory_rules.specs.State.{Table}
+use Rattle.directory_rules.specs.Table.{entries_of, entry_at, lie_in}
 use Rattle.grain_table.specs.declared.hashed_grain.HashedGrain.{HashedGrain}
 use Rattle.grain_table.specs.Hashed.{AreHashed, Hashed, by_grain, entry_under}
 use Rattle.grain_table.specs.Stretch.{is_between}
@@ -35,15 +36,18 @@ all_inserted q grain entry [] absent = refl
 all_inserted q grain entry (e ∷ es) absent = by (grain_cmp grain e.0) absent (all_inserted q grain entry es)
   where
     by : (r : Ordering) → cond (is_eq r) (Some e.1) (lookup (is_at (grain_cmp grain)) es) ≡ None
-        → (entry_at grain es ≡ None → list_all q (entries_of (insert_entry grain_cmp es grain entry)) ≡ (q entry && list_all q (entries_of es)))
-        → list_all q (entries_of (match_ordering r ((grain, entry) ∷ e ∷ es) ((e.0, entry) ∷ es) (e ∷ insert_entry grain_cmp es grain entry)))
+        → (entry_at grain es ≡ None → list_all q (entries_of (insert_entry grain_cmp es grain entry))
+        ≡ (q entry && list_all q (entries_of es)))
+        → list_all q (entries_of (match_ordering r ((grain, entry) ∷ e ∷ es) ((e.0, entry) ∷ es)
+        (e ∷ insert_entry grain_cmp es grain entry)))
         ≡ (q entry && (q e.1 && list_all q (entries_of es)))
     by Less absent later = refl
     by Equal absent later = absurd (let no : Some e.1 ≡ None = absent in cc)
     by Greater absent later = ap (λ b. q e.1 && b) (later absent) ∙ swap (q e.1) (q entry) (list_all q (entries_of es))
 
 -- it is the same in the order of hashes and in that of grains
-pub each_grain : (hashing : Hashing) (q : Grain → Bool) (es : Hashed) → AreHashed hashing es → list_all (λ e. q e.grain) (entries_of (by_grain es)) ≡ list_all (λ e. q e.0.grain) es
+pub each_grain : (hashing : Hashing) (q : Grain → Bool) (es : Hashed) → AreHashed hashing es
+    → list_all (λ e. q e.grain) (entries_of (by_grain es)) ≡ list_all (λ e. q e.0.grain) es
 each_grain hashing q [] are = refl
 each_grain hashing q (e ∷ es) are =
     all_inserted (λ x. q x.grain) e.0.grain (entry_under e) (by_grain es) (none_behind hashing e es are)
@@ -57,7 +61,8 @@ each_by_grain hashing p (e ∷ es) are =
     ∙ (λ i. p (sym are.keys.0.hash_is i) && each_by_grain hashing p es (are_behind hashing e es are) i)
 
 -- where all lie in a range, none is outside
-pub all_lie : (hashing : Hashing) (range : Range) (table : Table) → AllByRecursion (λ e. e.1.grain ≡ e.0) table → lie_in hashing range (entries_of table) ≡ true
+pub all_lie : (hashing : Hashing) (range : Range) (table : Table) → AllByRecursion (λ e. e.1.grain ≡ e.0) table
+    → lie_in hashing range (entries_of table) ≡ true
     → filter (λ e. holds range (hash_grain hashing e.0)) table ≡ table
 all_lie hashing range [] under lie = refl
 all_lie hashing range (e ∷ es) under lie =
@@ -72,7 +77,8 @@ module _ {X : Type 0} (p : X → Bool) where
   none_passes [] none = refl
   none_passes (x ∷ xs) none = by (p x) none (none_passes xs)
     where
-      by : (b : Bool) → cond b (x ∷ filter p xs) (filter p xs) ≡ [] → (filter p xs ≡ [] → list_all (λ x. not (p x)) xs ≡ true) → (not b && list_all (λ x. not (p x)) xs) ≡ true
+      by : (b : Bool) → cond b (x ∷ filter p xs) (filter p xs) ≡ [] → (filter p xs ≡ [] → list_all (λ x. not (p x)) xs ≡ true)
+          → (not b && list_all (λ x. not (p x)) xs) ≡ true
       by true none rest = absurd (let no : x ∷ filter p xs ≡ [] = none in cc)
       by false none rest = rest none
 
@@ -80,14 +86,17 @@ module _ {X : Type 0} (p : X → Bool) where
   one_passes one more [] some = absurd (let no : [] ≡ one ∷ more = some in cc)
   one_passes one more (x ∷ xs) some = by (p x) some (one_passes one more xs)
     where
-      by : (b : Bool) → cond b (x ∷ filter p xs) (filter p xs) ≡ one ∷ more → (filter p xs ≡ one ∷ more → list_all (λ x. not (p x)) xs ≡ false)
+      by : (b : Bool) → cond b (x ∷ filter p xs) (filter p xs) ≡ one ∷ more
+          → (filter p xs ≡ one ∷ more → list_all (λ x. not (p x)) xs ≡ false)
           → (not b && list_all (λ x. not (p x)) xs) ≡ false
       by true some rest = refl
       by false some rest = rest some
 
 pub none_there : (hashing : Hashing) (first end : ℕ) (es : Hashed) → AreHashed hashing es → passed (is_between first end) es ≡ []
     → list_all (λ e. not (is_between first end (hash_grain hashing e.grain))) (entries_of (by_grain es)) ≡ true
-none_there hashing first end es are none = each_by_grain hashing (λ h. not (is_between first end h)) es are ∙ none_passes (λ (e : HashedGrain × ActivationId). is_between first end e.0.hash) es none
+none_there hashing first end es are none =
+    each_by_grain hashing (λ h. not (is_between first end h)) es are
+    ∙ none_passes (λ (e : HashedGrain × ActivationId). is_between first end e.0.hash) es none
 
 -- ---- What stands outside a range.
 all_true : (p : Entry → Bool) → ((e : Entry) → p e ≡ true) → (entries : List Entry) → list_all p entries ≡ true
@@ -104,9 +113,11 @@ four true true false d = refl
 four true false false d = refl
 four false b c d = refl
 
-all_both : (p q r : Entry → Bool) → ((e : Entry) → (p e && q e) ≡ r e) → (entries : List Entry) → (list_all p entries && list_all q entries) ≡ list_all r entries
+all_both : (p q r : Entry → Bool) → ((e : Entry) → (p e && q e) ≡ r e) → (entries : List Entry)
+    → (list_all p entries && list_all q entries) ≡ list_all r entries
 all_both p q r each [] = refl
-all_both p q r each (e ∷ entries) = four (p e) (list_all p entries) (q e) (list_all q entries) ∙ (λ i. each e i && all_both p q r each entries i)
+all_both p q r each (e ∷ entries) =
+    four (p e) (list_all p entries) (q e) (list_all q entries) ∙ (λ i. each e i && all_both p q r each entries i)
 
 tests_two : (range : Range) (hash : ℕ) → IsRange range → range.start + range.size ≤ circle → hash < circle
     → (not (is_between 0 range.start hash) && not (is_between (range.start + range.size) circle hash)) ≡ holds range hash
@@ -121,7 +132,8 @@ module _ (hashing : Hashing) (entries : List Entry) where
   none first end = list_all (λ e. not (is_between first end (hash_grain hashing e.grain))) entries
 
   pub none_in_nothing : (first end : ℕ) → end ≤ first → none first end ≡ true
-  none_in_nothing first end le = all_true (λ e. not (is_between first end (hash_grain hashing e.grain))) (λ e. empty (hash_grain hashing e.grain)) entries
+  none_in_nothing first end le =
+      all_true (λ e. not (is_between first end (hash_grain hashing e.grain))) (λ e. empty (hash_grain hashing e.grain)) entries
     where
       empty : (hash : ℕ) → not (is_between first end hash) ≡ true
       empty hash = grind (arith, nat_tests)
@@ -130,8 +142,10 @@ module _ (hashing : Hashing) (entries : List Entry) where
     pub two_outside : end ≤ circle → (none 0 start && none end circle) ≡ lie_in hashing range entries
     two_outside fits =
         (λ i. none 0 (starts i) && none (ends i) circle)
-        ∙ all_both (λ e. not (is_between 0 range.start (hash_grain hashing e.grain))) (λ e. not (is_between (range.start + range.size) circle (hash_grain hashing e.grain)))
-        (λ e. holds range (hash_grain hashing e.grain)) (λ e. tests_two range (hash_grain hashing e.grain) is (omega (arith, ends, fits)) (grain_below hashing e.grain)) entries
+        ∙ all_both (λ e. not (is_between 0 range.start (hash_grain hashing e.grain)))
+        (λ e. not (is_between (range.start + range.size) circle (hash_grain hashing e.grain)))
+        (λ e. holds range (hash_grain hashing e.grain))
+        (λ e. tests_two range (hash_grain hashing e.grain) is (omega (arith, ends, fits)) (grain_below hashing e.grain)) entries
 
     pub one_outside : (low : ℕ) → low + circle ≡ end → none low start ≡ lie_in hashing range entries
     one_outside low lower =
@@ -140,7 +154,8 @@ module _ (hashing : Hashing) (entries : List Entry) where
         (λ e. tests_one range low (hash_grain hashing e.grain) is (omega (arith, ends, lower)) (grain_below hashing e.grain)) entries
 
 -- the first that passes tells whether any does
-pub told_by_first : {X : Type 0} (p : X → Bool) (xs passing rest : List X) (one : Option X) (none : Bool) → is_some one ≡ not none → passing ≡ filter p xs
+pub told_by_first : {X : Type 0} (p : X → Bool) (xs passing rest : List X) (one : Option X) (none : Bool) → is_some one ≡ not none
+    → passing ≡ filter p xs
     → MatchOption one ((passing ≡ []) × (rest ≡ [])) (λ x. passing ≡ x ∷ rest) → none ≡ list_all (λ x. not (p x)) xs
 told_by_first p xs passing rest None true tells is taken = sym (none_passes p xs (sym is ∙ taken.0))
 told_by_first p xs passing rest None false tells is taken = cc

@@ -16,7 +16,8 @@ use Rattle.silo_address.specs.declared.Entry.{Entry}
 use Rattle.silo_address.proofs.Order.{grain_cmp_total, grain_cmp_exact}
 use Rattle.texts.proofs.Entries.{lookup-insert_entry}
 use Rattle.hash_ring.specs.declared.Hashing.{Hashing}
-use Rattle.directory_rules.specs.Table.{Table, entries_of, entry_at, table_of, with_entry}
+use Rattle.directory_rules.specs.State.{Table}
+use Rattle.directory_rules.specs.Table.{entries_of, entry_at, table_of, with_entry}
 use Rattle.grain_table.specs.Hashed.{AreHashed, Hashed, by_grain, entry_under}
 use Rattle.grain_table.proofs.ByGrain.{IsTable, by_grain_is_table, nothing_is_table, same_tables, with_entry_is_table}
 use Rattle.grain_table.proofs.Count.{are_behind, none_behind}
@@ -38,11 +39,13 @@ found_put grain table (entry ∷ entries) once =
     ∙ ap (option_or (entry_at grain (table_of entries))) (lookup-insert_entry grain_cmp_total entry.grain entry grain table)
     ∙ by (is_at (grain_cmp grain) entry.grain) refl
   where
-    by : (b : Bool) → is_at (grain_cmp grain) entry.grain ≡ b → option_or (entry_at grain (table_of entries)) (cond b (Some entry) (entry_at grain table))
+    by : (b : Bool) → is_at (grain_cmp grain) entry.grain ≡ b
+        → option_or (entry_at grain (table_of entries)) (cond b (Some entry) (entry_at grain table))
         ≡ option_or (cond b (Some entry) (entry_at grain (table_of entries))) (entry_at grain table)
     by true at =
         ap (λ o. option_or o (Some entry))
-        (subst (λ g. entry_at g (table_of entries) ≡ None) (sym (grain_cmp_exact grain entry.grain (Equal-from (grain_cmp grain entry.grain) at))) once.0)
+        (subst (λ g. entry_at g (table_of entries) ≡ None)
+        (sym (grain_cmp_exact grain entry.grain (Equal-from (grain_cmp grain entry.grain) at))) once.0)
     by false at = refl
 
 pub put_in_is_table : (table : Table) (entries : List Entry) → IsTable table → IsTable (put_in table entries)
@@ -66,12 +69,16 @@ table_once (e ∷ es) is = (
   ap (entry_at e.1.grain) (table_again es (table_tail e es is))
       ∙ ap (λ g. entry_at g es) is.under.0
       ∙ lookup-none (is_at (grain_cmp e.0)) es
-      (none_past_head (eq_by_cmp_equiv grain_cmp_total) e.0 e es (IsDistinct-from_sorted grain_cmp (keys_of (e ∷ es)) is.in_order) (ap is_eq (tied_itself grain_cmp_total e.0))),
+      (none_past_head (eq_by_cmp_equiv grain_cmp_total) e.0 e es (IsDistinct-from_sorted grain_cmp (keys_of (e ∷ es)) is.in_order)
+      (ap is_eq (tied_itself grain_cmp_total e.0))),
   table_once es (table_tail e es is),
 )
 
-pub found_all : (grain : Grain) (table other : Table) → IsTable other → entry_at grain (put_in table (entries_of other)) ≡ option_or (entry_at grain other) (entry_at grain table)
-found_all grain table other is = found_put grain table (entries_of other) (table_once other is) ∙ ap (λ t. option_or (entry_at grain t) (entry_at grain table)) (table_again other is)
+pub found_all : (grain : Grain) (table other : Table) → IsTable other
+    → entry_at grain (put_in table (entries_of other)) ≡ option_or (entry_at grain other) (entry_at grain table)
+found_all grain table other is =
+    found_put grain table (entries_of other) (table_once other is)
+    ∙ ap (λ t. option_or (entry_at grain t) (entry_at grain table)) (table_again other is)
 
 -- ---- What stands under hashed grains comes once.
 abbrev pub entries_under : Hashed → List Entry
@@ -85,12 +92,14 @@ found_under grain (e ∷ es) =
 
 pub hashed_once : (hashing : Hashing) (es : Hashed) → AreHashed hashing es → IsOnce (entries_under es)
 hashed_once hashing [] are = tt
-hashed_once hashing (e ∷ es) are = (found_under e.0.grain es ∙ none_behind hashing e es are, hashed_once hashing es (are_behind hashing e es are))
+hashed_once hashing (e ∷ es) are =
+    (found_under e.0.grain es ∙ none_behind hashing e es are, hashed_once hashing es (are_behind hashing e es are))
 
 pub found_hashed : (hashing : Hashing) (grain : Grain) (table : Table) (es : Hashed) → AreHashed hashing es
     → entry_at grain (put_in table (entries_under es)) ≡ option_or (entry_at grain (by_grain es)) (entry_at grain table)
 found_hashed hashing grain table es are =
-    found_put grain table (entries_under es) (hashed_once hashing es are) ∙ ap (λ o. option_or o (entry_at grain table)) (found_under grain es)
+    found_put grain table (entries_under es) (hashed_once hashing es are)
+    ∙ ap (λ o. option_or o (entry_at grain table)) (found_under grain es)
 
 -- it is the same to put them in by hash and by grain
 pub put_by_hash : (hashing : Hashing) (table : Table) (es : Hashed) → IsTable table → AreHashed hashing es

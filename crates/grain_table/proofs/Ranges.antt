@@ -11,7 +11,8 @@ use Rattle.std.proofs.lemmas.Cmp.{ranked}
 use Rattle.std.proofs.lemmas.Map.Keys.{sorted_head}
 use Rattle.ring_range.specs.Range.{Range, IsRange, circle, holds}
 use Rattle.hash_ring.specs.declared.Hashing.{Hashing}
-use Rattle.directory_rules.specs.Table.{Table, with_entry}
+use Rattle.directory_rules.specs.State.{Table}
+use Rattle.directory_rules.specs.Table.{with_entry}
 use Rattle.grain_table.specs.declared.hashed_grain.HashedGrain.{HashedGrain}
 use Rattle.grain_table.specs.Hashed.{AreHashed, Hashed, IsKeyOf, entry_under, hashed_cmp, text_cmp}
 use Rattle.grain_table.specs.Stretch.{is_between}
@@ -23,19 +24,23 @@ abbrev pub passed : (ℕ → Bool) → Hashed → Hashed
 passed p es = filter (λ e. p e.0.hash) es
 
 -- what keeps of keys, kept of what stands under them
-pub under_keys : (hashing : Hashing) (P : HashedGrain → Type 0) → ((key : HashedGrain) → IsKeyOf hashing key → P key) → (es : Hashed) → AllByRecursion (IsKeyOf hashing) (keys_of es)
+pub under_keys : (hashing : Hashing) (P : HashedGrain → Type 0) → ((key : HashedGrain) → IsKeyOf hashing key → P key) → (es : Hashed)
+    → AllByRecursion (IsKeyOf hashing) (keys_of es)
     → AllByRecursion (λ e. P e.0) es
 under_keys hashing P each [] all = tt
 under_keys hashing P each (e ∷ es) all = (each e.0 all.0, under_keys hashing P each es all.1)
 
-one_test : (range : Range) (hash : ℕ) → IsRange range → range.start + range.size ≤ circle → hash < circle → is_between range.start (range.start + range.size) hash ≡ holds range hash
+one_test : (range : Range) (hash : ℕ) → IsRange range → range.start + range.size ≤ circle → hash < circle
+    → is_between range.start (range.start + range.size) hash ≡ holds range hash
 one_test range hash is fits below = let start = is.start_below in let size = is.size_within in grind (arith, nat_tests)
 
-pub one_stretch : (hashing : Hashing) (range : Range) (es : Hashed) → AreHashed hashing es → IsRange range → range.start + range.size ≤ circle
+pub one_stretch : (hashing : Hashing) (range : Range) (es : Hashed) → AreHashed hashing es → IsRange range
+    → range.start + range.size ≤ circle
     → passed (is_between range.start (range.start + range.size)) es ≡ passed (holds range) es
 one_stretch hashing range es are is fits =
     same_passed (λ e. is_between range.start (range.start + range.size) e.0.hash) (λ e. holds range e.0.hash) es
-    (under_keys hashing (λ key. is_between range.start (range.start + range.size) key.hash ≡ holds range key.hash) (λ key of. one_test range key.hash is fits of.below) es are.keys)
+    (under_keys hashing (λ key. is_between range.start (range.start + range.size) key.hash ≡ holds range key.hash)
+    (λ key of. one_test range key.hash is fits of.below) es are.keys)
 
 -- ---- A range that goes on over 0.
 not_less : (a b : ℕ) (r : Ordering) → ordering_then (nat_cmp a b) r ≡ Less → a ≤ b
@@ -53,7 +58,8 @@ module _ (range : Range) (low : ℕ) (is : IsRange range) (ends : range.start + 
   abbrev second : ℕ → Bool
   second hash = is_between range.start circle hash
 
-  none_later : (key : HashedGrain) → low ≤ key.hash → (es : Hashed) → AllByRecursion (λ k. hashed_cmp key k ≡ Less) (keys_of es) → passed first es ≡ []
+  none_later : (key : HashedGrain) → low ≤ key.hash → (es : Hashed) → AllByRecursion (λ k. hashed_cmp key k ≡ Less) (keys_of es)
+      → passed first es ≡ []
   none_later key le [] above = refl
   none_later key le (e ∷ es) above =
       let later = not_less key.hash e.0.hash (text_cmp key.grain e.0.grain) above.0 in
@@ -71,11 +77,13 @@ module _ (range : Range) (low : ℕ) (is : IsRange range) (ends : range.start + 
   high : (hash : ℕ) → second hash ≡ true → low ≤ hash
   high hash other = let start = is.start_below in let size = is.size_within in grind (arith, nat_tests)
 
-  pub both_stretches : (hashing : Hashing) (es : Hashed) → AreHashed hashing es → passed first es ++ passed second es ≡ passed (holds range) es
+  pub both_stretches : (hashing : Hashing) (es : Hashed) → AreHashed hashing es
+      → passed first es ++ passed second es ≡ passed (holds range) es
   both_stretches hashing [] are = refl
   both_stretches hashing (e ∷ es) are =
       by (first e.0.hash) (second e.0.hash) refl refl (both_stretches hashing es (are_behind hashing e es are))
-      ∙ ap (λ b. cond b (e ∷ passed (holds range) es) (passed (holds range) es)) (sym (two_tests e.0.hash are.keys.0.below (first e.0.hash) (second e.0.hash) refl refl))
+      ∙ ap (λ b. cond b (e ∷ passed (holds range) es) (passed (holds range) es))
+      (sym (two_tests e.0.hash are.keys.0.below (first e.0.hash) (second e.0.hash) refl refl))
     where
       by : (a b : Bool) → first e.0.hash ≡ a → second e.0.hash ≡ b → passed first es ++ passed second es ≡ passed (holds range) es
           → cond a (e ∷ passed first es) (passed first es) ++ cond b (e ∷ passed second es) (passed second es)
@@ -87,10 +95,13 @@ module _ (range : Range) (low : ℕ) (is : IsRange range) (ends : range.start + 
           ap (λ l. l ++ e ∷ passed second es) none ∙ ap (λ l. e ∷ l) (ap (λ l. l ++ passed second es) (sym none) ∙ rest)
       by false false one other rest = rest
 
-  put_both : (table : Table) (es others : Hashed) → put_in table (entries_under (es ++ others)) ≡ put_in (put_in table (entries_under es)) (entries_under others)
+  put_both : (table : Table) (es others : Hashed) → put_in table (entries_under (es ++ others)) ≡ put_in (put_in table (entries_under es))
+      (entries_under others)
   put_both table [] others = refl
   put_both table (e ∷ es) others = put_both (with_entry table (entry_under e)) es others
 
   pub two_stretches : (hashing : Hashing) (table : Table) (es : Hashed) → AreHashed hashing es
-      → put_in (put_in table (entries_under (passed (is_between 0 low) es))) (entries_under (passed (is_between range.start circle) es)) ≡ put_in table (entries_under (passed (holds range) es))
-  two_stretches hashing table es are = sym (put_both table (passed first es) (passed second es)) ∙ ap (λ l. put_in table (entries_under l)) (both_stretches hashing es are)
+      → put_in (put_in table (entries_under (passed (is_between 0 low) es))) (entries_under (passed (is_between range.start circle) es))
+      ≡ put_in table (entries_under (passed (holds range) es))
+  two_stretches hashing table es are =
+      sym (put_both table (passed first es) (passed second es)) ∙ ap (λ l. put_in table (entries_under l)) (both_stretches hashing es are)

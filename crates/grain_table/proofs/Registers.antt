@@ -4,7 +4,8 @@ use Rattle.silo_address.specs.Activation.{activation_eq}
 use Rattle.silo_address.specs.declared.ActivationId.{ActivationId}
 use Rattle.silo_address.specs.declared.Entry.{Entry}
 use Rattle.directory_rules.specs.declared.reply.Reply.TheVariants.{Registered, Taken}
-use Rattle.directory_rules.specs.Table.{Table, with_entry}
+use Rattle.directory_rules.specs.State.{Table}
+use Rattle.directory_rules.specs.Table.{with_entry}
 use Rattle.directory_rules.specs.Answer.{Turned, is_previous, registered_over}
 
 abbrev made : (same before : Bool) → Entry → Entry → Table → Turned

@@ -51,25 +51,33 @@ module _ {K : Type 0} (bytes : K → List ℕ) where
 
   before_end : (end : ℕ) (x : List ℕ) → IsKeyBytes x → not (is_past_end (slice_cmp nat_cmp) (end_at end) x) ≡ nat_lt (hash_in x) end
   before_end end x is =
-      on_bool (λ b. nat_lt end circle ≡ b → not (is_past_end (slice_cmp nat_cmp) (cond b (Excluded (to_be_bytes w32 end)) Unbounded) x) ≡ nat_lt (hash_in x) end) (nat_lt end circle)
-      (λ t h. let fits : end < 2 ^ 32 = grind (arith, nat_tests) in ap (λ o. not (is_le o)) (hash_order end fits x is) ∙ ap not (le_less end (hash_in x)) ∙ not_le end (hash_in x))
+      on_bool (λ b. nat_lt end circle ≡ b → not (is_past_end (slice_cmp nat_cmp) (cond b (Excluded (to_be_bytes w32 end)) Unbounded) x)
+      ≡ nat_lt (hash_in x) end) (nat_lt end circle)
+      (λ t h. let fits : end < 2 ^ 32 = grind (arith, nat_tests) in ap (λ o. not (is_le o)) (hash_order end fits x is)
+      ∙ ap not (le_less end (hash_in x)) ∙ not_le end (hash_in x))
       (λ f h. let below = hash_below x is in grind (arith, nat_tests)) refl
 
-  module _ (first end : ℕ) (fits : first < 2 ^ 32) (start : K) (bound : Bound K) (starts : bytes start ≡ to_be_bytes w32 first) (ends : bound_map bytes bound ≡ end_at end) where
-    stands_between : (k : K) → IsKeyBytes (bytes k) → range_contains key_cmp (Included start) bound k ≡ is_between first end (hash_in (bytes k))
+  module _ (first end : ℕ) (fits : first < 2 ^ 32) (start : K) (bound : Bound K) (starts : bytes start ≡ to_be_bytes w32 first)
+      (ends : bound_map bytes bound ≡ end_at end) where
+    stands_between : (k : K) → IsKeyBytes (bytes k) → range_contains key_cmp (Included start) bound k ≡ is_between first end
+        (hash_in (bytes k))
     stands_between k is = λ i. from i && to i
       where
         from : is_le (slice_cmp nat_cmp (bytes start) (bytes k)) ≡ nat_le first (hash_in (bytes k))
-        from = ap (λ x. is_le (slice_cmp nat_cmp x (bytes k))) starts ∙ ap is_le (hash_order first fits (bytes k) is) ∙ le_less first (hash_in (bytes k))
+        from =
+            ap (λ x. is_le (slice_cmp nat_cmp x (bytes k))) starts ∙ ap is_le (hash_order first fits (bytes k) is)
+            ∙ le_less first (hash_in (bytes k))
 
         to : not (is_past_end key_cmp bound k) ≡ nat_lt (hash_in (bytes k)) end
         to = ap not (past_end bound k ∙ ap (λ b. is_past_end (slice_cmp nat_cmp) b (bytes k)) ends) ∙ before_end end (bytes k) is
 
     pub stretch_read : {V : Type 0} (es : List (K × V)) → AreKeyBytes bytes es
-        → hashed_in bytes (filter (λ e. range_contains key_cmp (Included start) bound e.0) es) ≡ filter (λ e. is_between first end e.0.hash) (hashed_in bytes es)
+        → hashed_in bytes (filter (λ e. range_contains key_cmp (Included start) bound e.0) es) ≡ filter (λ e. is_between first end e.0.hash)
+        (hashed_in bytes es)
     stretch_read es are =
         passed_read bytes (λ e. range_contains key_cmp (Included start) bound e.0) (λ e. is_between first end e.0.hash) es
-        (each_key bytes (λ e. range_contains key_cmp (Included start) bound e.0 ≡ is_between first end (hash_in (bytes e.0))) (λ e is. stands_between e.0 is) es are)
+        (each_key bytes (λ e. range_contains key_cmp (Included start) bound e.0 ≡ is_between first end (hash_in (bytes e.0)))
+        (λ e is. stands_between e.0 is) es are)
 
   -- all stand between no bounds
   pub all_stand : {V : Type 0} (es : List (K × V)) → filter (λ e. range_contains key_cmp Unbounded Unbounded e.0) es ≡ es
@@ -77,23 +85,29 @@ module _ {K : Type 0} (bytes : K → List ℕ) where
   all_stand (e ∷ es) = ap (λ l. e ∷ l) (all_stand es)
 
   -- ---- What is split off stands under the hash or higher ones.
-  module _ {T E V : Type 0} (r : Result T E) (hash : ℕ) (fits : hash < 2 ^ 32) (x : List ℕ) (spelled : x ≡ to_be_bytes w32 hash) (old new : List (K × V))
-      (below : OnOk r (new ≡ filter (λ e. is_gt (slice_cmp nat_cmp x (bytes e.0))) old)) (same : OnErr r (new ≡ old)) (are : AreKeyBytes bytes old) where
+  module _ {T E V : Type 0} (r : Result T E) (hash : ℕ) (fits : hash < 2 ^ 32) (x : List ℕ) (spelled : x ≡ to_be_bytes w32 hash)
+      (old new : List (K × V))
+      (below : OnOk r (new ≡ filter (λ e. is_gt (slice_cmp nat_cmp x (bytes e.0))) old)) (same : OnErr r (new ≡ old))
+      (are : AreKeyBytes bytes old) where
     pub split_are : AreKeyBytes bytes new
     split_are = by r below same
       where
-        by : (r : Result T E) → OnOk r (new ≡ filter (λ e. is_gt (slice_cmp nat_cmp x (bytes e.0))) old) → OnErr r (new ≡ old) → AreKeyBytes bytes new
-        by (Ok t) below same = subst (AreKeyBytes bytes) (sym below) (passed_are bytes (λ e. is_gt (slice_cmp nat_cmp x (bytes e.0))) old are)
+        by : (r : Result T E) → OnOk r (new ≡ filter (λ e. is_gt (slice_cmp nat_cmp x (bytes e.0))) old) → OnErr r (new ≡ old)
+            → AreKeyBytes bytes new
+        by (Ok t) below same =
+            subst (AreKeyBytes bytes) (sym below) (passed_are bytes (λ e. is_gt (slice_cmp nat_cmp x (bytes e.0))) old are)
         by (Err e) below same = subst (AreKeyBytes bytes) (sym same) are
 
     pub split_read : filter (λ e. nat_lt e.0.hash hash) (hashed_in bytes new) ≡ filter (λ e. nat_lt e.0.hash hash) (hashed_in bytes old)
     split_read = by r below same
       where
-        left : hashed_in bytes (filter (λ e. is_gt (slice_cmp nat_cmp x (bytes e.0))) old) ≡ filter (λ e. nat_lt e.0.hash hash) (hashed_in bytes old)
+        left : hashed_in bytes (filter (λ e. is_gt (slice_cmp nat_cmp x (bytes e.0))) old) ≡ filter (λ e. nat_lt e.0.hash hash)
+            (hashed_in bytes old)
         left =
             passed_read bytes (λ e. is_gt (slice_cmp nat_cmp x (bytes e.0))) (λ e. nat_lt e.0.hash hash) old
             (each_key bytes (λ e. is_gt (slice_cmp nat_cmp x (bytes e.0)) ≡ nat_lt (hash_in (bytes e.0)) hash)
-            (λ e is. ap (λ y. is_gt (slice_cmp nat_cmp y (bytes e.0))) spelled ∙ ap is_gt (hash_order hash fits (bytes e.0) is) ∙ gt_less hash (hash_in (bytes e.0))) old are)
+            (λ e is. ap (λ y. is_gt (slice_cmp nat_cmp y (bytes e.0))) spelled ∙ ap is_gt (hash_order hash fits (bytes e.0) is)
+            ∙ gt_less hash (hash_in (bytes e.0))) old are)
 
         by : (r : Result T E) → OnOk r (new ≡ filter (λ e. is_gt (slice_cmp nat_cmp x (bytes e.0))) old) → OnErr r (new ≡ old)
             → filter (λ e. nat_lt e.0.hash hash) (hashed_in bytes new) ≡ filter (λ e. nat_lt e.0.hash hash) (hashed_in bytes old)

@@ -15,7 +15,8 @@ use Rattle.texts.proofs.Entries.{all-remove_entry, sorted-remove_entry}
 use Rattle.silo_address.specs.Grain.{Grain, grain_cmp}
 use Rattle.silo_address.proofs.Order.{grain_cmp_total}
 use Rattle.hash_ring.specs.declared.Hashing.{Hashing}
-use Rattle.directory_rules.specs.Table.{Table, without_grain}
+use Rattle.directory_rules.specs.State.{Table}
+use Rattle.directory_rules.specs.Table.{without_grain}
 use Rattle.grain_table.specs.declared.hashed_grain.HashedGrain.{HashedGrain}
 use Rattle.grain_table.specs.Hashed.{AreHashed, Hashed, IsKeyOf, by_grain, hashed_cmp, key_of}
 use Rattle.grain_table.proofs.Order.{at_key, hashed_cmp_total, key_is}
@@ -33,7 +34,8 @@ module _ {K X : Type 0} (test : K → Bool) where
 -- what is found once a key is taken out
 found_without : {K X : Type 0} {R : K → K → Ordering} (o : IsTotalOrder R) (k q : K) (es : List (K × X)) → IsStrictlySortedBy R (keys_of es)
     → lookup (is_at (R q)) (remove_entry (is_at (R k)) es) ≡ cond (is_at (R k) q) None (lookup (is_at (R q)) es)
-found_without {R = R} o k q es s = lookup-remove_entry (eq_by_cmp_equiv o) (is_at (R k)) ((eq_by_cmp_equiv o).congr k) q es (IsDistinct-from_sorted R (keys_of es) s)
+found_without {R = R} o k q es s = lookup-remove_entry (eq_by_cmp_equiv o) (is_at (R k)) ((eq_by_cmp_equiv o).congr k) q es
+    (IsDistinct-from_sorted R (keys_of es) s)
 
 pub without_is_table : (grain : Grain) (table : Table) → IsTable table → IsTable (without_grain grain table)
 without_is_table grain table is = record {
@@ -41,7 +43,8 @@ without_is_table grain table is = record {
   under = all_without (is_at (grain_cmp grain)) (λ e. e.1.grain ≡ e.0) table is.under;
 }
 
-pub hashed_taken : (hashing : Hashing) (test : HashedGrain → Bool) (es : Hashed) → AreHashed hashing es → AreHashed hashing (remove_entry test es)
+pub hashed_taken : (hashing : Hashing) (test : HashedGrain → Bool) (es : Hashed) → AreHashed hashing es
+    → AreHashed hashing (remove_entry test es)
 hashed_taken hashing test es are = record {
   in_order = sorted-remove_entry test hashed_cmp es are.in_order;
   keys = all-remove_entry test (IsKeyOf hashing) es are.keys;
@@ -50,11 +53,13 @@ hashed_taken hashing test es are = record {
 pub taken_by_grain : (hashing : Hashing) (grain : Grain) (es : Hashed) → AreHashed hashing es
     → by_grain (remove_entry (is_at (hashed_cmp (key_of hashing grain))) es) ≡ without_grain grain (by_grain es)
 taken_by_grain hashing grain es are =
-    same_tables (by_grain left) (without_grain grain (by_grain es)) (by_grain_is_table left) (without_is_table grain (by_grain es) (by_grain_is_table es))
+    same_tables (by_grain left) (without_grain grain (by_grain es)) (by_grain_is_table left)
+    (without_is_table grain (by_grain es) (by_grain_is_table es))
     (λ other.
     found_by_grain hashing left (hashed_taken hashing (is_at (hashed_cmp (key_of hashing grain))) es are).keys other
     ∙ ap (option_map (entry_of other)) (found_without hashed_cmp_total (key_of hashing grain) (key_of hashing other) es are.in_order)
-    ∙ ap (λ b. option_map (entry_of other) (cond b None (lookup (is_at (hashed_cmp (key_of hashing other))) es))) (at_key hashing grain (key_of hashing other) refl)
+    ∙ ap (λ b. option_map (entry_of other) (cond b None (lookup (is_at (hashed_cmp (key_of hashing other))) es)))
+    (at_key hashing grain (key_of hashing other) refl)
     ∙ by other (is_at (grain_cmp grain) other)
     ∙ ap (λ o. cond (is_at (grain_cmp grain) other) None o) (sym (found_by_grain hashing es are.keys other))
     ∙ sym (found_without grain_cmp_total grain other (by_grain es) (by_grain_is_table es).in_order))
@@ -62,7 +67,8 @@ taken_by_grain hashing grain es are =
     left : Hashed
     left = remove_entry (is_at (hashed_cmp (key_of hashing grain))) es
 
-    by : (other : Grain) (b : Bool) → option_map (entry_of other) (cond b None (lookup (is_at (hashed_cmp (key_of hashing other))) es)) ≡ cond b None (found hashing other es)
+    by : (other : Grain) (b : Bool) → option_map (entry_of other) (cond b None (lookup (is_at (hashed_cmp (key_of hashing other))) es))
+        ≡ cond b None (found hashing other es)
     by other true = refl
     by other false = refl
 

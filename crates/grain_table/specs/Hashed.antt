@@ -15,8 +15,9 @@ use Rattle.ring_range.specs.Range.{circle}
 use Rattle.hash_ring.specs.declared.Hashing.{Hashing}
 use Rattle.hash_ring.specs.Hash.{hash_grain}
 use Rattle.directory_rules.specs.declared.act.Request.{Request}
-use Rattle.directory_rules.specs.Sent.{grain_of}
-use Rattle.directory_rules.specs.Table.{Table, with_entry}
+use Rattle.directory_rules.specs.Host.{grain_of}
+use Rattle.directory_rules.specs.State.{Table}
+use Rattle.directory_rules.specs.Table.{with_entry}
 use Rattle.grain_table.specs.declared.hashed_grain.HashedGrain.{HashedGrain}
 
 -- by text: no two grains have the same, and what else has is told by kind and key

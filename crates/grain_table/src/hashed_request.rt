@@ -1,6 +1,6 @@
 //! Requests whose grains needn't be hashed again.
 ghost use Rattle.std.specs.Prelude.{◌≡◌, ◌↔◌, IsTrue};
-ghost use Rattle.directory_rules.specs.Sent.{grain_of};
+ghost use Rattle.directory_rules.specs.Host.{grain_of};
 ghost use Rattle.hash_ring.specs.Hash.{hash_grain};
 ghost use Rattle.grain_table.specs.Hashed.{IsKeyOf, key_of};
 

@@ -24,7 +24,8 @@ use Rattle.hash_ring.proofs.StrictOrder.{Rising, Rising-from_sorted, Rising-filt
 use Rattle.hash_ring.proofs.WholeSilos.{some_of, In-ring, In-from_ring, In-from_points_of, In-points_of}
 
 -- ---- Active silos, by their rows and by a look-up
-not_at : (silo : Silo) (e : Silo × Status) (es : List (Silo × Status)) → ((y : Silo) → In y (keys_of es) → silo_cmp e.0 y ≡ Less) → In silo (keys_of es) → is_eq (silo_cmp silo e.0) ≡ true → ⊥
+not_at : (silo : Silo) (e : Silo × Status) (es : List (Silo × Status)) → ((y : Silo) → In y (keys_of es) → silo_cmp e.0 y ≡ Less)
+    → In silo (keys_of es) → is_eq (silo_cmp silo e.0) ≡ true → ⊥
 not_at silo e es first there at =
     let same : silo ≡ e.0 = silo_cmp_exact silo e.0 (Equal-from (silo_cmp silo e.0) at) in
     never_itself silo_cmp_total e.0 (subst (λ s. silo_cmp e.0 s ≡ Less) same (first silo there))
@@ -35,26 +36,33 @@ is_active_by rows silo = option_map_or (λ status. is_active status) (lookup (is
 active_key : (rows : List (Silo × Status)) (silo : Silo) → In silo (keys_of (filter (λ row. is_active row.1) rows)) → In silo (keys_of rows)
 active_key rows silo there =
     let found = In-from_map (λ (e : Silo × Status). e.0) silo (filter (λ row. is_active row.1) rows) there in
-    subst (λ s. In s (keys_of rows)) found.2 (In-map (λ (e : Silo × Status). e.0) found.0 rows (In-from_filter (λ row. is_active row.1) found.0 rows found.1).0)
+    subst (λ s. In s (keys_of rows)) found.2 (In-map (λ (e : Silo × Status). e.0) found.0 rows
+    (In-from_filter (λ row. is_active row.1) found.0 rows found.1).0)
 
-looked_up : (rows : List (Silo × Status)) → Rising silo_cmp (keys_of rows) → (silo : Silo) → In silo (keys_of (filter (λ row. is_active row.1) rows)) → is_active_by rows silo ≡ true
+looked_up : (rows : List (Silo × Status)) → Rising silo_cmp (keys_of rows) → (silo : Silo)
+    → In silo (keys_of (filter (λ row. is_active row.1) rows)) → is_active_by rows silo ≡ true
 looked_up [] rising silo there = absurd there
-looked_up (e ∷ es) rising silo there = by (is_active e.1) refl (is_eq (silo_cmp silo e.0)) refl (λ later. looked_up es rising.1 silo later) there
+looked_up (e ∷ es) rising silo there =
+    by (is_active e.1) refl (is_eq (silo_cmp silo e.0)) refl (λ later. looked_up es rising.1 silo later) there
   where
-    by : (a : Bool) → is_active e.1 ≡ a → (b : Bool) → is_eq (silo_cmp silo e.0) ≡ b → (In silo (keys_of (filter (λ row. is_active row.1) es)) → is_active_by es silo ≡ true)
+    by : (a : Bool) → is_active e.1 ≡ a → (b : Bool) → is_eq (silo_cmp silo e.0) ≡ b
+        → (In silo (keys_of (filter (λ row. is_active row.1) es)) → is_active_by es silo ≡ true)
         → In silo (keys_of (cond a (e ∷ filter (λ row. is_active row.1) es) (filter (λ row. is_active row.1) es)))
         → option_map_or (λ status. is_active status) (cond b (Some e.1) (lookup (is_at (silo_cmp silo)) es)) false ≡ true
     by true is true at again there = is
-    by true is false at again (inl here) = let no : true ≡ false = sym (ap is_eq (ap (λ s. silo_cmp silo s) here ∙ tied_itself silo_cmp_total silo)) ∙ at in cc
+    by true is false at again (inl here) =
+        let no : true ≡ false = sym (ap is_eq (ap (λ s. silo_cmp silo s) here ∙ tied_itself silo_cmp_total silo)) ∙ at in cc
     by true is false at again (inr later) = again later
     by false is true at again later = absurd (not_at silo e es rising.0 (active_key es silo later) at)
     by false is false at again later = again later
 
-by_look_up : (rows : List (Silo × Status)) (silo : Silo) → is_active_by rows silo ≡ true → In silo (keys_of (filter (λ row. is_active row.1) rows))
+by_look_up : (rows : List (Silo × Status)) (silo : Silo) → is_active_by rows silo ≡ true
+    → In silo (keys_of (filter (λ row. is_active row.1) rows))
 by_look_up [] silo active = cc
 by_look_up (e ∷ es) silo active = by (is_active e.1) refl (is_eq (silo_cmp silo e.0)) refl (λ later. by_look_up es silo later) active
   where
-    by : (a : Bool) → is_active e.1 ≡ a → (b : Bool) → is_eq (silo_cmp silo e.0) ≡ b → (is_active_by es silo ≡ true → In silo (keys_of (filter (λ row. is_active row.1) es)))
+    by : (a : Bool) → is_active e.1 ≡ a → (b : Bool) → is_eq (silo_cmp silo e.0) ≡ b
+        → (is_active_by es silo ≡ true → In silo (keys_of (filter (λ row. is_active row.1) es)))
         → option_map_or (λ status. is_active status) (cond b (Some e.1) (lookup (is_at (silo_cmp silo)) es)) false ≡ true
         → In silo (keys_of (cond a (e ∷ filter (λ row. is_active row.1) es) (filter (λ row. is_active row.1) es)))
     by true is true at again active = inl (sym (silo_cmp_exact silo e.0 (Equal-from (silo_cmp silo e.0) at)))
@@ -70,7 +78,8 @@ In-active view silo active = by_look_up view.rows silo active
 
 -- ---- the change
 abbrev pub changed_points : RingValue → ViewValue → PlacesValue → List Point
-changed_points ring view places = fold (insert_key point_cmp) (filter (λ p. is_active_in view p.silo) ring.points) (flat_map (silo_points places) (new_silos ring view))
+changed_points ring view places =
+    fold (insert_key point_cmp) (filter (λ p. is_active_in view p.silo) ring.points) (flat_map (silo_points places) (new_silos ring view))
 
 module _ (ring : RingValue) (places : PlacesValue) (was : IsRingBy ring places) (view : ViewValue) (by_address : IsByAddress view) where
   of_earlier : (p : Point) → In p ring.points → In p.silo (active_silos was.0) × In p (silo_points places p.silo)
@@ -82,12 +91,16 @@ module _ (ring : RingValue) (places : PlacesValue) (was : IsRingBy ring places) 
       (In-ring was.0 places p (In-points_of was.0 places p p.silo (subst (λ s. In s (active_silos was.0)) same (of_earlier q there).0) its))
 
   onward : (p : Point) → In p (changed_points ring view places) → In p (sorted_ring view places)
-  onward p there = In-ring view places p (by (In-from_inserted point_cmp_total p (flat_map (silo_points places) (new_silos ring view)) (filter (λ p. is_active_in view p.silo) ring.points) there))
+  onward p there =
+      In-ring view places p (by (In-from_inserted point_cmp_total p (flat_map (silo_points places) (new_silos ring view))
+      (filter (λ p. is_active_in view p.silo) ring.points) there))
     where
-      by : In p (flat_map (silo_points places) (new_silos ring view)) ⊎ In p (filter (λ p. is_active_in view p.silo) ring.points) → In p (points_of view places)
+      by : In p (flat_map (silo_points places) (new_silos ring view)) ⊎ In p (filter (λ p. is_active_in view p.silo) ring.points)
+          → In p (points_of view places)
       by (inl new) =
           let found = In-from_flat_map (silo_points places) p (new_silos ring view) new in
-          In-points_of view places p found.0 (In-from_filter (λ silo. not (is_on_ring ring.points silo)) found.0 (active_silos view) found.1).0 found.2
+          In-points_of view places p found.0 (In-from_filter (λ silo. not (is_on_ring ring.points silo)) found.0 (active_silos view)
+          found.1).0 found.2
       by (inr old) =
           let kept = In-from_filter (λ p. is_active_in view p.silo) p ring.points old in
           In-points_of view places p p.silo (In-active view p.silo kept.1) (of_earlier p kept.0).1
@@ -95,14 +108,19 @@ module _ (ring : RingValue) (places : PlacesValue) (was : IsRingBy ring places) 
   backward : (p : Point) → In p (sorted_ring view places) → In p (changed_points ring view places)
   backward p there = by (is_on_ring ring.points p.silo) refl (In-from_points_of view places p (In-from_ring view places p there))
     where
-      by : (on : Bool) → is_on_ring ring.points p.silo ≡ on → In p.silo (active_silos view) × In p (silo_points places p.silo) → In p (changed_points ring view places)
+      by : (on : Bool) → is_on_ring ring.points p.silo ≡ on → In p.silo (active_silos view) × In p (silo_points places p.silo)
+          → In p (changed_points ring view places)
       by true on its =
           let q = some_of ring.points p.silo on in
-          In-start point_cmp_total p (flat_map (silo_points places) (new_silos ring view)) (filter (λ p. is_active_in view p.silo) ring.points)
-          (In-filter (λ p. is_active_in view p.silo) p ring.points (in_earlier p q.0 q.1 q.2 its.1) (active_in view by_address p.silo its.0))
+          In-start point_cmp_total p (flat_map (silo_points places) (new_silos ring view))
+          (filter (λ p. is_active_in view p.silo) ring.points)
+          (In-filter (λ p. is_active_in view p.silo) p ring.points (in_earlier p q.0 q.1 q.2 its.1)
+          (active_in view by_address p.silo its.0))
       by false on its =
-          In-all_inserted point_cmp_total point_cmp_exact p (flat_map (silo_points places) (new_silos ring view)) (filter (λ p. is_active_in view p.silo) ring.points)
-          (In-flat_map (silo_points places) p.silo p (new_silos ring view) (In-filter (λ silo. not (is_on_ring ring.points silo)) p.silo (active_silos view) its.0 (ap not on)) its.1)
+          In-all_inserted point_cmp_total point_cmp_exact p (flat_map (silo_points places) (new_silos ring view))
+          (filter (λ p. is_active_in view p.silo) ring.points)
+          (In-flat_map (silo_points places) p.silo p (new_silos ring view)
+          (In-filter (λ silo. not (is_on_ring ring.points silo)) p.silo (active_silos view) its.0 (ap not on)) its.1)
 
   in_order : Rising point_cmp ring.points
   in_order = subst (λ l. Rising point_cmp l) (sym was.1) (Rising-inserted point_cmp_total (points_of was.0 places) [] tt)
@@ -110,7 +128,8 @@ module _ (ring : RingValue) (places : PlacesValue) (was : IsRingBy ring places) 
   pub changed_is_ring : changed_points ring view places ≡ sorted_ring view places
   changed_is_ring =
       same_rising point_cmp_total (changed_points ring view places) (sorted_ring view places)
-      (Rising-inserted point_cmp_total (flat_map (silo_points places) (new_silos ring view)) (filter (λ p. is_active_in view p.silo) ring.points) (Rising-filter point_cmp (λ p. is_active_in view p.silo) ring.points in_order))
+      (Rising-inserted point_cmp_total (flat_map (silo_points places) (new_silos ring view))
+      (filter (λ p. is_active_in view p.silo) ring.points) (Rising-filter point_cmp (λ p. is_active_in view p.silo) ring.points in_order))
       (Rising-inserted point_cmp_total (points_of view places) [] tt) onward backward
 
   -- ---- where no silo is new, all were added
@@ -125,8 +144,10 @@ module _ (ring : RingValue) (places : PlacesValue) (was : IsRingBy ring places) 
   all_known [] none = refl
   all_known (s ∷ ss) none = by (is_on_ring ring.points s) refl (λ rest. all_known ss rest) none
     where
-      by : (on : Bool) → is_on_ring ring.points s ≡ on → (filter (λ silo. not (is_on_ring ring.points silo)) ss ≡ [] → list_all (is_added places) ss ≡ true)
-          → cond (not on) (s ∷ filter (λ silo. not (is_on_ring ring.points silo)) ss) (filter (λ silo. not (is_on_ring ring.points silo)) ss) ≡ [] → (is_added places s && list_all (is_added places) ss) ≡ true
+      by : (on : Bool) → is_on_ring ring.points s ≡ on
+          → (filter (λ silo. not (is_on_ring ring.points silo)) ss ≡ [] → list_all (is_added places) ss ≡ true)
+          → cond (not on) (s ∷ filter (λ silo. not (is_on_ring ring.points silo)) ss)
+          (filter (λ silo. not (is_on_ring ring.points silo)) ss) ≡ [] → (is_added places s && list_all (is_added places) ss) ≡ true
       by true on again none =
           let q = some_of ring.points s on in
           ap (λ b. b && list_all (is_added places) ss) (added s q.0 q.1 q.2) ∙ again none

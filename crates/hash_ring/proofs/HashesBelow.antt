@@ -26,7 +26,8 @@ read_below grain true true value fault other is = let le : value ≤ 4294967295 
 read_below grain true false value fault other is = hash_below (grain_text grain)
 read_below grain false small value fault other is = hash_below (grain_text grain)
 
-stated_below : (grain : Grain) (signed : Bool) (word : _) → hash_stated (cond signed (number_in (read_number 4294967295 word)) None) grain < circle
+stated_below : (grain : Grain) (signed : Bool) (word : _)
+    → hash_stated (cond signed (number_in (read_number 4294967295 word)) None) grain < circle
 stated_below grain true word = read_below grain (is_numeral word) (nat_le (numeral_value word) 4294967295) (numeral_value word) _ _ refl
 stated_below grain false word = hash_below (grain_text grain)
 

@@ -19,7 +19,8 @@ In-from_Contains x xs there = In-from_place x xs there.0 there.1 there.2
 pub Contains-from_In : {X : Type 0} (x : X) (xs : List X) → In x xs → Contains xs x
 Contains-from_In x [] there = absurd there
 Contains-from_In x (y ∷ ys) (inl here) = (0, omega arith, here)
-Contains-from_In x (y ∷ ys) (inr later) = let found = Contains-from_In x ys later in (suc found.0, let below : found.0 < length ys = found.1 in omega arith, found.2)
+Contains-from_In x (y ∷ ys) (inr later) =
+    let found = Contains-from_In x ys later in (suc found.0, let below : found.0 < length ys = found.1 in omega arith, found.2)
 
 -- what holds of all holds of each, and the other way round
 pub All-of : {X : Type 0} (P : X → Type 0) (xs : List X) (x : X) → All P xs → In x xs → P x
@@ -58,7 +59,8 @@ In-filter p x [] there passes = absurd there
 In-filter p x (y ∷ ys) (inl here) passes = kept_first x y (filter p ys) (p y) (ap p here ∙ passes) here
 In-filter p x (y ∷ ys) (inr later) passes = kept_later x y (filter p ys) (p y) (In-filter p x ys later passes)
 
-In-kept : {X : Type 0} (p : X → Bool) (x y : X) (ys : List X) (b : Bool) → p y ≡ b → In x (cond b (y ∷ ys) ys) → ((y ≡ x) × (p x ≡ true)) ⊎ In x ys
+In-kept : {X : Type 0} (p : X → Bool) (x y : X) (ys : List X) (b : Bool) → p y ≡ b → In x (cond b (y ∷ ys) ys) → ((y ≡ x) × (p x ≡ true))
+    ⊎ In x ys
 In-kept p x y ys true tested (inl here) = inl (here, ap p (sym here) ∙ tested)
 In-kept p x y ys true tested (inr later) = inr later
 In-kept p x y ys false tested there = inr there
@@ -66,7 +68,8 @@ In-kept p x y ys false tested there = inr there
 pub In-from_filter : {X : Type 0} (p : X → Bool) (x : X) (xs : List X) → In x (filter p xs) → In x xs × (p x ≡ true)
 In-from_filter p x [] there = absurd there
 In-from_filter p x (y ∷ ys) there =
-    ⊎_elim (λ here. (inl here.0, here.1)) (λ later. let found : In x ys × (p x ≡ true) = In-from_filter p x ys later in (inr found.0, found.1))
+    ⊎_elim (λ here. (inl here.0, here.1)) (λ later. let found : In x ys × (p x ≡ true) = In-from_filter p x ys later in
+    (inr found.0, found.1))
     (In-kept p x y (filter p ys) (p y) refl there)
 
 -- ---- lists made of lists

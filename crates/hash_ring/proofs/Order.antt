@@ -19,7 +19,9 @@ pub same_point : (a b : Point) → a.place ≡ b.place → a.silo ≡ b.silo →
 same_point a b place silo index = λ i. point_at (place i) (silo i) (index i)
 
 pub point_cmp_total : IsTotalOrder point_cmp
-point_cmp_total = then_total (on_total (λ p. p.place) nat_cmp_total) (then_total (on_total (λ p. p.silo) silo_cmp_total) (on_total (λ p. p.index) nat_cmp_total))
+point_cmp_total =
+    then_total (on_total (λ p. p.place) nat_cmp_total)
+    (then_total (on_total (λ p. p.silo) silo_cmp_total) (on_total (λ p. p.index) nat_cmp_total))
 
 pub point_cmp_exact : CmpEqualImpliesEq point_cmp
 point_cmp_exact a b tied =

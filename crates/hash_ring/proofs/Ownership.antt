@@ -28,30 +28,41 @@ only_one : (hash : ℕ) (point : Point) (points : List Point) → owner_of point
 only_one hash point points none =
     subst (λ l. IsNearest hash (point ∷ l) point) (sym (no_owner hash points none)) (record {
       there = inl refl;
-      each = λ p there. ⊎_elim (λ here. subst (λ q. is_gt (nearness_cmp hash point q) ≡ false) here (ap is_gt (tied_itself (nearness_total hash) point))) (λ none. absurd none) there;
+      each =
+          λ p there. ⊎_elim (λ here. subst (λ q. is_gt (nearness_cmp hash point q) ≡ false) here
+          (ap is_gt (tied_itself (nearness_total hash) point))) (λ none. absurd none) there;
     })
 
-not_before : (hash : ℕ) (point other : Point) (points : List Point) → IsNearest hash points other → is_gt (nearness_cmp hash point other) ≡ false → IsNearest hash (point ∷ points) point
+not_before : (hash : ℕ) (point other : Point) (points : List Point) → IsNearest hash points other
+    → is_gt (nearness_cmp hash point other) ≡ false → IsNearest hash (point ∷ points) point
 not_before hash point other points nearest before = record {
   there = inl refl;
-  each = λ p there. ⊎_elim (λ here. subst (λ q. is_gt (nearness_cmp hash point q) ≡ false) here (ap is_gt (tied_itself (nearness_total hash) point)))
+  each =
+      λ p there. ⊎_elim (λ here. subst (λ q. is_gt (nearness_cmp hash point q) ≡ false) here
+      (ap is_gt (tied_itself (nearness_total hash) point)))
       (λ later. upto (nearness_total hash) point other p before (nearest.each p later)) there;
 }
 
-nearer_one : (hash : ℕ) (point other : Point) (points : List Point) → IsNearest hash points other → (r : Ordering) → nearness_cmp hash other point ≡ r
+nearer_one : (hash : ℕ) (point other : Point) (points : List Point) → IsNearest hash points other → (r : Ordering)
+    → nearness_cmp hash other point ≡ r
     → IsNearest hash (point ∷ points) (if is_lt r then other else point)
 nearer_one hash point other points nearest Less is = record {
   there = inr nearest.there;
-  each = λ p there. ⊎_elim (λ here. subst (λ q. is_gt (nearness_cmp hash other q) ≡ false) here (ap is_gt is)) (λ later. nearest.each p later) there;
+  each =
+      λ p there. ⊎_elim (λ here. subst (λ q. is_gt (nearness_cmp hash other q) ≡ false) here (ap is_gt is)) (λ later. nearest.each p later)
+      there;
 }
-nearer_one hash point other points nearest Equal is = not_before hash point other points nearest (ap is_gt ((nearness_total hash).antisymm point other ∙ ap ordering_reverse is))
-nearer_one hash point other points nearest Greater is = not_before hash point other points nearest (ap is_gt ((nearness_total hash).antisymm point other ∙ ap ordering_reverse is))
+nearer_one hash point other points nearest Equal is =
+    not_before hash point other points nearest (ap is_gt ((nearness_total hash).antisymm point other ∙ ap ordering_reverse is))
+nearer_one hash point other points nearest Greater is =
+    not_before hash point other points nearest (ap is_gt ((nearness_total hash).antisymm point other ∙ ap ordering_reverse is))
 
 pub owner_is_nearest : (hash : ℕ) (points : List Point) (owner : Point) → owner_of points hash ≡ Some owner → IsNearest hash points owner
 owner_is_nearest hash [] owner is = cc
 owner_is_nearest hash (p ∷ ps) owner is = by (owner_of ps hash) refl (λ other known. owner_is_nearest hash ps other known) is
   where
-    by : (o : Option Point) → owner_of ps hash ≡ o → ((other : Point) → owner_of ps hash ≡ Some other → IsNearest hash ps other) → Some (nearer_of hash p o) ≡ Some owner → IsNearest hash (p ∷ ps) owner
+    by : (o : Option Point) → owner_of ps hash ≡ o → ((other : Point) → owner_of ps hash ≡ Some other → IsNearest hash ps other)
+        → Some (nearer_of hash p o) ≡ Some owner → IsNearest hash (p ∷ ps) owner
     by None known again same = subst (λ x. IsNearest hash (p ∷ ps) x) (same_Some p owner same) (only_one hash p ps known)
     by (Some other) known again same =
         subst (λ x. IsNearest hash (p ∷ ps) x) (same_Some (nearer_of hash p (Some other)) owner same)
@@ -68,7 +79,8 @@ IsOwner-from_nearest hash points owner nearest =
       first_index = All-from_each _ points (λ p there. (each p there).index);
     }
 
-pub IsNoFarther-from_owner : (hash : ℕ) (points : List Point) (owner p : Point) → IsOwner points hash owner → In p points → IsNoFarther hash owner p
+pub IsNoFarther-from_owner : (hash : ℕ) (points : List Point) (owner p : Point) → IsOwner points hash owner → In p points
+    → IsNoFarther hash owner p
 IsNoFarther-from_owner hash points owner p is there = record {
   nearer = All-of (λ x. back hash owner.place ≤ back hash x.place) points p is.nearest there;
   silo = All-of (λ x. x.place ≡ owner.place → is_gt (silo_cmp owner.silo x.silo) ≡ false) points p is.first_silo there;
@@ -83,14 +95,16 @@ some_owner hash [] p there = absurd there
 some_owner hash (q ∷ qs) p there = (nearer_of hash q (owner_of qs hash), refl)
 
 -- there is one owner at most
-pub one_owner : (points : List Point) (hash : ℕ) (p q : Point) → hash < circle → All IsOnCircle points → IsOwner points hash p → IsOwner points hash q → p ≡ q
+pub one_owner : (points : List Point) (hash : ℕ) (p q : Point) → hash < circle → All IsOnCircle points → IsOwner points hash p
+    → IsOwner points hash q → p ≡ q
 one_owner points hash p q on_hash on_circle is_p is_q =
     let there_p = In-from_Contains p points is_p.there in
     let there_q = In-from_Contains q points is_q.there in
     one_nearest hash p q on_hash (All-of IsOnCircle points p on_circle there_p) (All-of IsOnCircle points q on_circle there_q)
     (IsNoFarther-from_owner hash points p q is_p there_q) (IsNoFarther-from_owner hash points q p is_q there_p)
 
-pub owner_from : (points : List Point) (hash : ℕ) (owner : Point) → hash < circle → All IsOnCircle points → IsOwner points hash owner → owner_of points hash ≡ Some owner
+pub owner_from : (points : List Point) (hash : ℕ) (owner : Point) → hash < circle → All IsOnCircle points → IsOwner points hash owner
+    → owner_of points hash ≡ Some owner
 owner_from points hash owner on_hash on_circle is =
     let found = some_owner hash points owner (In-from_Contains owner points is.there) in
     found.1 ∙ ap Some (one_owner points hash found.0 owner on_hash on_circle (owner_is points hash found.0 found.1) is)

@@ -12,7 +12,9 @@ none_of None none = refl
 none_of (Some x) none = cc
 
 -- an addition that isn't refused is one of a new silo
-accepted_is : (counted some there : Bool) (made next : PlacesValue) → ◌≡◌ {A = Result PlacesValue ℕ} (cond (not counted) (Err 402) (cond (not some) (Err 403) (cond there (Err 404) (Ok made)))) (Ok next) → (made ≡ next) × (there ≡ false)
+accepted_is : (counted some there : Bool) (made next : PlacesValue)
+    → ◌≡◌ {A = Result PlacesValue ℕ} (cond (not counted) (Err 402) (cond (not some) (Err 403) (cond there (Err 404) (Ok made)))) (Ok next)
+    → (made ≡ next) × (there ≡ false)
 accepted_is false some there made next is = absurd (cc (is))
 accepted_is true false there made next is = absurd (cc (is))
 accepted_is true true true made next is = absurd (cc (is))
@@ -25,4 +27,5 @@ places_back old mid new silo stated added out =
     out
     ∙ ap (λ (p : PlacesValue). record p { entries = remove_entry (is_at (silo_cmp silo)) p.entries }) (sym are.0)
     ∙ ap (λ (l : List (Silo × List ℕ)). record old { entries = l })
-    (remove-insert_entry silo_cmp_total silo (places_for old.hashing old.points silo stated) old.entries (none_of (places_of old silo) are.1))
+    (remove-insert_entry silo_cmp_total silo (places_for old.hashing old.points silo stated) old.entries
+    (none_of (places_of old silo) are.1))

@@ -36,7 +36,8 @@ points_from_more silo n (suc i) (p ∷ ps) d within =
     let later = points_from_more silo (n + 1) i ps d (omega arith) in
     let one_on : suc i + 1 ≡ suc (i + 1) = omega arith in
     ap (λ k. points_from silo n (take k (p ∷ ps))) one_on
-    ∙ ap (λ l. at_index silo (n, p) ∷ l) (later ∙ ap (λ k. points_from silo (n + 1) (take i ps) ++ at_index silo (k, get_or ps i d) ∷ []) same)
+    ∙ ap (λ l. at_index silo (n, p) ∷ l) (later ∙ ap (λ k. points_from silo (n + 1) (take i ps) ++ at_index silo (k, get_or ps i d) ∷ [])
+    same)
 
 pub points_at_more : (silo : Silo) (i place : ℕ) (places : List ℕ) → i < length places → place ≡ get_or places i place
     → points_at silo (take (i + 1) places) ≡ points_at silo (take i places) ++ record { place = place; silo = silo; index = i } ∷ []
@@ -50,30 +51,39 @@ points_at_more silo i place places within is =
 abbrev pub points_in : PlacesValue → List (Silo × Status) → List Point
 points_in places rows = flat_map (silo_points places) (keys_of (filter (λ row. is_active row.1) rows))
 
-pub points_in-append : (places : PlacesValue) (xs ys : List (Silo × Status)) → points_in places (xs ++ ys) ≡ points_in places xs ++ points_in places ys
+pub points_in-append : (places : PlacesValue) (xs ys : List (Silo × Status))
+    → points_in places (xs ++ ys) ≡ points_in places xs ++ points_in places ys
 points_in-append places [] ys = refl
 points_in-append places (x ∷ xs) ys = by (is_active x.1) (points_in-append places xs ys)
   where
     by : (b : Bool) → points_in places (xs ++ ys) ≡ points_in places xs ++ points_in places ys
-        → flat_map (silo_points places) (keys_of (cond b (x ∷ filter (λ row. is_active row.1) (xs ++ ys)) (filter (λ row. is_active row.1) (xs ++ ys))))
-        ≡ flat_map (silo_points places) (keys_of (cond b (x ∷ filter (λ row. is_active row.1) xs) (filter (λ row. is_active row.1) xs))) ++ points_in places ys
-    by true later = ap (λ l. silo_points places x.0 ++ l) later ∙ sym (append_assoc (silo_points places x.0) (points_in places xs) (points_in places ys))
+        → flat_map (silo_points places) (keys_of (cond b (x ∷ filter (λ row. is_active row.1) (xs ++ ys))
+        (filter (λ row. is_active row.1) (xs ++ ys))))
+        ≡ flat_map (silo_points places) (keys_of (cond b (x ∷ filter (λ row. is_active row.1) xs) (filter (λ row. is_active row.1) xs))) ++
+        points_in places ys
+    by true later =
+        ap (λ l. silo_points places x.0 ++ l) later ∙ sym
+        (append_assoc (silo_points places x.0) (points_in places xs) (points_in places ys))
     by false later = later
 
 -- one row more, and all of them
 pub one_more : {X : Type 0} (xs : List X) (i : ℕ) (x : X) → i < length xs → x ≡ get_or xs i x → take (i + 1) xs ≡ take i xs ++ x ∷ []
 one_more xs i x within is = take_more xs i x within ∙ ap (λ y. take i xs ++ y ∷ []) (sym is)
 
-pub points_in_active : (places : PlacesValue) (rows : List (Silo × Status)) (i : ℕ) (row : Silo × Status) → i < length rows → row ≡ get_or rows i row → is_active row.1 ≡ true
-    → (before after : List Point) → before ≡ points_in places (take i rows) → after ≡ before ++ silo_points places row.0 → after ≡ points_in places (take (i + 1) rows)
+pub points_in_active : (places : PlacesValue) (rows : List (Silo × Status)) (i : ℕ) (row : Silo × Status) → i < length rows
+    → row ≡ get_or rows i row → is_active row.1 ≡ true
+    → (before after : List Point) → before ≡ points_in places (take i rows) → after ≡ before ++ silo_points places row.0
+    → after ≡ points_in places (take (i + 1) rows)
 points_in_active places rows i row within is active before after so_far more =
     more
     ∙ ap (λ l. l ++ silo_points places row.0) so_far
-    ∙ ap (λ l. points_in places (take i rows) ++ l) (sym (append-nil (silo_points places row.0)) ∙ ap (λ b. flat_map (silo_points places) (keys_of (cond b (row ∷ []) []))) (sym active))
+    ∙ ap (λ l. points_in places (take i rows) ++ l) (sym (append-nil (silo_points places row.0))
+    ∙ ap (λ b. flat_map (silo_points places) (keys_of (cond b (row ∷ []) []))) (sym active))
     ∙ sym (points_in-append places (take i rows) (row ∷ []))
     ∙ ap (λ l. points_in places l) (sym (one_more rows i row within is))
 
-pub points_in_other : (places : PlacesValue) (rows : List (Silo × Status)) (i : ℕ) (row : Silo × Status) → i < length rows → row ≡ get_or rows i row → is_active row.1 ≡ false
+pub points_in_other : (places : PlacesValue) (rows : List (Silo × Status)) (i : ℕ) (row : Silo × Status) → i < length rows
+    → row ≡ get_or rows i row → is_active row.1 ≡ false
     → (before after : List Point) → before ≡ points_in places (take i rows) → after ≡ before → after ≡ points_in places (take (i + 1) rows)
 points_in_other places rows i row within is other before after so_far same =
     same
@@ -83,16 +93,19 @@ points_in_other places rows i row within is other before after so_far same =
     ∙ sym (points_in-append places (take i rows) (row ∷ []))
     ∙ ap (λ l. points_in places l) (sym (one_more rows i row within is))
 
-pub points_in_all : (places : PlacesValue) (rows : List (Silo × Status)) (i : ℕ) → length rows ≤ i → points_in places (take i rows) ≡ points_in places rows
+pub points_in_all : (places : PlacesValue) (rows : List (Silo × Status)) (i : ℕ) → length rows ≤ i
+    → points_in places (take i rows) ≡ points_in places rows
 points_in_all places rows i past = ap (λ l. points_in places l) (take_all i rows past)
 
 -- every Active silo of the rows was added
 pub are_added-by_rows : (places : PlacesValue) (rows : List (Silo × Status))
-    → list_all (λ row. not (is_active row.1) || is_added places row.0) rows ≡ list_all (is_added places) (keys_of (filter (λ row. is_active row.1) rows))
+    → list_all (λ row. not (is_active row.1) || is_added places row.0) rows ≡ list_all (is_added places)
+    (keys_of (filter (λ row. is_active row.1) rows))
 are_added-by_rows places [] = refl
 are_added-by_rows places (x ∷ xs) = by (is_active x.1) (are_added-by_rows places xs)
   where
-    by : (b : Bool) → list_all (λ row. not (is_active row.1) || is_added places row.0) xs ≡ list_all (is_added places) (keys_of (filter (λ row. is_active row.1) xs))
+    by : (b : Bool) → list_all (λ row. not (is_active row.1) || is_added places row.0) xs ≡ list_all (is_added places)
+        (keys_of (filter (λ row. is_active row.1) xs))
         → ((not b || is_added places x.0) && list_all (λ row. not (is_active row.1) || is_added places row.0) xs)
         ≡ list_all (is_added places) (keys_of (cond b (x ∷ filter (λ row. is_active row.1) xs) (filter (λ row. is_active row.1) xs)))
     by true later = ap (λ b. is_added places x.0 && b) later
@@ -120,12 +133,15 @@ first_at silo n place places = record {
   at = let none : n - n ≡ 0 = omega arith in ap (λ k. get_or (place ∷ places) k 0) none;
 }
 
-later_at : (silo : Silo) (n place : ℕ) (places : List ℕ) (point : Point) → IsAt silo (n + 1) places point → IsAt silo n (place ∷ places) point
+later_at : (silo : Silo) (n place : ℕ) (places : List ℕ) (point : Point) → IsAt silo (n + 1) places point
+    → IsAt silo n (place ∷ places) point
 later_at silo n place places point later = record {
   its = later.its;
   from = let low = later.from in omega arith;
   within = let high = later.within in omega arith;
-  at = let low = later.from in let one_on : point.index - n ≡ suc (point.index - (n + 1)) = omega arith in ap (λ k. get_or (place ∷ places) k 0) one_on ∙ later.at;
+  at =
+      let low = later.from in let one_on : point.index - n ≡ suc (point.index - (n + 1)) = omega arith in
+      ap (λ k. get_or (place ∷ places) k 0) one_on ∙ later.at;
 }
 
 pub IsAt-from_In : (silo : Silo) (n : ℕ) (places : List ℕ) (point : Point) → In point (points_from silo n places) → IsAt silo n places point
@@ -141,8 +157,11 @@ by_index silo n place q its above =
 
 points_from-rising : (silo : Silo) (n : ℕ) (places : List ℕ) → Rising naming_cmp (points_from silo n places)
 points_from-rising silo n [] = tt
-points_from-rising silo n (p ∷ ps) =
-    (λ q later. let is = IsAt-from_In silo (n + 1) ps q later in by_index silo n p q is.its (let low = is.from in omega arith), points_from-rising silo (n + 1) ps)
+points_from-rising silo n (p ∷ ps) = (
+  λ q later. let is = IsAt-from_In silo (n + 1) ps q later in
+      by_index silo n p q is.its (let low = is.from in omega arith),
+  points_from-rising silo (n + 1) ps,
+)
 
 points_if-rising : (silo : Silo) (places : Option (List ℕ)) → Rising naming_cmp (points_if silo places)
 points_if-rising silo None = tt
@@ -162,23 +181,27 @@ by_silo p q less = ap (λ r. ordering_then r (nat_cmp p.index q.index)) less
 flat_rising : (places : PlacesValue) (silos : List Silo) → Rising silo_cmp silos → Rising naming_cmp (flat_map (silo_points places) silos)
 flat_rising places [] rising = tt
 flat_rising places (s ∷ ss) rising =
-    Rising-append naming_cmp (silo_points places s) (flat_map (silo_points places) ss) (points_if-rising s (places_of places s)) (flat_rising places ss rising.1)
+    Rising-append naming_cmp (silo_points places s) (flat_map (silo_points places) ss) (points_if-rising s (places_of places s))
+    (flat_rising places ss rising.1)
     (λ p q here later.
     let found = In-from_flat_map (silo_points places) q ss later in
     let mine : p.silo ≡ s = silo_of-silo_points places s p here in
     let its : q.silo ≡ found.0 = silo_of-silo_points places found.0 q found.2 in
     by_silo p q (ap (λ a. silo_cmp a q.silo) mine ∙ ap (λ b. silo_cmp s b) its ∙ rising.0 found.0 found.1))
 
-In-keys_of_filter : (y : Silo) (p : Silo × Status → Bool) (rows : List (Silo × Status)) → In y (keys_of (filter p rows)) → In y (keys_of rows)
+In-keys_of_filter : (y : Silo) (p : Silo × Status → Bool) (rows : List (Silo × Status)) → In y (keys_of (filter p rows))
+    → In y (keys_of rows)
 In-keys_of_filter y p [] there = absurd there
 In-keys_of_filter y p (x ∷ xs) there = by (λ later. In-keys_of_filter y p xs later) (p x) there
   where
-    by : (In y (keys_of (filter p xs)) → In y (keys_of xs)) → (b : Bool) → In y (keys_of (cond b (x ∷ filter p xs) (filter p xs))) → In y (keys_of (x ∷ xs))
+    by : (In y (keys_of (filter p xs)) → In y (keys_of xs)) → (b : Bool) → In y (keys_of (cond b (x ∷ filter p xs) (filter p xs)))
+        → In y (keys_of (x ∷ xs))
     by again true (inl here) = inl here
     by again true (inr later) = inr (again later)
     by again false later = inr (again later)
 
-active_rising : (p : Silo × Status → Bool) (rows : List (Silo × Status)) → Rising silo_cmp (keys_of rows) → Rising silo_cmp (keys_of (filter p rows))
+active_rising : (p : Silo × Status → Bool) (rows : List (Silo × Status)) → Rising silo_cmp (keys_of rows)
+    → Rising silo_cmp (keys_of (filter p rows))
 active_rising p [] rising = tt
 active_rising p (x ∷ xs) rising = by (p x) (active_rising p xs rising.1)
   where
@@ -189,10 +212,12 @@ active_rising p (x ∷ xs) rising = by (p x) (active_rising p xs rising.1)
 -- the points of a view all differ, by silo or by index
 pub points_of-rising : (view : ViewValue) (places : PlacesValue) → IsByAddress view → Rising naming_cmp (points_of view places)
 points_of-rising view places by_address =
-    flat_rising places (active_silos view) (active_rising (λ row. is_active row.1) view.rows (Rising-from_sorted silo_cmp (keys_of view.rows) by_address))
+    flat_rising places (active_silos view) (active_rising (λ row. is_active row.1) view.rows
+    (Rising-from_sorted silo_cmp (keys_of view.rows) by_address))
 
 -- and so do those of its new silos
-pub new_points-rising : (ring : RingValue) (view : ViewValue) (places : PlacesValue) → IsByAddress view → Rising naming_cmp (flat_map (silo_points places) (new_silos ring view))
+pub new_points-rising : (ring : RingValue) (view : ViewValue) (places : PlacesValue) → IsByAddress view
+    → Rising naming_cmp (flat_map (silo_points places) (new_silos ring view))
 new_points-rising ring view places by_address =
     flat_rising places (new_silos ring view)
     (Rising-filter silo_cmp (λ silo. not (is_on_ring ring.points silo)) (active_silos view)

@@ -26,9 +26,11 @@ use Rattle.hash_ring.proofs.Ownership.{owner_from, owner_is, IsNoFarther-from_ow
 use Rattle.hash_ring.proofs.OwnerSearch.{first_alone, owner_found, tied_place}
 
 -- ---- the least of some numbers
-pub least_above : {X : Type 0} (f : X → ℕ) (x a : ℕ) (xs : List X) → x ≤ a → ((y : X) → In y xs → x ≤ f y) → x ≤ fold (λ least y. min least (f y)) a xs
+pub least_above : {X : Type 0} (f : X → ℕ) (x a : ℕ) (xs : List X) → x ≤ a → ((y : X) → In y xs → x ≤ f y)
+    → x ≤ fold (λ least y. min least (f y)) a xs
 least_above f x a [] upto each = upto
-least_above f x a (y ∷ ys) upto each = least_above f x (min a (f y)) ys (let here = each y (inl refl) in omega arith) (λ z later. each z (inr later))
+least_above f x a (y ∷ ys) upto each =
+    least_above f x (min a (f y)) ys (let here = each y (inl refl) in omega arith) (λ z later. each z (inr later))
 
 pub least_upto : {X : Type 0} (f : X → ℕ) (a : ℕ) (xs : List X) → fold (λ least y. min least (f y)) a xs ≤ a
 least_upto f a [] = omega arith
@@ -58,7 +60,8 @@ steps_round place other below = steps_other place other (λ same. absurd (omega 
 
 -- ---- the room up to the next place
 pub room_to_next : (points : List Point) (place next : ℕ) → PlacesRise points → All IsOnCircle points → next < length points
-    → IsPartitionPoint (λ p. p.place ≤ place) (λ p. place < p.place) points next → (d : Point) → (get_or points next d).place - place ≡ room points place
+    → IsPartitionPoint (λ p. p.place ≤ place) (λ p. place < p.place) points next → (d : Point)
+    → (get_or points next d).place - place ≡ room points place
 room_to_next points place next rise on_circle within split d = let upper = up in let lower = low in omega arith
   where
     after : place < (get_or points next d).place
@@ -73,8 +76,10 @@ room_to_next points place next rise on_circle within split d = let upper = up in
         let is = its_steps in
         omega arith
 
-    each_at : (k : ℕ) → k < length points → (k < next) ⊎ (next ≤ k) → ((get_or points k d).place < place) ⊎ (place ≤ (get_or points k d).place) → (get_or points next d).place - place ≤ steps_to place (get_or points k d).place
-    each_at k inside (inl before) (inl lower) = let is = steps_round place (get_or points k d).place lower in let on = on_circle next d within in omega arith
+    each_at : (k : ℕ) → k < length points → (k < next) ⊎ (next ≤ k) → ((get_or points k d).place < place)
+        ⊎ (place ≤ (get_or points k d).place) → (get_or points next d).place - place ≤ steps_to place (get_or points k d).place
+    each_at k inside (inl before) (inl lower) =
+        let is = steps_round place (get_or points k d).place lower in let on = on_circle next d within in omega arith
     each_at k inside (inl before) (inr upper) =
         let upto : (get_or points k d).place ≤ place = split.0 k d (omega arith) before in
         let is = steps_itself place (get_or points k d).place (omega arith) in
@@ -90,23 +95,31 @@ room_to_next points place next rise on_circle within split d = let upper = up in
     each p there =
         let at = Contains-from_In p points there in
         let same : get_or points at.0 d ≡ p = get_or_default points at.0 d p at.1 ∙ at.2 in
-        subst (λ (q : Point). (get_or points next d).place - place ≤ steps_to place q.place) same (each_at at.0 at.1 (cases_lt at.0 next) (cases_lt (get_or points at.0 d).place place))
+        subst (λ (q : Point). (get_or points next d).place - place ≤ steps_to place q.place) same
+        (each_at at.0 at.1 (cases_lt at.0 next) (cases_lt (get_or points at.0 d).place place))
 
     low : (get_or points next d).place - place ≤ room points place
-    low = least_above (λ (p : Point). steps_to place p.place) ((get_or points next d).place - place) circle points (let on = on_circle next d within in omega arith) each
+    low =
+        least_above (λ (p : Point). steps_to place p.place) ((get_or points next d).place - place) circle points
+        (let on = on_circle next d within in omega arith) each
 
-pub room_round : (points : List Point) (place next : ℕ) → PlacesRise points → All IsOnCircle points → 0 < length points → place < circle → length points ≤ next → (d : Point) → (get_or points 0 d).place ≤ place
-    → IsPartitionPoint (λ p. p.place ≤ place) (λ p. place < p.place) points next → circle - (place - (get_or points 0 d).place) ≡ room points place
-room_round points place next rise on_circle some on_place past d first split = let upper = up (cases_lt (get_or points 0 d).place place) in let lower = low in omega arith
+pub room_round : (points : List Point) (place next : ℕ) → PlacesRise points → All IsOnCircle points → 0 < length points → place < circle
+    → length points ≤ next → (d : Point) → (get_or points 0 d).place ≤ place
+    → IsPartitionPoint (λ p. p.place ≤ place) (λ p. place < p.place) points next
+    → circle - (place - (get_or points 0 d).place) ≡ room points place
+room_round points place next rise on_circle some on_place past d first split =
+    let upper = up (cases_lt (get_or points 0 d).place place) in let lower = low in omega arith
   where
-    up : ((get_or points 0 d).place < place) ⊎ (place ≤ (get_or points 0 d).place) → room points place ≤ circle - (place - (get_or points 0 d).place)
+    up : ((get_or points 0 d).place < place) ⊎ (place ≤ (get_or points 0 d).place)
+        → room points place ≤ circle - (place - (get_or points 0 d).place)
     up (inl below) =
         let least = least_below (λ (p : Point). steps_to place p.place) circle points (get_or points 0 d) (In-from_Contains (get_or points 0 d) points (Contains-get_or points 0 d some)) in
         let is = steps_round place (get_or points 0 d).place below in
         omega arith
     up (inr level) = let least = least_upto (λ (p : Point). steps_to place p.place) circle points in omega arith
 
-    each_at : (k : ℕ) → k < length points → ((get_or points k d).place < place) ⊎ (place ≤ (get_or points k d).place) → circle - (place - (get_or points 0 d).place) ≤ steps_to place (get_or points k d).place
+    each_at : (k : ℕ) → k < length points → ((get_or points k d).place < place) ⊎ (place ≤ (get_or points k d).place)
+        → circle - (place - (get_or points 0 d).place) ≤ steps_to place (get_or points k d).place
     each_at k inside (inl below) =
         let is = steps_round place (get_or points k d).place below in
         let upto : (get_or points 0 d).place ≤ (get_or points k d).place = rise 0 k d (omega arith) inside in
@@ -120,14 +133,17 @@ room_round points place next rise on_circle some on_place past d first split = l
     each p there =
         let at = Contains-from_In p points there in
         let same : get_or points at.0 d ≡ p = get_or_default points at.0 d p at.1 ∙ at.2 in
-        subst (λ (q : Point). circle - (place - (get_or points 0 d).place) ≤ steps_to place q.place) same (each_at at.0 at.1 (cases_lt (get_or points at.0 d).place place))
+        subst (λ (q : Point). circle - (place - (get_or points 0 d).place) ≤ steps_to place q.place) same
+        (each_at at.0 at.1 (cases_lt (get_or points at.0 d).place place))
 
     low : circle - (place - (get_or points 0 d).place) ≤ room points place
-    low = least_above (λ (p : Point). steps_to place p.place) (circle - (place - (get_or points 0 d).place)) circle points (omega arith) each
+    low =
+        least_above (λ (p : Point). steps_to place p.place) (circle - (place - (get_or points 0 d).place)) circle points (omega arith) each
 
 -- ---- the first point at a place owns it
 pub owner_there : (points : List Point) (at : ℕ) (d : Point) → IsStrictlySortedBy point_cmp points → PlacesRise points → at < length points
-    → ((e : Point) → 0 < at → (get_or points (at - 1) e).place ≢ (get_or points at e).place) → IsOwner points (get_or points at d).place (get_or points at d)
+    → ((e : Point) → 0 < at → (get_or points (at - 1) e).place ≢ (get_or points at e).place)
+    → IsOwner points (get_or points at d).place (get_or points at d)
 owner_there points at d sorted rise within apart =
     owner_found points (get_or points at d).place at at d sorted
     (record {
@@ -139,14 +155,17 @@ owner_there points at d sorted rise within apart =
     })
     (first_alone points at rise within apart) (omega arith)
 
-pub owns_first : (points : List Point) (at : ℕ) (d : Point) → IsStrictlySortedBy point_cmp points → PlacesRise points → All IsOnCircle points → at < length points
-    → ((e : Point) → 0 < at → (get_or points (at - 1) e).place ≢ (get_or points at e).place) → true ≡ owns_its_place points (get_or points at d)
+pub owns_first : (points : List Point) (at : ℕ) (d : Point) → IsStrictlySortedBy point_cmp points → PlacesRise points
+    → All IsOnCircle points → at < length points
+    → ((e : Point) → 0 < at → (get_or points (at - 1) e).place ≢ (get_or points at e).place)
+    → true ≡ owns_its_place points (get_or points at d)
 owns_first points at d sorted rise on_circle within apart =
     let p : Point = get_or points at d in
     let is : owner_of points p.place ≡ Some p = owner_from points p.place p (on_circle at d within) on_circle (owner_there points at d sorted rise within apart) in
     sym (ap (λ o. is_point p o) is ∙ (Decides-point p p).1 refl)
 
-not_owner : (points : List Point) (at : ℕ) (d : Point) → IsStrictlySortedBy point_cmp points → All IsOnCircle points → at < length points → 0 < at
+not_owner : (points : List Point) (at : ℕ) (d : Point) → IsStrictlySortedBy point_cmp points → All IsOnCircle points → at < length points
+    → 0 < at
     → (get_or points (at - 1) d).place ≡ (get_or points at d).place → IsOwner points (get_or points at d).place (get_or points at d) → ⊥
 not_owner points at d sorted on_circle within some same is =
     let p : Point = get_or points at d in
@@ -162,33 +181,40 @@ not_owner points at d sorted on_circle within some same is =
     let is_after : rest ≡ Greater = tied_place p q Greater same after in
     let no : true ≡ false = sym (ap is_gt is_after) ∙ not_after in cc
 
-by_owner : (points : List Point) (p : Point) (o : Option Point) → owner_of points p.place ≡ o → (IsOwner points p.place p → ⊥) → false ≡ is_point p o
+by_owner : (points : List Point) (p : Point) (o : Option Point) → owner_of points p.place ≡ o → (IsOwner points p.place p → ⊥)
+    → false ≡ is_point p o
 by_owner points p None is never = refl
 by_owner points p (Some q) is never = differs (point_eq p q) refl
   where
     differs : (b : Bool) → point_eq p q ≡ b → false ≡ b
-    differs true same = absurd (never (subst (λ x. IsOwner points p.place x) (sym ((Decides-point p q).0 same)) (owner_is points p.place q is)))
+    differs true same =
+        absurd (never (subst (λ x. IsOwner points p.place x) (sym ((Decides-point p q).0 same)) (owner_is points p.place q is)))
     differs false same = refl
 
-pub owns_none : (points : List Point) (at : ℕ) (d : Point) → IsStrictlySortedBy point_cmp points → All IsOnCircle points → at < length points → 0 < at
+pub owns_none : (points : List Point) (at : ℕ) (d : Point) → IsStrictlySortedBy point_cmp points → All IsOnCircle points
+    → at < length points → 0 < at
     → (get_or points (at - 1) d).place ≡ (get_or points at d).place → false ≡ owns_its_place points (get_or points at d)
 owns_none points at d sorted on_circle within some same =
-    by_owner points (get_or points at d) (owner_of points (get_or points at d).place) refl (not_owner points at d sorted on_circle within some same)
+    by_owner points (get_or points at d) (owner_of points (get_or points at d).place) refl
+    (not_owner points at d sorted on_circle within some same)
 
 -- what is made of the points that pass a test
 abbrev pub picked : {A : Type 0} → (Point → A) → (Point → Bool) → List Point → List A
 picked make test points = map make (filter test points)
 
-picked-append : {A : Type 0} (make : Point → A) (test : Point → Bool) (xs ys : List Point) → picked make test (xs ++ ys) ≡ picked make test xs ++ picked make test ys
+picked-append : {A : Type 0} (make : Point → A) (test : Point → Bool) (xs ys : List Point)
+    → picked make test (xs ++ ys) ≡ picked make test xs ++ picked make test ys
 picked-append make test [] ys = refl
 picked-append make test (x ∷ xs) ys = by (test x) (picked-append make test xs ys)
   where
     by : (b : Bool) → picked make test (xs ++ ys) ≡ picked make test xs ++ picked make test ys
-        → map make (cond b (x ∷ filter test (xs ++ ys)) (filter test (xs ++ ys))) ≡ map make (cond b (x ∷ filter test xs) (filter test xs)) ++ picked make test ys
+        → map make (cond b (x ∷ filter test (xs ++ ys)) (filter test (xs ++ ys))) ≡ map make (cond b (x ∷ filter test xs) (filter test xs))
+        ++ picked make test ys
     by true later = ap (λ l. make x ∷ l) later
     by false later = later
 
-pub one_picked_more : {A : Type 0} (make : Point → A) (test : Point → Bool) (points : List Point) (i : ℕ) (p : Point) (passes : Bool) → i < length points → p ≡ get_or points i p → passes ≡ test p
+pub one_picked_more : {A : Type 0} (make : Point → A) (test : Point → Bool) (points : List Point) (i : ℕ) (p : Point) (passes : Bool)
+    → i < length points → p ≡ get_or points i p → passes ≡ test p
     → picked make test (take (i + 1) points) ≡ picked make test (take i points) ++ cond passes (make p ∷ []) []
 one_picked_more make test points i p passes within is told =
     ap (λ l. picked make test l) (one_more points i p within is)

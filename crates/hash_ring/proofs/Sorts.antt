@@ -25,10 +25,12 @@ module _ {K : Type 0} {R S : K → K → Ordering} (o : IsTotalOrder R) (exact :
       let down : R b a ≡ Less = o.antisymm b a ∙ ap ordering_reverse h in
       let no : true ≡ false = sym (ap is_lt down) ∙ up in cc
 
-  sorted_strictly_from : (first : K) (rest : List K) → IsSorted R (first ∷ rest) → IsDistinct (eq_by_cmp S) (first ∷ rest) → IsStrictlySortedBy R (first ∷ rest)
+  sorted_strictly_from : (first : K) (rest : List K) → IsSorted R (first ∷ rest) → IsDistinct (eq_by_cmp S) (first ∷ rest)
+      → IsStrictlySortedBy R (first ∷ rest)
   sorted_strictly_from first rest sorted distinct =
       sorted_from_all_adjacent o (first ∷ rest) first (λ k within.
-      rises (get_or (first ∷ rest) k first) (get_or (first ∷ rest) (k + 1) first) (R (get_or (first ∷ rest) k first) (get_or (first ∷ rest) (k + 1) first)) refl
+      rises (get_or (first ∷ rest) k first) (get_or (first ∷ rest) (k + 1) first)
+      (R (get_or (first ∷ rest) k first) (get_or (first ∷ rest) (k + 1) first)) refl
       (sorted k first (omega arith) within)
       (apart_from_distinct (eq_by_cmp S) (first ∷ rest) k (k + 1) first distinct (omega arith) within))
 
@@ -39,13 +41,16 @@ module _ {K : Type 0} {R S : K → K → Ordering} (o : IsTotalOrder R) (exact :
   -- what was in another strict order is by a sort in this one
   pub Rising-by_sort : (xs ys : List K) → Rising S xs → IsPermutation xs ys → IsSorted R ys → Rising R ys
   Rising-by_sort xs ys rising moved sorted =
-      sorted_strictly ys sorted (IsDistinct-IsPermutation (eq_by_cmp S) (eq_by_cmp_equiv other).symm xs ys moved (IsDistinct-from_sorted S xs (sorted-from_Rising S xs rising)))
+      sorted_strictly ys sorted (IsDistinct-IsPermutation (eq_by_cmp S) (eq_by_cmp_equiv other).symm xs ys moved
+      (IsDistinct-from_sorted S xs (sorted-from_Rising S xs rising)))
 
   pub sorted_is_inserted : (xs ys : List K) → Rising S xs → IsPermutation xs ys → IsSorted R ys → ys ≡ fold (insert_key R) [] xs
   sorted_is_inserted xs ys rising moved sorted =
       same_rising o ys (fold (insert_key R) [] xs) (Rising-by_sort xs ys rising moved sorted) (Rising-inserted o xs [] tt)
-      (λ z there. In-all_inserted o exact z xs [] (In-from_Contains z xs (Contains-permutation ys xs z (IsPermutation-sym xs ys moved) (Contains-from_In z ys there))))
-      (λ z there. In-from_Contains z ys (Contains-permutation xs ys z moved (Contains-from_In z xs (only z (In-from_inserted o z xs [] there)))))
+      (λ z there. In-all_inserted o exact z xs [] (In-from_Contains z xs
+      (Contains-permutation ys xs z (IsPermutation-sym xs ys moved) (Contains-from_In z ys there))))
+      (λ z there. In-from_Contains z ys (Contains-permutation xs ys z moved
+      (Contains-from_In z xs (only z (In-from_inserted o z xs [] there)))))
     where
       only : (z : K) → In z xs ⊎ In z [] → In z xs
       only z (inl there) = there

@@ -43,7 +43,8 @@ Rising-filter {K} R p (x ∷ xs) rising = by (p x) (Rising-filter R p xs rising.
     by true rest = (λ y there. rising.0 y (In-from_filter p y xs there).0, rest)
     by false rest = rest
 
-pub Rising-append : {K : Type 0} (R : K → K → Ordering) (xs ys : List K) → Rising R xs → Rising R ys → ((x y : K) → In x xs → In y ys → R x y ≡ Less) → Rising R (xs ++ ys)
+pub Rising-append : {K : Type 0} (R : K → K → Ordering) (xs ys : List K) → Rising R xs → Rising R ys
+    → ((x y : K) → In x xs → In y ys → R x y ≡ Less) → Rising R (xs ++ ys)
 Rising-append R [] ys first second before = second
 Rising-append {K} R (x ∷ xs) ys first second before = (head, Rising-append R xs ys first.1 second (λ a b there. before a b (inr there)))
   where
@@ -80,7 +81,8 @@ module _ {K : Type 0} {R : K → K → Ordering} (o : IsTotalOrder R) where
   In-from_insert_key k x [] (inr later) = absurd later
   In-from_insert_key k x (y ∷ ys) there = by (λ later. In-from_insert_key k x ys later) (R k y) there
     where
-      by : (In x (insert_key R ys k) → (k ≡ x) ⊎ In x ys) → (r : Ordering) → In x (match_ordering r (k ∷ y ∷ ys) (y ∷ ys) (y ∷ insert_key R ys k)) → (k ≡ x) ⊎ In x (y ∷ ys)
+      by : (In x (insert_key R ys k) → (k ≡ x) ⊎ In x ys) → (r : Ordering)
+          → In x (match_ordering r (k ∷ y ∷ ys) (y ∷ ys) (y ∷ insert_key R ys k)) → (k ≡ x) ⊎ In x (y ∷ ys)
       by again Less (inl here) = inl here
       by again Less (inr later) = inr later
       by again Equal found = inr found
@@ -107,7 +109,8 @@ module _ {K : Type 0} {R : K → K → Ordering} (o : IsTotalOrder R) where
       after_y : R k y ≡ Greater → (z : K) → In z (insert_key R ys k) → R y z ≡ Less
       after_y h z there = ⊎_elim (λ e. subst (λ w. R y w ≡ Less) e (turned k y h)) (λ l. rising.0 z l) (In-from_insert_key k z ys there)
 
-      by : Rising R (insert_key R ys k) → (r : Ordering) → R k y ≡ r → Rising R (match_ordering r (k ∷ y ∷ ys) (y ∷ ys) (y ∷ insert_key R ys k))
+      by : Rising R (insert_key R ys k) → (r : Ordering) → R k y ≡ r
+          → Rising R (match_ordering r (k ∷ y ∷ ys) (y ∷ ys) (y ∷ insert_key R ys k))
       by rest Less h = (after_k h, rising)
       by rest Equal h = rising
       by rest Greater h = (after_y h, rest)
@@ -123,7 +126,8 @@ module _ {K : Type 0} {R : K → K → Ordering} (o : IsTotalOrder R) where
 
   pub In-all_inserted : CmpEqualImpliesEq R → (x : K) (xs start : List K) → In x xs → In x (fold (insert_key R) start xs)
   In-all_inserted exact x [] start there = absurd there
-  In-all_inserted exact x (y ∷ ys) start (inl here) = In-start x ys (insert_key R start y) (subst (λ w. In w (insert_key R start y)) here (In-inserted exact y start))
+  In-all_inserted exact x (y ∷ ys) start (inl here) =
+      In-start x ys (insert_key R start y) (subst (λ w. In w (insert_key R start y)) here (In-inserted exact y start))
   In-all_inserted exact x (y ∷ ys) start (inr later) = In-all_inserted exact x ys (insert_key R start y) later
 
   pub In-from_inserted : (x : K) (xs start : List K) → In x (fold (insert_key R) start xs) → In x xs ⊎ In x start
@@ -153,7 +157,10 @@ module _ {K : Type 0} {R : K → K → Ordering} (o : IsTotalOrder R) where
       head = meet (forth x (inl refl)) (back y (inl refl))
 
       onward : (z : K) → In z xs → In z ys
-      onward z there = ⊎_elim (λ e. absurd (never_itself x (subst (λ w. R x w ≡ Less) (sym e ∙ sym head) (first.0 z there)))) (λ l. l) (forth z (inr there))
+      onward z there =
+          ⊎_elim (λ e. absurd (never_itself x (subst (λ w. R x w ≡ Less) (sym e ∙ sym head) (first.0 z there)))) (λ l. l)
+          (forth z (inr there))
 
       backward : (z : K) → In z ys → In z xs
-      backward z there = ⊎_elim (λ e. absurd (never_itself y (subst (λ w. R y w ≡ Less) (sym e ∙ head) (second.0 z there)))) (λ l. l) (back z (inr there))
+      backward z there =
+          ⊎_elim (λ e. absurd (never_itself y (subst (λ w. R y w ≡ Less) (sym e ∙ head) (second.0 z there)))) (λ l. l) (back z (inr there))

@@ -14,7 +14,8 @@ pub record IsNarrowed (points : List Point) (start size place : ℕ) : Type 0 wh
   pub above : (k : ℕ) (d : Point) → start + size ≤ k → k < length points → place < (get_or points k d).place
 
 -- a step narrows
-pub narrowed : (points : List Point) (start size third place step : ℕ) → IsNarrowed points start size place → 3 * third ≤ size + 1 → 2 * third ≤ size → IsStepByThirds points start third place step
+pub narrowed : (points : List Point) (start size third place step : ℕ) → IsNarrowed points start size place → 3 * third ≤ size + 1
+    → 2 * third ≤ size → IsStepByThirds points start third place step
     → IsNarrowed points (start + step) (size - 2 * third) place
 narrowed points start size third place step old few room by_thirds = record {
   within = let w = old.within in let b = by_thirds.bound in omega arith;
@@ -32,14 +33,21 @@ narrowed points start size third place step old few room by_thirds = record {
     high (inr ends) k d after within = let b = by_thirds.bound in ends k d (omega arith) within
 
 -- ---- A comparison at a point, whichever point the reading of the list falls back to.
-upto_at : (points : List Point) (m : ℕ) (e d : Point) (place : ℕ) → m < length points → leb (get_or points m e).place place ≡ true → (get_or points m d).place ≤ place
-upto_at points m e d place within is = let same = ap (λ (p : Point). p.place) (get_or_default points m e d within) in let h = leb-true (get_or points m e).place place is in omega arith
+upto_at : (points : List Point) (m : ℕ) (e d : Point) (place : ℕ) → m < length points → leb (get_or points m e).place place ≡ true
+    → (get_or points m d).place ≤ place
+upto_at points m e d place within is =
+    let same = ap (λ (p : Point). p.place) (get_or_default points m e d within) in let h = leb-true (get_or points m e).place place is in
+    omega arith
 
-after_at : (points : List Point) (m : ℕ) (e d : Point) (place : ℕ) → m < length points → leb (get_or points m e).place place ≡ false → place < (get_or points m d).place
-after_at points m e d place within is = let same = ap (λ (p : Point). p.place) (get_or_default points m e d within) in let h = leb-false (get_or points m e).place place is in omega arith
+after_at : (points : List Point) (m : ℕ) (e d : Point) (place : ℕ) → m < length points → leb (get_or points m e).place place ≡ false
+    → place < (get_or points m d).place
+after_at points m e d place within is =
+    let same = ap (λ (p : Point). p.place) (get_or_default points m e d within) in let h = leb-false (get_or points m e).place place is in
+    omega arith
 
 -- the two comparisons, added up, make a step
-stepped : (points : List Point) (start third place : ℕ) (e g : Point) (near far : Bool) → PlacesRise points → 0 < third → start + 2 * third ≤ length points
+stepped : (points : List Point) (start third place : ℕ) (e g : Point) (near far : Bool) → PlacesRise points → 0 < third
+    → start + 2 * third ≤ length points
     → leb (get_or points ((start + third) - 1) e).place place ≡ near → leb (get_or points ((start + 2 * third) - 1) g).place place ≡ far
     → IsStepByThirds points start third place (third * (from_bool near + from_bool far))
 stepped points start third place e g true true rise some within near far = record {
@@ -75,7 +83,8 @@ stepped points start third place e g false false rise some within near far = rec
       omega arith);
 }
 
-pub stepped_by : (points : List Point) (start third place : ℕ) (e g : Point) (near far : Bool) (a b : ℕ) → PlacesRise points → 0 < third → start + 2 * third ≤ length points
+pub stepped_by : (points : List Point) (start third place : ℕ) (e g : Point) (near far : Bool) (a b : ℕ) → PlacesRise points → 0 < third
+    → start + 2 * third ≤ length points
     → leb (get_or points ((start + third) - 1) e).place place ≡ near → leb (get_or points ((start + 2 * third) - 1) g).place place ≡ far
     → a ≡ from_bool near → b ≡ from_bool far → IsStepByThirds points start third place (third * (a + b))
 stepped_by points start third place e g near far a b rise some within nearer farther one other =

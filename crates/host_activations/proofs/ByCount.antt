@@ -46,12 +46,14 @@ put_in_place (e ∷ es) x under apart = by (nat_cmp x.1.count e.0) refl (put_in_
         ≡ cond (nat_lt x.1.count e.1.1.count) (x ∷ e.1 ∷ values_of es) (e.1 ∷ placed (values_of es) x)
     by Less is later =
         let below : x.1.count < e.0 = ranked x.1.count e.0 Less is in
-        sym (ap (λ b. cond b (x ∷ e.1 ∷ values_of es) (e.1 ∷ placed (values_of es) x)) (lt-ltb x.1.count e.1.1.count (subst (λ (n : ℕ). x.1.count < n) under.0 below)))
+        sym (ap (λ b. cond b (x ∷ e.1 ∷ values_of es) (e.1 ∷ placed (values_of es) x))
+        (lt-ltb x.1.count e.1.1.count (subst (λ (n : ℕ). x.1.count < n) under.0 below)))
     by Equal is later = absurd (apart.0.1 (ranked x.1.count e.0 Equal is ∙ under.0))
     by Greater is later =
         let above : e.0 < x.1.count = ranked x.1.count e.0 Greater is in
         ap (λ l. e.1 ∷ l) later
-        ∙ sym (ap (λ b. cond b (x ∷ e.1 ∷ values_of es) (e.1 ∷ placed (values_of es) x)) (lt_false x.1.count e.1.1.count (subst (λ (n : ℕ). n < x.1.count) under.0 above)))
+        ∙ sym (ap (λ b. cond b (x ∷ e.1 ∷ values_of es) (e.1 ∷ placed (values_of es) x))
+        (lt_false x.1.count e.1.1.count (subst (λ (n : ℕ). n < x.1.count) under.0 above)))
 
 -- what a loop keeps: all those that are left are apart from each other and from those put in
 pub record AreLeft (es : List (ℕ × (Grain × Held))) (left : List (Grain × Held)) : Type 0 where
@@ -61,21 +63,25 @@ pub record AreLeft (es : List (ℕ × (Grain × Held))) (left : List (Grain × H
 pub left_at_first : (es : List (ℕ × (Grain × Held))) (left : List (Grain × Held)) → es ≡ [] → AreLeft es left
 left_at_first es left none = subst (λ l. AreLeft l left) (sym none) (record { under = tt; fresh = fresh_to_none left })
 
-others_fresh : (acc : List (Grain × Held)) (e : Grain × Held) (left : List (Grain × Held)) → AllByRecursion (Apart e) left → AllByRecursion (λ x. AllByRecursion (Apart x) acc) left
+others_fresh : (acc : List (Grain × Held)) (e : Grain × Held) (left : List (Grain × Held)) → AllByRecursion (Apart e) left
+    → AllByRecursion (λ x. AllByRecursion (Apart x) acc) left
     → AllByRecursion (λ x. AllByRecursion (Apart x) (placed acc e)) left
 others_fresh acc e [] apart fresh = tt
 others_fresh acc e (x ∷ left) apart fresh = (all_placed (Apart x) acc e fresh.0 (flip e x apart.0), others_fresh acc e left apart.1 fresh.1)
 
-pub left_on : (es : List (ℕ × (Grain × Held))) (x : Grain × Held) (left : List (Grain × Held)) → AreLeft es (x ∷ left) → AllByRecursion (Apart x) left → (new : List (ℕ × (Grain × Held)))
+pub left_on : (es : List (ℕ × (Grain × Held))) (x : Grain × Held) (left : List (Grain × Held)) → AreLeft es (x ∷ left)
+    → AllByRecursion (Apart x) left → (new : List (ℕ × (Grain × Held)))
     → new ≡ insert_entry nat_cmp es x.1.count x → AreLeft new left
 left_on es x left are apart new is = record {
   under = subst AreUnder (sym is) (under_more es x are.under);
-  fresh = subst (λ l. AllByRecursion (λ y. AllByRecursion (Apart y) l) left) (sym (ap values_of is ∙ put_in_place es x are.under are.fresh.0))
+  fresh =
+      subst (λ l. AllByRecursion (λ y. AllByRecursion (Apart y) l) left) (sym (ap values_of is ∙ put_in_place es x are.under are.fresh.0))
       (others_fresh (values_of es) x left apart are.fresh.1);
 }
 
 -- one more is put in of those that are left at an index
-pub counted_on : (es : List (Grain × Held)) (index : ℕ) (e : Grain × Held) → slice_get es index ≡ Some e → (counted new : List (ℕ × (Grain × Held))) → new ≡ insert_entry nat_cmp counted e.1.count e
+pub counted_on : (es : List (Grain × Held)) (index : ℕ) (e : Grain × Held) → slice_get es index ≡ Some e
+    → (counted new : List (ℕ × (Grain × Held))) → new ≡ insert_entry nat_cmp counted e.1.count e
     → fold placed (values_of counted) (drop index es) ≡ in_order es → AllApart (drop index es) → AreLeft counted (drop index es)
     → (fold placed (values_of new) (drop (index + 1) es) ≡ in_order es) × AllApart (drop (index + 1) es) × AreLeft new (drop (index + 1) es)
 counted_on es index e there counted new is so_far apart left =
@@ -83,7 +89,8 @@ counted_on es index e there counted new is so_far apart left =
     let taken : drop index es ≡ e ∷ rest = left_from es index e there in
     let are : AreLeft counted (e ∷ rest) = subst (λ l. AreLeft counted l) taken left in
     let others : AllApart (e ∷ rest) = subst AllApart taken apart in (
-      ap (λ l. fold placed l rest) (ap values_of is ∙ put_in_place counted e are.under are.fresh.0) ∙ ap (λ l. fold placed (values_of counted) l) (sym taken) ∙ so_far,
+      ap (λ l. fold placed l rest) (ap values_of is ∙ put_in_place counted e are.under are.fresh.0)
+          ∙ ap (λ l. fold placed (values_of counted) l) (sym taken) ∙ so_far,
       others.1,
       left_on counted e rest are others.0 new is,
     )
@@ -96,25 +103,29 @@ AreRows es [] (r ∷ rows) = ⊥
 AreRows es (i ∷ indices) [] = ⊥
 AreRows es (i ∷ indices) (r ∷ rows) = (i.0 ≡ r.0) × ((slice_get es i.1 ≡ Some r.1) × AreRows es indices rows)
 
-rows_more : (es : List (Grain × Held)) (index : ℕ) (e : Grain × Held) → slice_get es index ≡ Some e → (count : ℕ) (indices : List (ℕ × ℕ)) (rows : List (ℕ × (Grain × Held)))
+rows_more : (es : List (Grain × Held)) (index : ℕ) (e : Grain × Held) → slice_get es index ≡ Some e
+    → (count : ℕ) (indices : List (ℕ × ℕ)) (rows : List (ℕ × (Grain × Held)))
     → AreRows es indices rows → AreRows es (insert_entry nat_cmp indices count index) (insert_entry nat_cmp rows count e)
 rows_more es index e there count [] [] are = (refl, (there, tt))
 rows_more es index e there count [] (r ∷ rows) are = absurd are
 rows_more es index e there count (i ∷ indices) [] are = absurd are
 rows_more es index e there count (i ∷ indices) (r ∷ rows) are =
     subst (λ n.
-    AreRows es (match_ordering (nat_cmp count i.0) ((count, index) ∷ i ∷ indices) ((i.0, index) ∷ indices) (i ∷ insert_entry nat_cmp indices count index))
+    AreRows es (match_ordering (nat_cmp count i.0) ((count, index) ∷ i ∷ indices) ((i.0, index) ∷ indices)
+    (i ∷ insert_entry nat_cmp indices count index))
     (match_ordering (nat_cmp count n) ((count, e) ∷ r ∷ rows) ((r.0, e) ∷ rows) (r ∷ insert_entry nat_cmp rows count e)))
     are.0 (by (nat_cmp count i.0) (rows_more es index e there count indices rows are.1.1))
   where
     by : (o : Ordering) → AreRows es (insert_entry nat_cmp indices count index) (insert_entry nat_cmp rows count e)
-        → AreRows es (match_ordering o ((count, index) ∷ i ∷ indices) ((i.0, index) ∷ indices) (i ∷ insert_entry nat_cmp indices count index))
+        → AreRows es (match_ordering o ((count, index) ∷ i ∷ indices) ((i.0, index) ∷ indices)
+        (i ∷ insert_entry nat_cmp indices count index))
         (match_ordering o ((count, e) ∷ r ∷ rows) ((r.0, e) ∷ rows) (r ∷ insert_entry nat_cmp rows count e))
     by Less later = (refl, (there, are))
     by Equal later = (are.0, (there, are.1.1))
     by Greater later = (are.0, (are.1.0, later))
 
-rows_at : (es : List (Grain × Held)) (indices : List (ℕ × ℕ)) (rows : List (ℕ × (Grain × Held))) → AreRows es indices rows → AreAt es (values_of indices) (values_of rows)
+rows_at : (es : List (Grain × Held)) (indices : List (ℕ × ℕ)) (rows : List (ℕ × (Grain × Held))) → AreRows es indices rows
+    → AreAt es (values_of indices) (values_of rows)
 rows_at es [] [] are = tt
 rows_at es [] (r ∷ rows) are = absurd are
 rows_at es (i ∷ indices) [] are = absurd are
@@ -130,9 +141,17 @@ pub record AreCounted (es : List (Grain × Held)) (index : ℕ) (indices : List 
 
 pub counted_none : (es : List (Grain × Held)) → AreApart es → (indices : List (ℕ × ℕ)) → indices ≡ [] → AreCounted es 0 indices
 counted_none es apart indices none =
-    subst (AreCounted es 0) (sym none) (record { rows = []; are = tt; so_far = refl; apart = are_all_apart es apart; left = left_at_first [] es refl })
+    subst (AreCounted es 0) (sym none) (record {
+      rows = [];
+      are = tt;
+      so_far = refl;
+      apart = are_all_apart es apart;
+      left = left_at_first []
+          es refl;
+    })
 
-pub counted_more : (es : List (Grain × Held)) (index : ℕ) (e : Grain × Held) → slice_get es index ≡ Some e → (indices new : List (ℕ × ℕ)) → new ≡ insert_entry nat_cmp indices e.1.count index
+pub counted_more : (es : List (Grain × Held)) (index : ℕ) (e : Grain × Held) → slice_get es index ≡ Some e → (indices new : List (ℕ × ℕ))
+    → new ≡ insert_entry nat_cmp indices e.1.count index
     → AreCounted es index indices → AreCounted es (index + 1) new
 counted_more es index e there indices new is so =
     let rows : List (ℕ × (Grain × Held)) = insert_entry nat_cmp so.rows e.1.count e in
@@ -145,7 +164,8 @@ counted_more es index e there indices new is so =
       left = on.2;
     }
 
-pub counted_all : (es : List (Grain × Held)) (index : ℕ) (indices : List (ℕ × ℕ)) → drop index es ≡ [] → AreCounted es index indices → AreAt es (values_of indices) (in_order es)
+pub counted_all : (es : List (Grain × Held)) (index : ℕ) (indices : List (ℕ × ℕ)) → drop index es ≡ [] → AreCounted es index indices
+    → AreAt es (values_of indices) (in_order es)
 counted_all es index indices none so =
     subst (AreAt es (values_of indices)) (ap (fold placed (values_of so.rows)) (sym none) ∙ so.so_far) (rows_at es indices so.rows so.are)
 
@@ -156,11 +176,18 @@ pub record AreTold (es list : List (Grain × Held)) (indices : List ℕ) : Type 
   pub at : AreAt es indices rest
   pub so_far : list ++ rest ≡ in_order es
 
-told_on : (es list : List (Grain × Held)) (i : ℕ) (indices : List ℕ) (e : Grain × Held) → slice_get es i ≡ Some e → (rest : List (Grain × Held)) → AreAt es (i ∷ indices) rest → list ++ rest ≡ in_order es
+told_on : (es list : List (Grain × Held)) (i : ℕ) (indices : List ℕ) (e : Grain × Held) → slice_get es i ≡ Some e
+    → (rest : List (Grain × Held)) → AreAt es (i ∷ indices) rest → list ++ rest ≡ in_order es
     → AreTold es (list ++ e ∷ []) indices
 told_on es list i indices e there [] at so_far = absurd at
 told_on es list i indices e there (x ∷ rest) at so_far =
-    record { rest = rest; at = at.1; so_far = append_assoc list (e ∷ []) rest ∙ ap (λ y. list ++ y ∷ rest) (same_Some e x (sym there ∙ at.0)) ∙ so_far }
+    record {
+      rest = rest;
+      at = at.1;
+      so_far = append_assoc list (e ∷ []) rest
+          ∙ ap (λ y. list ++ y ∷ rest) (same_Some e x (sym there ∙ at.0)) ∙ so_far;
+    }
 
-pub told_more : (es list : List (Grain × Held)) (i : ℕ) (indices : List ℕ) (e : Grain × Held) → slice_get es i ≡ Some e → AreTold es list (i ∷ indices) → AreTold es (list ++ e ∷ []) indices
+pub told_more : (es list : List (Grain × Held)) (i : ℕ) (indices : List ℕ) (e : Grain × Held) → slice_get es i ≡ Some e
+    → AreTold es list (i ∷ indices) → AreTold es (list ++ e ∷ []) indices
 told_more es list i indices e there so = told_on es list i indices e there so.rest so.at so.so_far

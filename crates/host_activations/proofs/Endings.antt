@@ -8,7 +8,8 @@ use Rattle.std.specs.Ordering.{nat_cmp}
 use Rattle.silo_address.specs.Grain.{Grain, grain_cmp, grain_eq}
 use Rattle.directory_rules.specs.declared.Held.{Held}
 use Rattle.directory_rules.specs.declared.Phase.TheVariants.{Firm}
-use Rattle.directory_rules.specs.Host.{Host, held_of, asking_under, is_asking_under, confirmed, without_held, without_find}
+use Rattle.directory_rules.specs.State.{Host}
+use Rattle.directory_rules.specs.Host.{held_of, asking_under, is_asking_under, confirmed, without_held, without_find}
 use Rattle.host_activations.specs.declared.asked.OutstandingRequest.{OutstandingRequest}
 use Rattle.host_activations.specs.declared.asked.OutstandingRequest.TheVariants.{Activation, Find}
 use Rattle.host_activations.specs.declared.host.Host.TheInside.{Inside}
@@ -20,7 +21,7 @@ use Rattle.host_activations.proofs.Numbers.{GivesNumber, changed, gone}
 use Rattle.host_activations.proofs.Found.{each_found, found_by_search}
 use Rattle.host_activations.proofs.HostKept.{asking_less, resting, finding_less}
 use Rattle.host_activations.proofs.Entries.{remove_absent}
-use Rattle.host_activations.proofs.Finds.{find_under, finds_taken, finds_kept, find_less}
+use Rattle.host_activations.proofs.Finds.{find_under, finds_taken, finds_kept}
 use Rattle.host_activations.proofs.Fields.{made, meant, asking_has}
 
 -- without what is outstanding under the number, if there is one
@@ -28,7 +29,8 @@ abbrev pub without_number : Option ℕ → List (ℕ × OutstandingRequest) → 
 without_number None outstanding = outstanding
 without_number (Some number) outstanding = remove_entry (is_at (nat_cmp number)) outstanding
 
-pub freed : (number : Option ℕ) (old new : List (ℕ × OutstandingRequest)) → MatchOption number (new ≡ old) (λ taken. new ≡ remove_entry (is_at (nat_cmp taken)) old) → new ≡ without_number number old
+pub freed : (number : Option ℕ) (old new : List (ℕ × OutstandingRequest))
+    → MatchOption number (new ≡ old) (λ taken. new ≡ remove_entry (is_at (nat_cmp taken)) old) → new ≡ without_number number old
 freed None old new is = is
 freed (Some number) old new is = is
 
@@ -41,40 +43,48 @@ module _ (h : Inside) (is : IsWhole h) where
   left grain = without_number (number_of grain h.held.entries) h.outstanding.entries
 
   -- the activation of a grain has nothing outstanding any more, or is no more
-  rested : (new : List (Grain × Held)) (grain : Grain) (number : Option ℕ) → number_of grain h.held.entries ≡ number → GivesNumber grain None h.held.entries new
+  pub rested : (new : List (Grain × Held)) (grain : Grain) (number : Option ℕ) → number_of grain h.held.entries ≡ number
+      → GivesNumber grain None h.held.entries new
       → IsDistinct grain_eq (keys_of new) → AreHeld h.next_number new (without_number number h.outstanding.entries)
   rested new grain None had gives apart = resting h.next_number h.held.entries new h.outstanding.entries is.are_held grain had gives apart
-  rested new grain (Some number) had gives apart = asking_less h.next_number h.held.entries new h.outstanding.entries is.are_held grain number had gives apart
+  rested new grain (Some number) had gives apart =
+      asking_less h.next_number h.held.entries new h.outstanding.entries is.are_held grain number had gives apart
 
-  same_finds : (grain : Grain) (number : Option ℕ) → number_of grain h.held.entries ≡ number → finds_in (without_number number h.outstanding.entries) ≡ finds_in h.outstanding.entries
+  pub same_finds : (grain : Grain) (number : Option ℕ) → number_of grain h.held.entries ≡ number
+      → finds_in (without_number number h.outstanding.entries) ≡ finds_in h.outstanding.entries
   same_finds grain None had = refl
   same_finds grain (Some number) had =
       finds_kept h.outstanding.entries is.are_held.in_order number (no_find_in _ grain (is.are_held.asked.there grain number had))
 
   -- what every host keeps, where the activation of a grain has nothing outstanding any more, or is no more
-  pub rested_is : (new : List (Grain × Held)) (now : List (ℕ × OutstandingRequest)) (grain : Grain) → GivesNumber grain None h.held.entries new → IsDistinct grain_eq (keys_of new)
-      → now ≡ left grain → IsHost h.next_number new now h.find_count
+  pub rested_is : (new : List (Grain × Held)) (now : List (ℕ × OutstandingRequest)) (grain : Grain)
+      → GivesNumber grain None h.held.entries new → IsDistinct grain_eq (keys_of new)
+      → now ≡ left grain → IsHost h.next_number new now
   rested_is new now grain gives apart now_is = record {
     number = is.number;
     are_held = subst (λ o. AreHeld h.next_number new o) (sym now_is) (rested new grain (number_of grain h.held.entries) refl gives apart);
-    counted = is.counted ∙ ap (λ (l : List (ℕ × Grain)). length l) (sym (ap finds_in now_is ∙ same_finds grain (number_of grain h.held.entries) refl));
-    few = is.few;
   }
 
   rested_means : (new old : List (Grain × Held)) (now : List (ℕ × OutstandingRequest)) (grain : Grain) → new ≡ old → now ≡ left grain
-      → meant h.silo h.next_number h.held.next_count new now ≡ made h.silo h.next_number h.held.next_count old (finds_in h.outstanding.entries)
+      → meant h.silo h.next_number h.held.next_count new now ≡ made h.silo h.next_number h.held.next_count old
+      (finds_in h.outstanding.entries)
   rested_means new old now grain held_is now_is =
-      λ i. made h.silo h.next_number h.held.next_count (held_is i) ((ap finds_in now_is ∙ same_finds grain (number_of grain h.held.entries) refl) i)
+      λ i. made h.silo h.next_number h.held.next_count (held_is i)
+      ((ap finds_in now_is ∙ same_finds grain (number_of grain h.held.entries) refl) i)
 
   -- an activation ends
-  pub ended_is : (new : List (Grain × Held)) (now : List (ℕ × OutstandingRequest)) (grain : Grain) → new ≡ remove_entry (is_at (grain_cmp grain)) h.held.entries → IsDistinct grain_eq (keys_of new)
-      → now ≡ left grain → IsHost h.next_number new now h.find_count
+  pub ended_is : (new : List (Grain × Held)) (now : List (ℕ × OutstandingRequest)) (grain : Grain)
+      → new ≡ remove_entry (is_at (grain_cmp grain)) h.held.entries → IsDistinct grain_eq (keys_of new)
+      → now ≡ left grain → IsHost h.next_number new now
   ended_is new now grain held_is apart now_is =
-      rested_is new now grain (λ q. ap (λ (l : List (Grain × Held)). number_of q l) held_is ∙ gone grain h.held.entries is.are_held.apart q) apart now_is
+      rested_is new now grain (λ q. ap (λ (l : List (Grain × Held)). number_of q l) held_is ∙ gone grain h.held.entries is.are_held.apart q)
+      apart now_is
 
-  pub ended_means : (host : Host) → host_of h ≡ host → (new : List (Grain × Held)) (now : List (ℕ × OutstandingRequest)) (grain : Grain) → new ≡ remove_entry (is_at (grain_cmp grain)) h.held.entries
+  pub ended_means : (host : Host) → host_of h ≡ host → (new : List (Grain × Held)) (now : List (ℕ × OutstandingRequest)) (grain : Grain)
+      → new ≡ remove_entry (is_at (grain_cmp grain)) h.held.entries
       → now ≡ left grain → meant h.silo h.next_number h.held.next_count new now ≡ without_held host grain
-  ended_means host means new now grain held_is now_is = rested_means new _ now grain held_is now_is ∙ ap (λ (x : Host). without_held x grain) means
+  ended_means host means new now grain held_is now_is =
+      rested_means new _ now grain held_is now_is ∙ ap (λ (x : Host). without_held x grain) means
 
   -- an asking activation is firm
   asking_there : (number : ℕ) (grain : Grain) (held : Held) → asking_under (host_of h) number ≡ Some (grain, held)
@@ -85,18 +95,21 @@ module _ (h : Inside) (is : IsWhole h) where
 
   pub there : (host : Host) → host_of h ≡ host → (number : ℕ) (grain : Grain) (held : Held) → asking_under host number ≡ Some (grain, held)
       → (held_of (host_of h) grain ≡ Some held) × (number_of grain h.held.entries ≡ Some number)
-  there host means number grain held found = asking_there number grain held (subst (λ (x : Host). asking_under x number ≡ Some (grain, held)) (sym means) found)
+  there host means number grain held found =
+      asking_there number grain held (subst (λ (x : Host). asking_under x number ≡ Some (grain, held)) (sym means) found)
 
-  module _ (host : Host) (means : host_of h ≡ host) (number : ℕ) (grain : Grain) (held : Held) (found : asking_under host number ≡ Some (grain, held))
+  module _ (host : Host) (means : host_of h ≡ host) (number : ℕ) (grain : Grain) (held : Held)
+      (found : asking_under host number ≡ Some (grain, held))
       (new : List (Grain × Held)) (now : List (ℕ × OutstandingRequest))
-      (held_is : new ≡ set_value (is_at (grain_cmp grain)) h.held.entries (record held { phase = Firm; previous = None })) (now_is : now ≡ remove_entry (is_at (nat_cmp number)) h.outstanding.entries) where
+      (held_is : new ≡ set_value (is_at (grain_cmp grain)) h.held.entries (record held { phase = Firm; previous = None }))
+      (now_is : now ≡ remove_entry (is_at (nat_cmp number)) h.outstanding.entries) where
     was : (held_of (host_of h) grain ≡ Some held) × (number_of grain h.held.entries ≡ Some number)
     was = there host means number grain held found
 
     taken : now ≡ left grain
     taken = now_is ∙ ap (λ o. without_number o h.outstanding.entries) (sym was.1)
 
-    pub confirmed_is : IsDistinct grain_eq (keys_of new) → IsHost h.next_number new now h.find_count
+    pub confirmed_is : IsDistinct grain_eq (keys_of new) → IsHost h.next_number new now
     confirmed_is apart =
         rested_is new now grain
         (λ q. ap (λ (l : List (Grain × Held)). number_of q l) held_is
@@ -106,30 +119,29 @@ module _ (h : Inside) (is : IsWhole h) where
     confirmed_means = rested_means new _ now grain held_is taken ∙ ap (λ (x : Host). confirmed x grain held) means
 
   -- a find ends
-  module _ (now : List (ℕ × OutstandingRequest)) (number : ℕ) (grain : Grain) (there : asked_under number h.outstanding.entries ≡ Some (Find grain))
+  module _ (now : List (ℕ × OutstandingRequest)) (number : ℕ) (grain : Grain)
+      (there : asked_under number h.outstanding.entries ≡ Some (Find grain))
       (now_is : now ≡ remove_entry (is_at (nat_cmp number)) h.outstanding.entries) where
-    pub found_is : IsHost h.next_number h.held.entries now (h.find_count - 1)
+    pub found_is : IsHost h.next_number h.held.entries now
     found_is = record {
       number = is.number;
-      are_held = subst (λ o. AreHeld h.next_number h.held.entries o) (sym now_is) (finding_less h.next_number h.held.entries h.outstanding.entries is.are_held grain number there);
-      counted = let less = find_less h.outstanding.entries is.are_held.in_order number grain there in let counted = is.counted in
-          let same : length (finds_in now) ≡ length (finds_in (remove_entry (is_at (nat_cmp number)) h.outstanding.entries)) = ap (λ (l : List (ℕ × OutstandingRequest)). length (finds_in l)) now_is in
-          omega (counted, less, same, arith);
-      few = let few = is.few in omega (few, arith);
+      are_held =
+          subst (λ o. AreHeld h.next_number h.held.entries o) (sym now_is)
+          (finding_less h.next_number h.held.entries h.outstanding.entries is.are_held grain number there);
     }
 
-    -- so there was one
-    pub some_find : 1 ≤ h.find_count
-    some_find = let less = find_less h.outstanding.entries is.are_held.in_order number grain there in let counted = is.counted in omega (counted, less, arith)
-
-    pub found_means : (host : Host) → host_of h ≡ host → meant h.silo h.next_number h.held.next_count h.held.entries now ≡ without_find host number
+    pub found_means : (host : Host) → host_of h ≡ host
+        → meant h.silo h.next_number h.held.next_count h.held.entries now ≡ without_find host number
     found_means host means =
-        (λ i. made h.silo h.next_number h.held.next_count h.held.entries ((ap finds_in now_is ∙ finds_taken h.outstanding.entries is.are_held.in_order number) i))
+        (λ i. made h.silo h.next_number h.held.next_count h.held.entries
+        ((ap finds_in now_is ∙ finds_taken h.outstanding.entries is.are_held.in_order number) i))
         ∙ ap (λ (x : Host). without_find x number) means
 
   -- no find has the number
-  pub not_found_means : (host : Host) → host_of h ≡ host → (number : ℕ) → option_and_then find_in (asked_under number h.outstanding.entries) ≡ None → host ≡ without_find host number
+  pub not_found_means : (host : Host) → host_of h ≡ host → (number : ℕ)
+      → option_and_then find_in (asked_under number h.outstanding.entries) ≡ None → host ≡ without_find host number
   not_found_means host means number none =
       subst (λ (x : Host). x ≡ without_find x number) means
       (λ i. made h.silo h.next_number h.held.next_count h.held.entries
-      (sym (remove_absent (is_at (nat_cmp number)) (finds_in h.outstanding.entries) (find_under h.outstanding.entries is.are_held.in_order number ∙ none)) i))
+      (sym (remove_absent (is_at (nat_cmp number)) (finds_in h.outstanding.entries)
+      (find_under h.outstanding.entries is.are_held.in_order number ∙ none)) i))

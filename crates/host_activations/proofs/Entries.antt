@@ -9,7 +9,8 @@ module _ {K X : Type 0} (test : K → Bool) where
   lookup_last [] e none = refl
   lookup_last (x ∷ xs) e none = by (test x.0) none (lookup_last xs e)
     where
-      by : (b : Bool) → cond b (Some x.1) (lookup test xs) ≡ None → (lookup test xs ≡ None → lookup test (xs ++ e ∷ []) ≡ cond (test e.0) (Some e.1) None)
+      by : (b : Bool) → cond b (Some x.1) (lookup test xs) ≡ None
+          → (lookup test xs ≡ None → lookup test (xs ++ e ∷ []) ≡ cond (test e.0) (Some e.1) None)
           → cond b (Some x.1) (lookup test (xs ++ e ∷ [])) ≡ cond (test e.0) (Some e.1) None
       by true none later = cc
       by false none later = later none
@@ -24,7 +25,8 @@ module _ {K X : Type 0} (test : K → Bool) where
   length-remove_entry [] x found = cc
   length-remove_entry (e ∷ es) x found = by (test e.0) found (length-remove_entry es x)
     where
-      by : (b : Bool) → cond b (Some e.1) (lookup test es) ≡ Some x → (lookup test es ≡ Some x → length (remove_entry test es) + 1 ≡ length es)
+      by : (b : Bool) → cond b (Some e.1) (lookup test es) ≡ Some x
+          → (lookup test es ≡ Some x → length (remove_entry test es) + 1 ≡ length es)
           → length (cond b es (e ∷ remove_entry test es)) + 1 ≡ length (e ∷ es)
       by true found later = omega arith
       by false found later = let h = later found in omega (h, arith)
@@ -33,7 +35,8 @@ module _ {K X : Type 0} (test : K → Bool) where
   remove_absent [] none = refl
   remove_absent (e ∷ es) none = by (test e.0) none (remove_absent es)
     where
-      by : (b : Bool) → cond b (Some e.1) (lookup test es) ≡ None → (lookup test es ≡ None → remove_entry test es ≡ es) → cond b es (e ∷ remove_entry test es) ≡ e ∷ es
+      by : (b : Bool) → cond b (Some e.1) (lookup test es) ≡ None → (lookup test es ≡ None → remove_entry test es ≡ es)
+          → cond b es (e ∷ remove_entry test es) ≡ e ∷ es
       by true none later = cc
       by false none later = ap (λ l. e ∷ l) (later none)
 

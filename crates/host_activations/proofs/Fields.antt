@@ -5,7 +5,8 @@ use Rattle.silo_address.specs.Grain.{Grain}
 use Rattle.directory_rules.specs.declared.Held.{Held}
 use Rattle.directory_rules.specs.declared.Phase.{Phase}
 use Rattle.directory_rules.specs.declared.Phase.TheVariants.{Asking, Firm, Closing}
-use Rattle.directory_rules.specs.Host.{Host, is_firm, is_asking_under, is_closing_under}
+use Rattle.directory_rules.specs.State.{Host}
+use Rattle.directory_rules.specs.Host.{is_firm, is_asking_under, is_closing_under}
 use Rattle.host_activations.specs.declared.asked.OutstandingRequest.{OutstandingRequest}
 use Rattle.host_activations.specs.Numbers.{number_in}
 use Rattle.host_activations.specs.Asked.{finds_in}

@@ -39,11 +39,13 @@ each_found (e ∷ es) apart = (
 
 module _ (test : Grain × Held → Bool) where
   -- what a search gives passes, and is found at its grain
-  pub found_by_search : (all es : List (Grain × Held)) → AllByRecursion (IsFoundIn all) es → (f : Grain × Held) → find test es ≡ Some f → IsFoundIn all f × (test f ≡ true)
+  pub found_by_search : (all es : List (Grain × Held)) → AllByRecursion (IsFoundIn all) es → (f : Grain × Held) → find test es ≡ Some f
+      → IsFoundIn all f × (test f ≡ true)
   found_by_search all [] found f is = cc
   found_by_search all (e ∷ es) found f is = by (test e) refl is (found_by_search all es found.1 f)
     where
-      by : (b : Bool) → test e ≡ b → cond b (Some e) (find test es) ≡ Some f → (find test es ≡ Some f → IsFoundIn all f × (test f ≡ true)) → IsFoundIn all f × (test f ≡ true)
+      by : (b : Bool) → test e ≡ b → cond b (Some e) (find test es) ≡ Some f → (find test es ≡ Some f → IsFoundIn all f × (test f ≡ true))
+          → IsFoundIn all f × (test f ≡ true)
       by true h is later = let same : e ≡ f = same_Some e f is in (subst (IsFoundIn all) same found.0, subst (λ x. test x ≡ true) same h)
       by false h is later = later is
 
@@ -52,13 +54,16 @@ module _ (test : Grain × Held → Bool) where
       → lookup (is_at (grain_cmp g)) es ≡ Some h → test (g, h) ≡ true → find test es ≡ Some (g, h)
   search_finds [] g h only there passes = cc
   search_finds (e ∷ es) g h only there passes =
-      on_grain (λ b. cond b (Some e.1) (lookup (is_at (grain_cmp g)) es) ≡ Some h → cond (test e) (Some e) (find test es) ≡ Some (g, h)) g e.0
+      on_grain (λ b. cond b (Some e.1) (lookup (is_at (grain_cmp g)) es) ≡ Some h → cond (test e) (Some e) (find test es) ≡ Some (g, h)) g
+      e.0
       (λ same it. let here : e ≡ (g, h) = (λ i. (sym same i, same_Some e.1 h it i)) in
       ap (λ (x : Grain × Held). cond (test x) (Some x) (find test es)) here ∙ ap (λ b. cond b (Some (g, h)) (find test es)) passes)
       (λ other it. by (test e) refl other (search_finds es g h only.1 it passes)) there
     where
-      by : (b : Bool) → test e ≡ b → is_at (grain_cmp g) e.0 ≡ false → find test es ≡ Some (g, h) → cond b (Some e) (find test es) ≡ Some (g, h)
-      by true p other later = let h : true ≡ false = sym (grain_at_itself g) ∙ ap (λ (x : Grain). is_at (grain_cmp g) x) (sym (only.0 p)) ∙ other in cc
+      by : (b : Bool) → test e ≡ b → is_at (grain_cmp g) e.0 ≡ false → find test es ≡ Some (g, h)
+          → cond b (Some e) (find test es) ≡ Some (g, h)
+      by true p other later =
+          let h : true ≡ false = sym (grain_at_itself g) ∙ ap (λ (x : Grain). is_at (grain_cmp g) x) (sym (only.0 p)) ∙ other in cc
       by false p other later = later
 
   pub search_fails : (es : List (Grain × Held)) → AllByRecursion (λ e. test e ≡ false) es → find test es ≡ None

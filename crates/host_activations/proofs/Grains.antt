@@ -17,7 +17,8 @@ pub same_test : (a b : Grain) → grain_eq a b ≡ is_at (grain_cmp a) b
 same_test a b = by (grain_eq a b) refl
   where
     by : (t : Bool) → grain_eq a b ≡ t → t ≡ is_at (grain_cmp a) b
-    by true h = subst (λ (g : Grain). true ≡ is_eq (grain_cmp a g)) ((Decides-grain a b).0 h) (sym (ap is_eq (tied_itself grain_cmp_total a)))
+    by true h =
+        subst (λ (g : Grain). true ≡ is_eq (grain_cmp a g)) ((Decides-grain a b).0 h) (sym (ap is_eq (tied_itself grain_cmp_total a)))
     by false h = sym (apart_in_order grain_cmp grain_cmp_exact a b (λ same. true≢false (sym ((Decides-grain a b).1 same) ∙ h)))
 
 pub tests_alike : (a : Grain) → grain_eq a ≡ is_at (grain_cmp a)
@@ -57,7 +58,8 @@ pub either_none : {A : Type 0} (o : Option A) → either o None ≡ o
 either_none None = refl
 either_none (Some x) = refl
 
-pub lookup_append : {K X : Type 0} (test : K → Bool) (xs ys : List (K × X)) → lookup test (xs ++ ys) ≡ either (lookup test xs) (lookup test ys)
+pub lookup_append : {K X : Type 0} (test : K → Bool) (xs ys : List (K × X))
+    → lookup test (xs ++ ys) ≡ either (lookup test xs) (lookup test ys)
 lookup_append test [] ys = refl
 lookup_append test (x ∷ xs) ys = by (test x.0) (lookup_append test xs ys)
   where
@@ -93,7 +95,8 @@ each_found (e ∷ es) apart = (
 )
 
 -- what keeps of each entry keeps of what is found
-pub found_all : (R : Held → Type 0) (q : Grain) (es : List (Grain × Held)) (h : Held) → AllByRecursion (λ e. R e.1) es → lookup (is_at (grain_cmp q)) es ≡ Some h → R h
+pub found_all : (R : Held → Type 0) (q : Grain) (es : List (Grain × Held)) (h : Held) → AllByRecursion (λ e. R e.1) es
+    → lookup (is_at (grain_cmp q)) es ≡ Some h → R h
 found_all R q [] h all is = cc
 found_all R q (e ∷ es) h all is = by (is_at (grain_cmp q) e.0) is (found_all R q es h all.1)
   where

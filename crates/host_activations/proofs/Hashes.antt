@@ -35,27 +35,34 @@ module _ (hashing : Hashing) (es : List (Grain × Held)) (hashes : List ℕ) (ar
 
   -- what is written has the same grain
   pub written_hashes : (g : Grain) (phase : Phase) (previous : Option ActivationId) (new : List (Grain × Held))
-      → MatchOption (at g es) (new ≡ es) (λ held. new ≡ set_value (is_at (grain_cmp g)) es (with_parts held phase previous)) → hashes ≡ hashes_of hashing new
+      → MatchOption (at g es) (new ≡ es) (λ held. new ≡ set_value (is_at (grain_cmp g)) es (with_parts held phase previous))
+      → hashes ≡ hashes_of hashing new
   written_hashes g phase previous new written = by (at g es) written
     where
-      by : (o : Option Held) → MatchOption o (new ≡ es) (λ held. new ≡ set_value (is_at (grain_cmp g)) es (with_parts held phase previous)) → hashes ≡ hashes_of hashing new
+      by : (o : Option Held) → MatchOption o (new ≡ es) (λ held. new ≡ set_value (is_at (grain_cmp g)) es (with_parts held phase previous))
+          → hashes ≡ hashes_of hashing new
       by None same = are ∙ ap (hashes_of hashing) (sym same)
-      by (Some held) set = are ∙ ap (map (hash_grain hashing)) (sym (keys-set_value (is_at (grain_cmp g)) es (with_parts held phase previous))) ∙ ap (hashes_of hashing) (sym set)
+      by (Some held) set =
+          are ∙ ap (map (hash_grain hashing)) (sym (keys-set_value (is_at (grain_cmp g)) es (with_parts held phase previous)))
+          ∙ ap (hashes_of hashing) (sym set)
 
   -- the hash at an activation's index
   pub its_hash : (p : ℕ) (e : Grain × Held) → slice_get es p ≡ Some e → slice_get hashes p ≡ Some (hash_grain hashing e.0)
   its_hash p e stands =
       ap (λ l. slice_get l p) are ∙ slice_get-map (hash_grain hashing) (keys_of es) p
-      ∙ ap (option_map (hash_grain hashing)) (slice_get-map (λ (x : Grain × Held). x.0) es p ∙ ap (option_map (λ (x : Grain × Held). x.0)) stands)
+      ∙ ap (option_map (hash_grain hashing)) (slice_get-map (λ (x : Grain × Held). x.0) es p
+      ∙ ap (option_map (λ (x : Grain × Held). x.0)) stands)
 
   pub has_hash : (p : ℕ) (e : Grain × Held) → slice_get es p ≡ Some e → p < length hashes
   has_hash p e stands = slice_get_within hashes p (hash_grain hashing e.0) (its_hash p e stands)
 
-  pub is_hash : (p : ℕ) (e : Grain × Held) → slice_get es p ≡ Some e → (hash : ℕ) → slice_get hashes p ≡ Some hash → hash ≡ hash_grain hashing e.0
+  pub is_hash : (p : ℕ) (e : Grain × Held) → slice_get es p ≡ Some e → (hash : ℕ) → slice_get hashes p ≡ Some hash
+      → hash ≡ hash_grain hashing e.0
   is_hash p e stands hash told = same_Some hash (hash_grain hashing e.0) (sym told ∙ its_hash p e stands)
 
   -- and its hashed count
-  pub its_key : (p : ℕ) (e : Grain × Held) → slice_get es p ≡ Some e → (hash : ℕ) → slice_get hashes p ≡ Some hash → hashed_count hash e.1.count ≡ key_of hashing e
+  pub its_key : (p : ℕ) (e : Grain × Held) → slice_get es p ≡ Some e → (hash : ℕ) → slice_get hashes p ≡ Some hash
+      → hashed_count hash e.1.count ≡ key_of hashing e
   its_key p e stands hash told = ap (λ h. hashed_count h e.1.count) (is_hash p e stands hash told)
 
   -- one goes, and the last takes its room

@@ -91,14 +91,16 @@ module _ (at new : ℕ → Option HashedCount) (of after : HashedCount → Optio
           on_key (λ b. cond b (Some n) (of q) ≡ Some i) k q (λ same. absurd (none-some i (sym fresh ∙ ap of same ∙ was))) (λ other. was))
 
   -- the last one goes
-  last_less : (p : ℕ) (k : HashedCount) → at p ≡ Some k → new p ≡ None → ((i : ℕ) → (i ≡ p → ⊥) → new i ≡ at i) → ((q : HashedCount) → after q ≡ cond (is k q) None (of q)) → Inverse new after
+  last_less : (p : ℕ) (k : HashedCount) → at p ≡ Some k → new p ≡ None → ((i : ℕ) → (i ≡ p → ⊥) → new i ≡ at i)
+      → ((q : HashedCount) → after q ≡ cond (is k q) None (of q)) → Inverse new after
   last_less p k was_there gone others told q i = (found, stands)
     where
       found : after q ≡ Some i → new i ≡ Some q
       found so =
           on_key (λ b. cond b None (of q) ≡ Some i → new i ≡ Some q) k q
           (λ same e. absurd (none-some i e))
-          (λ other e. let was = (inverse q i).0 e in others i (λ here. other_key k q other (same_Some k q (sym was_there ∙ ap at (sym here) ∙ was))) ∙ was)
+          (λ other e. let was = (inverse q i).0 e in others i
+          (λ here. other_key k q other (same_Some k q (sym was_there ∙ ap at (sym here) ∙ was))) ∙ was)
           (sym (told q) ∙ so)
 
       stands : new i ≡ Some q → after q ≡ Some i
@@ -111,7 +113,8 @@ module _ (at new : ℕ → Option HashedCount) (of after : HashedCount → Optio
           (λ same. absurd (apart (same_Some i p (sym was ∙ ap of (sym same) ∙ (inverse k p).1 was_there)))) (λ other. was))
 
   -- one before the last goes, and the last takes its room
-  one_less : (p n : ℕ) (k m : HashedCount) → at p ≡ Some k → at n ≡ Some m → (p ≡ n → ⊥) → new p ≡ Some m → new n ≡ None → ((i : ℕ) → (i ≡ n → ⊥) → (i ≡ p → ⊥) → new i ≡ at i)
+  one_less : (p n : ℕ) (k m : HashedCount) → at p ≡ Some k → at n ≡ Some m → (p ≡ n → ⊥) → new p ≡ Some m → new n ≡ None
+      → ((i : ℕ) → (i ≡ n → ⊥) → (i ≡ p → ⊥) → new i ≡ at i)
       → ((q : HashedCount) → after q ≡ cond (is m q) (Some p) (cond (is k q) None (of q))) → Inverse new after
   one_less p n k m was_there last differ moved gone others told q i = (found, stands)
     where
@@ -122,7 +125,8 @@ module _ (at new : ℕ → Option HashedCount) (of after : HashedCount → Optio
           (λ not_m. on_key (λ b. cond b None (of q) ≡ Some i → new i ≡ Some q) k q
           (λ same e. absurd (none-some i e))
           (λ not_k e. let was = (inverse q i).0 e in
-          others i (λ here. other_key m q not_m (same_Some m q (sym last ∙ ap at (sym here) ∙ was))) (λ here. other_key k q not_k (same_Some k q (sym was_there ∙ ap at (sym here) ∙ was))) ∙ was))
+          others i (λ here. other_key m q not_m (same_Some m q (sym last ∙ ap at (sym here) ∙ was)))
+          (λ here. other_key k q not_k (same_Some k q (sym was_there ∙ ap at (sym here) ∙ was))) ∙ was))
           (sym (told q) ∙ so)
 
       stands : new i ≡ Some q → after q ≡ Some i
@@ -180,7 +184,9 @@ module _ {X : Type 0} where
     swapped_last = slice_get_past (take n written) n (let short = length-take n written in omega (short, arith))
 
     swapped_here : (p ≡ n → ⊥) → slice_get (swap_remove xs p d) p ≡ slice_get xs n
-    swapped_here differ = taken n written p (omega (within, differ, arith)) ∙ set_here xs p (get_or xs n d) within ∙ sym (slice_get-get_or xs n d (omega (within, arith)))
+    swapped_here differ =
+        taken n written p (omega (within, differ, arith)) ∙ set_here xs p (get_or xs n d) within
+        ∙ sym (slice_get-get_or xs n d (omega (within, arith)))
 
     swapped_other : (i : ℕ) → (i ≡ n → ⊥) → (i ≡ p → ⊥) → slice_get (swap_remove xs p d) i ≡ slice_get xs i
     swapped_other i not_n not_p = by (nat_lt i n) refl
@@ -189,7 +195,8 @@ module _ {X : Type 0} where
         by true h = taken n written i (grind (arith, nat_tests)) ∙ set_other xs p (get_or xs n d) i not_p
         by false h =
             let past : n < i = grind (arith, nat_tests) in
-            slice_get_past (take n written) i (let short = length-take n written in omega (short, past, arith)) ∙ sym (slice_get_past xs i (omega (past, arith)))
+            slice_get_past (take n written) i (let short = length-take n written in omega (short, past, arith))
+            ∙ sym (slice_get_past xs i (omega (past, arith)))
 
 -- ---- One begins.
 abbrev key_at : Hashing → List (Grain × Held) → ℕ → Option HashedCount
@@ -199,12 +206,15 @@ abbrev index_of : List (HashedCount × ℕ) → HashedCount → Option ℕ
 index_of hashed key = lookup (is_at (hashed_count_cmp key)) hashed
 
 -- what stands at an index is found by its grain
-pub found_at : (es : List (Grain × Held)) → IsDistinct grain_eq (keys_of es) → (i : ℕ) (e : Grain × Held) → slice_get es i ≡ Some e → IsFoundIn es e
+pub found_at : (es : List (Grain × Held)) → IsDistinct grain_eq (keys_of es) → (i : ℕ) (e : Grain × Held) → slice_get es i ≡ Some e
+    → IsFoundIn es e
 found_at es apart i e stands = lookup_from_place (eq_by_cmp_equiv grain_cmp_total) es i e.0 e.1 (by_order (keys_of es) apart) stands
 
-pub begun_by_hash : (hashing : Hashing) (next : ℕ) (es : List (Grain × Held)) (hashed : List (HashedCount × ℕ)) → AreBegun next es → AreByHash hashing es hashed → (g : Grain) (h : Held) → h.count ≡ next
+pub begun_by_hash : (hashing : Hashing) (next : ℕ) (es : List (Grain × Held)) (hashed : List (HashedCount × ℕ)) → AreBegun next es
+    → AreByHash hashing es hashed → (g : Grain) (h : Held) → h.count ≡ next
     → (new : List (Grain × Held)) → new ≡ es ++ (g, h) ∷ [] → (after : List (HashedCount × ℕ))
-    → ((q : HashedCount) → index_of after q ≡ cond (is (key_of hashing (g, h)) q) (Some (length es)) (index_of hashed q)) → AreByHash hashing new after
+    → ((q : HashedCount) → index_of after q ≡ cond (is (key_of hashing (g, h)) q) (Some (length es)) (index_of hashed q))
+    → AreByHash hashing new after
 begun_by_hash hashing next es hashed are inverse g h count new new_is after told =
     one_more (key_at hashing es) (key_at hashing new) (index_of hashed) (index_of after) inverse (length es) (key_of hashing (g, h))
     (ap (option_map (key_of hashing)) (slice_get_past es (length es) (omega arith))) (fresh (index_of hashed (key_of hashing (g, h))) refl)
@@ -223,8 +233,10 @@ begun_by_hash hashing next es hashed are inverse g h count new new_is after told
     fresh (Some i) found = absurd (never i (slice_get es i) refl ((inverse (key_of hashing (g, h)) i).0 found))
 
 -- ---- One changes.
-pub set_by_hash : (hashing : Hashing) (es : List (Grain × Held)) (hashed : List (HashedCount × ℕ)) → AreByHash hashing es hashed → (test : Grain → Bool) (was h : Held)
-    → lookup test es ≡ Some was → was.count ≡ h.count → (new : List (Grain × Held)) → new ≡ set_value test es h → AreByHash hashing new hashed
+pub set_by_hash : (hashing : Hashing) (es : List (Grain × Held)) (hashed : List (HashedCount × ℕ)) → AreByHash hashing es hashed
+    → (test : Grain → Bool) (was h : Held)
+    → lookup test es ≡ Some was → was.count ≡ h.count → (new : List (Grain × Held)) → new ≡ set_value test es h
+    → AreByHash hashing new hashed
 set_by_hash hashing es hashed inverse test was h there count new new_is q i =
     ((λ e. keys i ∙ (inverse q i).0 e), (λ e. (inverse q i).1 (sym (keys i) ∙ e)))
   where
@@ -232,10 +244,12 @@ set_by_hash hashing es hashed inverse test was h there count new new_is q i =
     same [] found j = refl
     same (x ∷ xs) found j = by (test x.0) found j (same xs)
       where
-        by : (b : Bool) → cond b (Some x.1) (lookup test xs) ≡ Some was → (j : ℕ) → (lookup test xs ≡ Some was → (j : ℕ) → key_at hashing (set_value test xs h) j ≡ key_at hashing xs j)
+        by : (b : Bool) → cond b (Some x.1) (lookup test xs) ≡ Some was → (j : ℕ)
+            → (lookup test xs ≡ Some was → (j : ℕ) → key_at hashing (set_value test xs h) j ≡ key_at hashing xs j)
             → key_at hashing (cond b ((x.0, h) ∷ xs) (x ∷ set_value test xs h)) j ≡ key_at hashing (x ∷ xs) j
         by true found zero later =
-            ap (λ (n : ℕ). Some (hashed_count (hash_grain hashing x.0) n)) (sym count ∙ sym (ap (λ (k : Held). k.count) (same_Some x.1 was found)))
+            ap (λ (n : ℕ). Some (hashed_count (hash_grain hashing x.0) n))
+            (sym count ∙ sym (ap (λ (k : Held). k.count) (same_Some x.1 was found)))
         by true found (suc j) later = refl
         by false found zero later = refl
         by false found (suc j) later = later found j
@@ -244,7 +258,8 @@ set_by_hash hashing es hashed inverse test was h there count new new_is q i =
     keys j = ap (λ l. key_at hashing l j) new_is ∙ same es there j
 
 -- ---- One ends.
-module _ (hashing : Hashing) (es : List (Grain × Held)) (hashed : List (HashedCount × ℕ)) (inverse : AreByHash hashing es hashed) (p : ℕ) (e : Grain × Held) (stands : slice_get es p ≡ Some e)
+module _ (hashing : Hashing) (es : List (Grain × Held)) (hashed : List (HashedCount × ℕ)) (inverse : AreByHash hashing es hashed) (p : ℕ)
+    (e : Grain × Held) (stands : slice_get es p ≡ Some e)
     (new : List (Grain × Held)) (new_is : new ≡ swap_remove es p e) (gone : List (HashedCount × ℕ))
     (gone_is : (q : HashedCount) → index_of gone q ≡ cond (is (key_of hashing e) q) None (index_of hashed q)) where
   within : p < length es
@@ -279,14 +294,18 @@ module _ (hashing : Hashing) (es : List (Grain × Held)) (hashed : List (HashedC
           ap is_some
           (gone_is (key_of hashing m)
           ∙ on_key (λ b. cond b None (index_of hashed (key_of hashing m)) ≡ Some last) (key_of hashing e) (key_of hashing m)
-          (λ same. absurd (was.0 (same_Some p last (sym ((inverse (key_of hashing e) p).1 was_there) ∙ ap (index_of hashed) same ∙ at_last))))
+          (λ same. absurd (was.0 (same_Some p last (sym ((inverse (key_of hashing e) p).1 was_there) ∙ ap (index_of hashed) same
+          ∙ at_last))))
           (λ other. at_last))
 
   pub ended_by_hash : (after : List (HashedCount × ℕ))
-      → MatchOption (slice_get new p) (after ≡ gone) (λ m. (q : HashedCount) → index_of after q ≡ cond (is (key_of hashing m) q) (Some p) (index_of gone q)) → AreByHash hashing new after
+      → MatchOption (slice_get new p) (after ≡ gone) (λ m. (q : HashedCount)
+      → index_of after q ≡ cond (is (key_of hashing m) q) (Some p) (index_of gone q)) → AreByHash hashing new after
   ended_by_hash after noted = by (slice_get new p) refl noted
     where
-      by : (o : Option (Grain × Held)) → slice_get new p ≡ o → MatchOption o (after ≡ gone) (λ m. (q : HashedCount) → index_of after q ≡ cond (is (key_of hashing m) q) (Some p) (index_of gone q))
+      by : (o : Option (Grain × Held)) → slice_get new p ≡ o
+          → MatchOption o (after ≡ gone) (λ m. (q : HashedCount)
+          → index_of after q ≡ cond (is (key_of hashing m) q) (Some p) (index_of gone q))
           → AreByHash hashing new after
       by None moved same =
           let none : key_at hashing new p ≡ None = ap (option_map (key_of hashing)) moved in
@@ -299,10 +318,12 @@ module _ (hashing : Hashing) (es : List (Grain × Held)) (hashed : List (HashedC
           is_last moved =
               on_number (p ≡ last) p last (λ same. same)
               (λ differ. absurd (none-some (get_or es last e)
-              (sym moved ∙ ap (λ l. slice_get l p) new_is ∙ swapped_here es p e within differ ∙ slice_get-get_or es last e (omega (within, arith)))))
+              (sym moved ∙ ap (λ l. slice_get l p) new_is ∙ swapped_here es p e within differ
+              ∙ slice_get-get_or es last e (omega (within, arith)))))
       by (Some m) moved told =
           let was = was_last m moved in
-          one_less (key_at hashing es) (key_at hashing new) (index_of hashed) (index_of after) inverse p last (key_of hashing e) (key_of hashing m) was_there was.1 was.0
+          one_less (key_at hashing es) (key_at hashing new) (index_of hashed) (index_of after) inverse p last (key_of hashing e)
+          (key_of hashing m) was_there was.1 was.0
           (ap (option_map (key_of hashing)) moved) none_last others
           (λ q. told q ∙ ap (λ o. cond (is (key_of hashing m) q) (Some p) o) (gone_is q))
 
@@ -316,10 +337,12 @@ pub at_some : {X : Type 0} (A : Type 0) (P : X → Type 0) (o : Option X) (x : X
 at_some {X = X} A P o x some given = subst (λ (o : Option X). MatchOption o A P) some given
 
 -- one that was put in goes again
-pub undone : {X : Type 0} (old put new : List X) (x : X) (index : ℕ) → index ≡ length old → put ≡ old ++ x ∷ [] → MatchOption (slice_get put index) (new ≡ put) (λ e. new ≡ swap_remove put index e) → new ≡ old
+pub undone : {X : Type 0} (old put new : List X) (x : X) (index : ℕ) → index ≡ length old → put ≡ old ++ x ∷ []
+    → MatchOption (slice_get put index) (new ≡ put) (λ e. new ≡ swap_remove put index e) → new ≡ old
 undone old put new x index last is given =
     let short : length (old ++ x ∷ []) - 1 ≡ length old = omega (arith, length-append old (x ∷ [])) in
-    at_some (new ≡ put) (λ e. new ≡ swap_remove put index e) (slice_get put index) x ((λ i. slice_get (is i) (last i)) ∙ push_here old x) given
+    at_some (new ≡ put) (λ e. new ≡ swap_remove put index e) (slice_get put index) x ((λ i. slice_get (is i) (last i)) ∙ push_here old x)
+    given
     ∙ (λ i. swap_remove (is i) (last i) x)
     ∙ ap (λ n. swap_remove (old ++ x ∷ []) n x) (sym short)
     ∙ swap_remove_last (old ++ x ∷ []) x
@@ -331,13 +354,18 @@ pub none_gone : (es : List (Grain × Held)) (g : Grain) → lookup (grain_eq g) 
     → (q : Grain) → lookup (is_at (grain_cmp q)) es ≡ cond (is_at (grain_cmp g) q) None (lookup (is_at (grain_cmp q)) es)
 none_gone es g none q =
     on_grain (λ b. lookup (is_at (grain_cmp q)) es ≡ cond b None (lookup (is_at (grain_cmp q)) es)) g q
-    (λ same. ap (λ test. lookup test es) (sym (tests_alike q)) ∙ ap (λ (x : Grain). lookup (grain_eq x) es) (sym same) ∙ none) (λ other. refl)
+    (λ same. ap (λ test. lookup test es) (sym (tests_alike q)) ∙ ap (λ (x : Grain). lookup (grain_eq x) es) (sym same) ∙ none)
+    (λ other. refl)
 
 -- one is written, or none
-pub written_by_hash : (hashing : Hashing) (es : List (Grain × Held)) (hashed : List (HashedCount × ℕ)) → AreByHash hashing es hashed → (g : Grain) (phase : Phase) (previous : Option ActivationId)
-    → (new : List (Grain × Held)) → MatchOption (at g es) (new ≡ es) (λ held. new ≡ set_value (is_at (grain_cmp g)) es (with_parts held phase previous)) → AreByHash hashing new hashed
+pub written_by_hash : (hashing : Hashing) (es : List (Grain × Held)) (hashed : List (HashedCount × ℕ)) → AreByHash hashing es hashed
+    → (g : Grain) (phase : Phase) (previous : Option ActivationId)
+    → (new : List (Grain × Held)) → MatchOption (at g es) (new ≡ es)
+    (λ held. new ≡ set_value (is_at (grain_cmp g)) es (with_parts held phase previous)) → AreByHash hashing new hashed
 written_by_hash hashing es hashed inverse g phase previous new written = by (at g es) refl written
   where
-    by : (o : Option Held) → at g es ≡ o → MatchOption o (new ≡ es) (λ held. new ≡ set_value (is_at (grain_cmp g)) es (with_parts held phase previous)) → AreByHash hashing new hashed
+    by : (o : Option Held) → at g es ≡ o → MatchOption o (new ≡ es)
+        (λ held. new ≡ set_value (is_at (grain_cmp g)) es (with_parts held phase previous)) → AreByHash hashing new hashed
     by None none new_is = subst (λ l. AreByHash hashing l hashed) (sym new_is) inverse
-    by (Some was) there new_is = set_by_hash hashing es hashed inverse (is_at (grain_cmp g)) was (with_parts was phase previous) there refl new new_is
+    by (Some was) there new_is =
+        set_by_hash hashing es hashed inverse (is_at (grain_cmp g)) was (with_parts was phase previous) there refl new new_is

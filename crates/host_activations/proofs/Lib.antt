@@ -1,4 +1,10 @@
 pub mod Entries
+pub mod FindsByGrain
+pub mod Moved
+pub mod PhaseCounts
+pub mod AboutGrain
+pub mod MovedAbout
+pub mod RenewedAbout
 pub mod Numbers
 pub mod Agreement
 pub mod Finds

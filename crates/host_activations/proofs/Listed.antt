@@ -52,7 +52,8 @@ from_first first hash r least = by (nat_cmp first hash) refl r least
     by Equal ranks Greater least = cc
     by Greater ranks r least = let above : hash < first = ranked first hash Greater ranks in grind (arith, nat_tests)
 
-stands_between : (first end : ℕ) (key : HashedCount) → range_contains hashed_count_cmp (Included (first_at first)) (end_at end) key ≡ is_between first end key.hash
+stands_between : (first end : ℕ) (key : HashedCount)
+    → range_contains hashed_count_cmp (Included (first_at first)) (end_at end) key ≡ is_between first end key.hash
 stands_between first end key =
     λ i. from_first first key.hash (nat_cmp 0 key.count) (upto_nat 0 key.count (omega arith)) i && not (past (nat_lt end circle) i)
   where
@@ -72,12 +73,15 @@ stretch first end hashed = filter (λ x. is_between first end x.0.hash) hashed
 abbrev pub in_stretch : List (Grain × Held) → List (HashedCount × ℕ) → (first end : ℕ) → List (Grain × Held)
 in_stretch es hashed first end = standing_at es (stretch first end hashed)
 
-pub between_are : (first end : ℕ) (hashed : List (HashedCount × ℕ)) → entries_between hashed_count_cmp (Included (first_at first)) (end_at end) hashed ≡ stretch first end hashed
+pub between_are : (first end : ℕ) (hashed : List (HashedCount × ℕ))
+    → entries_between hashed_count_cmp (Included (first_at first)) (end_at end) hashed ≡ stretch first end hashed
 between_are first end hashed =
-    same_passed (λ x. range_contains hashed_count_cmp (Included (first_at first)) (end_at end) x.0) (λ x. is_between first end x.0.hash) hashed (λ x. stands_between first end x.0)
+    same_passed (λ x. range_contains hashed_count_cmp (Included (first_at first)) (end_at end) x.0) (λ x. is_between first end x.0.hash)
+    hashed (λ x. stands_between first end x.0)
 
 -- ---- What stands under the hashes of a range is in one stretch, or in one of two.
-in_one : (range : Range) (hash : ℕ) → IsRange range → range.start + range.size ≤ circle → holds range hash ≡ true → is_between range.start (range.start + range.size) hash ≡ true
+in_one : (range : Range) (hash : ℕ) → IsRange range → range.start + range.size ≤ circle → holds range hash ≡ true
+    → is_between range.start (range.start + range.size) hash ≡ true
 in_one range hash is_range fits has = let start = is_range.start_below in let size = is_range.size_within in grind (arith, nat_tests)
 
 in_two : (range : Range) (low hash : ℕ) → IsRange range → range.start + range.size ≡ low + circle → holds range hash ≡ true
@@ -98,38 +102,49 @@ module _ (hashing : Hashing) (es : List (Grain × Held)) where
       by true rest = (all.0, rest)
       by false rest = rest
 
-  pub all_under : (p : HashedCount × ℕ → Bool) (hashed : List (HashedCount × ℕ)) → AreByHash hashing es hashed → IsStrictlySortedBy hashed_count_cmp (keys_of hashed)
+  pub all_under : (p : HashedCount × ℕ → Bool) (hashed : List (HashedCount × ℕ)) → AreByHash hashing es hashed
+      → IsStrictlySortedBy hashed_count_cmp (keys_of hashed)
       → AllByRecursion (IsUnder hashing es) (filter p hashed)
   all_under p hashed are sorted =
       all_passed (IsUnder hashing es) p hashed
       (from_each (IsUnder hashing es) hashed
-      (λ i x at. (are x.0 x.1).0 (lookup_from_place (eq_by_cmp_equiv hashed_count_cmp_total) hashed i x.0 x.1 (IsDistinct-from_sorted hashed_count_cmp (keys_of hashed) sorted) at)))
+      (λ i x at. (are x.0 x.1).0 (lookup_from_place (eq_by_cmp_equiv hashed_count_cmp_total) hashed i x.0 x.1
+      (IsDistinct-from_sorted hashed_count_cmp (keys_of hashed) sorted) at)))
 
-  pub all_found : IsDistinct grain_eq (keys_of es) → (listed : List (HashedCount × ℕ)) → AllByRecursion (IsFoundIn es) (standing_at es listed)
+  pub all_found : IsDistinct grain_eq (keys_of es) → (listed : List (HashedCount × ℕ))
+      → AllByRecursion (IsFoundIn es) (standing_at es listed)
   all_found apart [] = tt
   all_found apart (x ∷ listed) = by (slice_get es x.1) refl (all_found apart listed)
     where
-      by : (o : Option (Grain × Held)) → slice_get es x.1 ≡ o → AllByRecursion (IsFoundIn es) (standing_at es listed) → AllByRecursion (IsFoundIn es) (cons_option o (standing_at es listed))
+      by : (o : Option (Grain × Held)) → slice_get es x.1 ≡ o → AllByRecursion (IsFoundIn es) (standing_at es listed)
+          → AllByRecursion (IsFoundIn es) (cons_option o (standing_at es listed))
       by None at rest = rest
       by (Some e) at rest = (found_at es apart x.1 e at, rest)
 
   -- ---- And what is there is listed.
-  is_listed : (p : HashedCount × ℕ → Bool) (q : Grain) (h : Held) (index : ℕ) (key : HashedCount) → slice_get es index ≡ Some (q, h) → p (key, index) ≡ true
-      → (hashed : List (HashedCount × ℕ)) → lookup (is_at (hashed_count_cmp key)) hashed ≡ Some index → is_some (lookup (is_at (grain_cmp q)) (standing_at es (filter p hashed))) ≡ true
+  is_listed : (p : HashedCount × ℕ → Bool) (q : Grain) (h : Held) (index : ℕ) (key : HashedCount) → slice_get es index ≡ Some (q, h)
+      → p (key, index) ≡ true
+      → (hashed : List (HashedCount × ℕ)) → lookup (is_at (hashed_count_cmp key)) hashed ≡ Some index
+      → is_some (lookup (is_at (grain_cmp q)) (standing_at es (filter p hashed))) ≡ true
   is_listed p q h index key stands passes [] found = cc
   is_listed p q h index key stands passes (x ∷ hashed) found =
-      on_key (λ b. cond b (Some x.1) (lookup (is_at (hashed_count_cmp key)) hashed) ≡ Some index → is_some (lookup (is_at (grain_cmp q)) (standing_at es (cond (p x) (x ∷ filter p hashed) (filter p hashed)))) ≡ true)
+      on_key (λ b. cond b (Some x.1) (lookup (is_at (hashed_count_cmp key)) hashed) ≡ Some index
+      → is_some (lookup (is_at (grain_cmp q)) (standing_at es (cond (p x) (x ∷ filter p hashed) (filter p hashed)))) ≡ true)
       key x.0
       (λ same at. here (same_Some x.1 index at) same)
       (λ other at. later (p x) (is_listed p q h index key stands passes hashed at)) found
     where
-      here : x.1 ≡ index → key ≡ x.0 → is_some (lookup (is_at (grain_cmp q)) (standing_at es (cond (p x) (x ∷ filter p hashed) (filter p hashed)))) ≡ true
+      here : x.1 ≡ index → key ≡ x.0 → is_some (lookup (is_at (grain_cmp q))
+          (standing_at es (cond (p x) (x ∷ filter p hashed) (filter p hashed)))) ≡ true
       here at same =
-          ap (λ b. is_some (lookup (is_at (grain_cmp q)) (standing_at es (cond b (x ∷ filter p hashed) (filter p hashed))))) ((λ i. p (sym same i, at i)) ∙ passes)
-          ∙ ap (λ o. is_some (lookup (is_at (grain_cmp q)) (cons_option o (standing_at es (filter p hashed))))) (ap (slice_get es) at ∙ stands)
+          ap (λ b. is_some (lookup (is_at (grain_cmp q)) (standing_at es (cond b (x ∷ filter p hashed) (filter p hashed)))))
+          ((λ i. p (sym same i, at i)) ∙ passes)
+          ∙ ap (λ o. is_some (lookup (is_at (grain_cmp q)) (cons_option o (standing_at es (filter p hashed)))))
+          (ap (slice_get es) at ∙ stands)
           ∙ ap (λ b. is_some (cond b (Some h) (lookup (is_at (grain_cmp q)) (standing_at es (filter p hashed))))) (grain_at_itself q)
 
-      behind : (o : Option (Grain × Held)) (rest : List (Grain × Held)) → is_some (lookup (is_at (grain_cmp q)) rest) ≡ true → is_some (lookup (is_at (grain_cmp q)) (cons_option o rest)) ≡ true
+      behind : (o : Option (Grain × Held)) (rest : List (Grain × Held)) → is_some (lookup (is_at (grain_cmp q)) rest) ≡ true
+          → is_some (lookup (is_at (grain_cmp q)) (cons_option o rest)) ≡ true
       behind None rest there = there
       behind (Some e) rest there = either_way (is_at (grain_cmp q) e.0)
         where
@@ -142,13 +157,15 @@ module _ (hashing : Hashing) (es : List (Grain × Held)) where
       later true there = behind (slice_get es x.1) (standing_at es (filter p hashed)) there
       later false there = there
 
-  listed_between : (first end : ℕ) (hashed : List (HashedCount × ℕ)) → AreByHash hashing es hashed → (q : Grain) (h : Held) → lookup (is_at (grain_cmp q)) es ≡ Some h → is_between first end (hash_grain hashing q) ≡ true
+  listed_between : (first end : ℕ) (hashed : List (HashedCount × ℕ)) → AreByHash hashing es hashed → (q : Grain) (h : Held)
+      → lookup (is_at (grain_cmp q)) es ≡ Some h → is_between first end (hash_grain hashing q) ≡ true
       → is_some (lookup (is_at (grain_cmp q)) (in_stretch es hashed first end)) ≡ true
   listed_between first end hashed are q h there passes =
       let at = place_from_lookup (is_at (grain_cmp q)) es h there in
       let same : q ≡ at.1 = grain_cmp_exact q at.1 (Equal-from (grain_cmp q at.1) at.3) in
       let stands : slice_get es at.0 ≡ Some (q, h) = at.2 ∙ ap (λ (g : Grain). Some (g, h)) (sym same) in
-      is_listed (λ x. is_between first end x.0.hash) q h at.0 (key_of hashing (q, h)) stands passes hashed ((are (key_of hashing (q, h)) at.0).1 (ap (option_map (key_of hashing)) stands))
+      is_listed (λ x. is_between first end x.0.hash) q h at.0 (key_of hashing (q, h)) stands passes hashed
+      ((are (key_of hashing (q, h)) at.0).1 (ap (option_map (key_of hashing)) stands))
 
 -- ---- So they are those of the range, each once.
 -- pairs whose keys stand in order stand in order
@@ -174,31 +191,39 @@ once_from_rising [] rising = tt
 once_from_rising (x ∷ xs) rising = (all_of xs (λ y there same. apart y (rising.0 y there) same), once_from_rising xs rising.1)
   where
     apart : (y : HashedCount × ℕ) → hashed_count_cmp x.0 y.0 ≡ Less → x.0 ≡ y.0 → ⊥
-    apart y less same = let no : Less ≡ Equal = sym less ∙ ap (hashed_count_cmp x.0) (sym same) ∙ Equal-from (hashed_count_cmp x.0 x.0) (is_itself x.0) in cc
+    apart y less same =
+        let no : Less ≡ Equal = sym less ∙ ap (hashed_count_cmp x.0) (sym same) ∙ Equal-from (hashed_count_cmp x.0 x.0) (is_itself x.0) in
+        cc
 
     all_of : (ys : List (HashedCount × ℕ)) → ((y : HashedCount × ℕ) → In y ys → x.0 ≡ y.0 → ⊥) → AllByRecursion (λ y. x.0 ≡ y.0 → ⊥) ys
     all_of [] each = tt
     all_of (y ∷ ys) each = (each y (inl refl), all_of ys (λ z there. each z (inr there)))
 
-stretch_rises : (first end : ℕ) (hashed : List (HashedCount × ℕ)) → IsStrictlySortedBy hashed_count_cmp (keys_of hashed) → Rising pair_cmp (stretch first end hashed)
+stretch_rises : (first end : ℕ) (hashed : List (HashedCount × ℕ)) → IsStrictlySortedBy hashed_count_cmp (keys_of hashed)
+    → Rising pair_cmp (stretch first end hashed)
 stretch_rises first end hashed sorted =
-    Rising-filter pair_cmp (λ x. is_between first end x.0.hash) hashed (from_keys hashed (Rising-from_sorted hashed_count_cmp (keys_of hashed) sorted))
+    Rising-filter pair_cmp (λ x. is_between first end x.0.hash) hashed
+    (from_keys hashed (Rising-from_sorted hashed_count_cmp (keys_of hashed) sorted))
 
 by_hash_less : (x y : HashedCount) → x.hash < y.hash → hashed_count_cmp x y ≡ Less
 by_hash_less x y less = ap (λ o. ordering_then o (nat_cmp x.count y.count)) (sym (nat_cmp_is x.hash y.hash Less less))
 
-both_rise : (low start : ℕ) (hashed : List (HashedCount × ℕ)) → IsStrictlySortedBy hashed_count_cmp (keys_of hashed) → low ≤ start → low < circle
+both_rise : (low start : ℕ) (hashed : List (HashedCount × ℕ)) → IsStrictlySortedBy hashed_count_cmp (keys_of hashed) → low ≤ start
+    → low < circle
     → Rising pair_cmp (stretch 0 low hashed ++ stretch start circle hashed)
 both_rise low start hashed sorted le below =
-    Rising-append pair_cmp (stretch 0 low hashed) (stretch start circle hashed) (stretch_rises 0 low hashed sorted) (stretch_rises start circle hashed sorted)
+    Rising-append pair_cmp (stretch 0 low hashed) (stretch start circle hashed) (stretch_rises 0 low hashed sorted)
+    (stretch_rises start circle hashed sorted)
     (λ x y one two. by_hash_less x.0 y.0
-    (before x.0.hash y.0.hash (In-from_filter (λ x. is_between 0 low x.0.hash) x hashed one).1 (In-from_filter (λ x. is_between start circle x.0.hash) y hashed two).1))
+    (before x.0.hash y.0.hash (In-from_filter (λ x. is_between 0 low x.0.hash) x hashed one).1
+    (In-from_filter (λ x. is_between start circle x.0.hash) y hashed two).1))
   where
     before : (a b : ℕ) → is_between 0 low a ≡ true → is_between start circle b ≡ true → a < b
     before a b one two = grind (arith, nat_tests)
 
 module _ (hashing : Hashing) (range : Range) (es : List (Grain × Held)) (are : AreApart es) where
-  other_grains : (e : Grain × Held) → IsFoundIn es e → (listed : List (HashedCount × ℕ)) → AllByRecursion (IsUnder hashing es) listed → AllByRecursion (λ y. key_of hashing e ≡ y.0 → ⊥) listed
+  other_grains : (e : Grain × Held) → IsFoundIn es e → (listed : List (HashedCount × ℕ)) → AllByRecursion (IsUnder hashing es) listed
+      → AllByRecursion (λ y. key_of hashing e ≡ y.0 → ⊥) listed
       → AllByRecursion (λ g. grain_eq e.0 g ≡ false) (keys_of (standing_at es listed))
   other_grains e found [] under apart = tt
   other_grains e found (y ∷ listed) under apart = by (slice_get es y.1) refl under.0 (other_grains e found listed under.1 apart.1)
@@ -208,24 +233,31 @@ module _ (hashing : Hashing) (range : Range) (es : List (Grain × Held)) (are : 
           let held : e.1 ≡ f.1 = same_Some e.1 f.1 (sym found ∙ ap (λ (g : Grain). lookup (is_at (grain_cmp g)) es) same ∙ also) in
           apart.0 ((λ i. key_of hashing (same i, held i)) ∙ key)
 
-      by : (o : Option (Grain × Held)) → slice_get es y.1 ≡ o → option_map (key_of hashing) o ≡ Some y.0 → AllByRecursion (λ g. grain_eq e.0 g ≡ false) (keys_of (standing_at es listed))
+      by : (o : Option (Grain × Held)) → slice_get es y.1 ≡ o → option_map (key_of hashing) o ≡ Some y.0
+          → AllByRecursion (λ g. grain_eq e.0 g ≡ false) (keys_of (standing_at es listed))
           → AllByRecursion (λ g. grain_eq e.0 g ≡ false) (keys_of (cons_option o (standing_at es listed)))
       by None at key rest = rest
       by (Some f) at key rest =
           (same_test e.0 f.0 ∙ not_at e.0 f.0 (never f (found_at es are.grains y.1 f at) (same_Some (key_of hashing f) y.0 key)), rest)
 
-  stand_once : (listed : List (HashedCount × ℕ)) → AllByRecursion (IsUnder hashing es) listed → AreOnce listed → IsDistinct grain_eq (keys_of (standing_at es listed))
+  stand_once : (listed : List (HashedCount × ℕ)) → AllByRecursion (IsUnder hashing es) listed → AreOnce listed
+      → IsDistinct grain_eq (keys_of (standing_at es listed))
   unfolding IsDistinct
   stand_once [] under once = tt
   stand_once (x ∷ listed) under once = by (slice_get es x.1) refl under.0 (stand_once listed under.1 once.1)
     where
-      by : (o : Option (Grain × Held)) → slice_get es x.1 ≡ o → option_map (key_of hashing) o ≡ Some x.0 → IsDistinct grain_eq (keys_of (standing_at es listed))
+      by : (o : Option (Grain × Held)) → slice_get es x.1 ≡ o → option_map (key_of hashing) o ≡ Some x.0
+          → IsDistinct grain_eq (keys_of (standing_at es listed))
           → IsDistinct grain_eq (keys_of (cons_option o (standing_at es listed)))
       by None at key rest = rest
-      by (Some e) at key rest =
-          (other_grains e (found_at es are.grains x.1 e at) listed under.1 (subst (λ k. AllByRecursion (λ y. k ≡ y.0 → ⊥) listed) (sym (same_Some (key_of hashing e) x.0 key)) once.0), rest)
+      by (Some e) at key rest = (
+        other_grains e (found_at es are.grains x.1 e at) listed under.1
+            (subst (λ k. AllByRecursion (λ y. k ≡ y.0 → ⊥) listed) (sym (same_Some (key_of hashing e) x.0 key)) once.0),
+        rest,
+      )
 
-  there : (listed : List (Grain × Held)) → AllByRecursion (IsFoundIn es) listed → (q : Grain) (h : Held) → lookup (is_at (grain_cmp q)) listed ≡ Some h → lookup (is_at (grain_cmp q)) es ≡ Some h
+  there : (listed : List (Grain × Held)) → AllByRecursion (IsFoundIn es) listed → (q : Grain) (h : Held)
+      → lookup (is_at (grain_cmp q)) listed ≡ Some h → lookup (is_at (grain_cmp q)) es ≡ Some h
   there [] all q h is = cc
   there (e ∷ listed) all q h is =
       on_grain (λ b. cond b (Some e.1) (lookup (is_at (grain_cmp q)) listed) ≡ Some h → lookup (is_at (grain_cmp q)) es ≡ Some h) q e.0
@@ -233,11 +265,14 @@ module _ (hashing : Hashing) (range : Range) (es : List (Grain × Held)) (are : 
 
   -- all that are told are listed
   pub are_firm : (listed : List (HashedCount × ℕ)) → AllByRecursion (IsUnder hashing es) listed → AreOnce listed
-      → ((q : Grain) (h : Held) → lookup (is_at (grain_cmp q)) es ≡ Some h → holds range (hash_grain hashing q) ≡ true → is_some (lookup (is_at (grain_cmp q)) (standing_at es listed)) ≡ true)
+      → ((q : Grain) (h : Held) → lookup (is_at (grain_cmp q)) es ≡ Some h → holds range (hash_grain hashing q) ≡ true
+      → is_some (lookup (is_at (grain_cmp q)) (standing_at es listed)) ≡ true)
       → AreFirm hashing range es (firm_counts hashing range (standing_at es listed))
   are_firm listed under once whole = record {
     once = counts_once hashing range (standing_at es listed) distinct;
-    counts = λ q. counts_found hashing range q (standing_at es listed) distinct ∙ by q (lookup (is_at (grain_cmp q)) (standing_at es listed)) refl;
+    counts =
+        λ q. counts_found hashing range q (standing_at es listed) distinct
+        ∙ by q (lookup (is_at (grain_cmp q)) (standing_at es listed)) refl;
   } where
     distinct : IsDistinct grain_eq (keys_of (standing_at es listed))
     distinct = stand_once listed under once
@@ -246,7 +281,8 @@ module _ (hashing : Hashing) (range : Range) (es : List (Grain × Held)) (are : 
     untold q h true c fails = ap (λ x. cond x (Some h.count) None) (sym fails)
     untold q h false c fails = refl
 
-    none : (q : Grain) → lookup (is_at (grain_cmp q)) (standing_at es listed) ≡ None → (o : Option Held) → lookup (is_at (grain_cmp q)) es ≡ o → None ≡ option_and_then (firm_count hashing range q) o
+    none : (q : Grain) → lookup (is_at (grain_cmp q)) (standing_at es listed) ≡ None → (o : Option Held)
+        → lookup (is_at (grain_cmp q)) es ≡ o → None ≡ option_and_then (firm_count hashing range q) o
     none q absent None at = refl
     none q absent (Some h) at = within (holds range (hash_grain hashing q)) refl
       where
@@ -254,41 +290,59 @@ module _ (hashing : Hashing) (range : Range) (es : List (Grain × Held)) (are : 
         within true has = let no : false ≡ true = ap is_some (sym absent) ∙ whole q h at has in cc
         within false has = untold q h (is_firm h.phase) (holds range (hash_grain hashing q)) has
 
-    by : (q : Grain) (o : Option Held) → lookup (is_at (grain_cmp q)) (standing_at es listed) ≡ o → option_and_then (firm_count hashing range q) o ≡ option_and_then (firm_count hashing range q) (lookup (is_at (grain_cmp q)) es)
+    by : (q : Grain) (o : Option Held) → lookup (is_at (grain_cmp q)) (standing_at es listed) ≡ o
+        → option_and_then (firm_count hashing range q) o ≡ option_and_then (firm_count hashing range q) (lookup (is_at (grain_cmp q)) es)
     by q None at = none q at (lookup (is_at (grain_cmp q)) es) refl
-    by q (Some h) at = ap (option_and_then (firm_count hashing range q)) (sym (there (standing_at es listed) (all_found hashing es are.grains listed) q h at))
+    by q (Some h) at =
+        ap (option_and_then (firm_count hashing range q))
+        (sym (there (standing_at es listed) (all_found hashing es are.grains listed) q h at))
 
-module _ (hashing : Hashing) (range : Range) (is_range : IsRange range) (es : List (Grain × Held)) (are : AreApart es) (hashed : List (HashedCount × ℕ)) (by_hash : AreByHash hashing es hashed) (sorted : IsStrictlySortedBy hashed_count_cmp (keys_of hashed)) where
-  pub by_one_stretch : (start end : ℕ) → start ≡ range.start → end ≡ range.start + range.size → end ≤ circle → AreFirm hashing range es (firm_counts hashing range (in_stretch es hashed start end))
+module _ (hashing : Hashing) (range : Range) (is_range : IsRange range) (es : List (Grain × Held)) (are : AreApart es)
+    (hashed : List (HashedCount × ℕ)) (by_hash : AreByHash hashing es hashed)
+    (sorted : IsStrictlySortedBy hashed_count_cmp (keys_of hashed)) where
+  pub by_one_stretch : (start end : ℕ) → start ≡ range.start → end ≡ range.start + range.size → end ≤ circle
+      → AreFirm hashing range es (firm_counts hashing range (in_stretch es hashed start end))
   by_one_stretch start end starts ends fits =
-      are_firm hashing range es are (stretch start end hashed) (all_under hashing es (λ x. is_between start end x.0.hash) hashed by_hash sorted)
+      are_firm hashing range es are (stretch start end hashed)
+      (all_under hashing es (λ x. is_between start end x.0.hash) hashed by_hash sorted)
       (once_from_rising (stretch start end hashed) (stretch_rises start end hashed sorted))
       (λ q h at has. listed_between hashing es start end hashed by_hash q h at
-      ((λ i. is_between (starts i) (ends i) (hash_grain hashing q)) ∙ in_one range (hash_grain hashing q) is_range (subst (λ n. n ≤ circle) ends fits) has))
+      ((λ i. is_between (starts i) (ends i) (hash_grain hashing q))
+      ∙ in_one range (hash_grain hashing q) is_range (subst (λ n. n ≤ circle) ends fits) has))
 
-  all_both : (xs ys : List (HashedCount × ℕ)) → AllByRecursion (IsUnder hashing es) xs → AllByRecursion (IsUnder hashing es) ys → AllByRecursion (IsUnder hashing es) (xs ++ ys)
+  all_both : (xs ys : List (HashedCount × ℕ)) → AllByRecursion (IsUnder hashing es) xs → AllByRecursion (IsUnder hashing es) ys
+      → AllByRecursion (IsUnder hashing es) (xs ++ ys)
   all_both [] ys all also = also
   all_both (x ∷ xs) ys all also = (all.0, all_both xs ys all.1 also)
 
-  one_of : (o p : Option Held) (a b : Bool) → (a || b) ≡ true → (a ≡ true → is_some o ≡ true) → (b ≡ true → is_some p ≡ true) → is_some (either o p) ≡ true
+  one_of : (o p : Option Held) (a b : Bool) → (a || b) ≡ true → (a ≡ true → is_some o ≡ true) → (b ≡ true → is_some p ≡ true)
+      → is_some (either o p) ≡ true
   one_of (Some x) p a b some first second = refl
   one_of None p true b some first second = let no : false ≡ true = first refl in cc
   one_of None p false b some first second = second some
 
   pub by_two_stretches : (start low : ℕ) → start ≡ range.start → range.start + range.size ≡ low + circle
-      → AreFirm hashing range es (firm_counts hashing range (in_stretch es hashed 0 low) ++ firm_counts hashing range (in_stretch es hashed start circle))
+      → AreFirm hashing range es (firm_counts hashing range (in_stretch es hashed 0 low) ++ firm_counts hashing range
+      (in_stretch es hashed start circle))
   by_two_stretches start low starts ends =
-      subst (λ l. AreFirm hashing range es l) (ap (firm_counts hashing range) apart ∙ counts_append hashing range (in_stretch es hashed 0 low) (in_stretch es hashed start circle))
+      subst (λ l. AreFirm hashing range es l) (ap (firm_counts hashing range) apart
+      ∙ counts_append hashing range (in_stretch es hashed 0 low) (in_stretch es hashed start circle))
       (are_firm hashing range es are (stretch 0 low hashed ++ stretch start circle hashed)
-      (all_both (stretch 0 low hashed) (stretch start circle hashed) (all_under hashing es (λ x. is_between 0 low x.0.hash) hashed by_hash sorted) (all_under hashing es (λ x. is_between start circle x.0.hash) hashed by_hash sorted))
+      (all_both (stretch 0 low hashed) (stretch start circle hashed)
+      (all_under hashing es (λ x. is_between 0 low x.0.hash) hashed by_hash sorted)
+      (all_under hashing es (λ x. is_between start circle x.0.hash) hashed by_hash sorted))
       (once_from_rising (stretch 0 low hashed ++ stretch start circle hashed)
-      (both_rise low start hashed sorted (let size = is_range.size_within in omega (arith, size, starts, ends)) (let size = is_range.size_within in let first = is_range.start_below in omega (arith, size, first, ends))))
+      (both_rise low start hashed sorted (let size = is_range.size_within in omega (arith, size, starts, ends))
+      (let size = is_range.size_within in let first = is_range.start_below in omega (arith, size, first, ends))))
       (λ q h at has. ap (λ l. is_some (lookup (is_at (grain_cmp q)) l)) apart
       ∙ ap is_some (lookup_append (is_at (grain_cmp q)) (in_stretch es hashed 0 low) (in_stretch es hashed start circle))
-      ∙ one_of (lookup (is_at (grain_cmp q)) (in_stretch es hashed 0 low)) (lookup (is_at (grain_cmp q)) (in_stretch es hashed start circle))
+      ∙ one_of (lookup (is_at (grain_cmp q)) (in_stretch es hashed 0 low))
+      (lookup (is_at (grain_cmp q)) (in_stretch es hashed start circle))
       (is_between 0 low (hash_grain hashing q)) (is_between start circle (hash_grain hashing q))
-      (ap (λ s. is_between 0 low (hash_grain hashing q) || is_between s circle (hash_grain hashing q)) starts ∙ in_two range low (hash_grain hashing q) is_range ends has)
+      (ap (λ s. is_between 0 low (hash_grain hashing q) || is_between s circle (hash_grain hashing q)) starts
+      ∙ in_two range low (hash_grain hashing q) is_range ends has)
       (listed_between hashing es 0 low hashed by_hash q h at) (listed_between hashing es start circle hashed by_hash q h at)))
     where
-      apart : standing_at es (stretch 0 low hashed ++ stretch start circle hashed) ≡ in_stretch es hashed 0 low ++ in_stretch es hashed start circle
+      apart : standing_at es (stretch 0 low hashed ++ stretch start circle hashed) ≡ in_stretch es hashed 0 low ++ in_stretch es hashed
+          start circle
       apart = filter_map-append (λ x. slice_get es x.1) (stretch 0 low hashed) (stretch start circle hashed)

@@ -13,7 +13,9 @@ use Rattle.host_activations.proofs.Rows.{AllApart, Apart, IsRow, length_spread, 
 use Rattle.host_activations.proofs.Unique.{unique}
 
 abbrev OneEach : List (Grain × Held) → Type 0
-OneEach all = (g q : Grain) (h k : Held) → lookup (is_at (grain_cmp g)) all ≡ Some h → lookup (is_at (grain_cmp q)) all ≡ Some k → h.count ≡ k.count → g ≡ q
+OneEach all =
+    (g q : Grain) (h k : Held) → lookup (is_at (grain_cmp g)) all ≡ Some h → lookup (is_at (grain_cmp q)) all ≡ Some k → h.count ≡ k.count
+    → g ≡ q
 
 apart_from : (all : List (Grain × Held)) → OneEach all → (e : Grain × Held) → IsFoundIn all e → (es : List (Grain × Held))
     → AllByRecursion (λ g. grain_eq e.0 g ≡ false) (keys_of es) → AllByRecursion (IsFoundIn all) es → AllByRecursion (Apart e) es
@@ -23,7 +25,8 @@ apart_from all once e here (x ∷ es) apart found = (
   apart_from all once e here es apart.1 found.1,
 )
 
-all_apart : (all es : List (Grain × Held)) → OneEach all → AllByRecursion (IsFoundIn all) es → IsDistinct grain_eq (keys_of es) → AllApart es
+all_apart : (all es : List (Grain × Held)) → OneEach all → AllByRecursion (IsFoundIn all) es → IsDistinct grain_eq (keys_of es)
+    → AllApart es
 all_apart all [] once found apart = tt
 all_apart all (e ∷ es) once found apart = (
   apart_from all once e found.0 es (IsDistinct-head grain_eq e.0 (keys_of es) apart) found.1,
@@ -40,13 +43,16 @@ fresh_to_none (e ∷ es) = (tt, fresh_to_none es)
 pub row_in_order : (es : List (Grain × Held)) → AreApart es → IsRow (in_order es)
 row_in_order es are = row_spread [] es tt (are_all_apart es are) (fresh_to_none es)
 
-pub lookup_in_order : (q : Grain) (es : List (Grain × Held)) → AreApart es → lookup (is_at (grain_cmp q)) (in_order es) ≡ lookup (is_at (grain_cmp q)) es
+pub lookup_in_order : (q : Grain) (es : List (Grain × Held)) → AreApart es
+    → lookup (is_at (grain_cmp q)) (in_order es) ≡ lookup (is_at (grain_cmp q)) es
 lookup_in_order q es are = lookup_spread q [] es (are_all_apart es are) (fresh_to_none es) ∙ either_none (lookup (is_at (grain_cmp q)) es)
 
 pub length_in_order : (es : List (Grain × Held)) → length (in_order es) ≡ length es
 length_in_order es = let all = length_spread [] es in omega (all, arith)
 
 -- those in which the same is found at each grain are told in one order
-pub same_order : (es fs : List (Grain × Held)) → AreApart es → AreApart fs → ((q : Grain) → lookup (is_at (grain_cmp q)) es ≡ lookup (is_at (grain_cmp q)) fs) → in_order es ≡ in_order fs
+pub same_order : (es fs : List (Grain × Held)) → AreApart es → AreApart fs
+    → ((q : Grain) → lookup (is_at (grain_cmp q)) es ≡ lookup (is_at (grain_cmp q)) fs) → in_order es ≡ in_order fs
 same_order es fs are also alike =
-    unique (in_order es) (in_order fs) (row_in_order es are) (row_in_order fs also) (λ q. lookup_in_order q es are ∙ alike q ∙ sym (lookup_in_order q fs also))
+    unique (in_order es) (in_order fs) (row_in_order es are) (row_in_order fs also)
+    (λ q. lookup_in_order q es are ∙ alike q ∙ sym (lookup_in_order q fs also))

@@ -34,7 +34,8 @@ less_means j k h = ranked j k Less (sym h)
 
 module _ {X : Type 0} where
   -- an entry under a number above all others comes last
-  pub put_last : (es : List (ℕ × X)) (k : ℕ) (x : X) → AllByRecursion (λ j. j < k) (keys_of es) → insert_entry nat_cmp es k x ≡ es ++ (k, x) ∷ []
+  pub put_last : (es : List (ℕ × X)) (k : ℕ) (x : X) → AllByRecursion (λ j. j < k) (keys_of es)
+      → insert_entry nat_cmp es k x ≡ es ++ (k, x) ∷ []
   put_last [] k x below = refl
   put_last (e ∷ es) k x below = by (nat_cmp k e.0) refl (put_last es k x below.1)
     where
@@ -44,25 +45,29 @@ module _ {X : Type 0} where
       by Equal h later = let same : k ≡ e.0 = ranked k e.0 Equal (sym h) in let low = below.0 in absurd (omega (same, low, arith))
       by Greater h later = ap (λ l. e ∷ l) later
 
-  pub below_last : (es : List (ℕ × X)) (k : ℕ) (x : X) → AllByRecursion (λ j. j < k) (keys_of es) → AllByRecursion (λ j. j < k + 1) (keys_of (es ++ (k, x) ∷ []))
+  pub below_last : (es : List (ℕ × X)) (k : ℕ) (x : X) → AllByRecursion (λ j. j < k) (keys_of es)
+      → AllByRecursion (λ j. j < k + 1) (keys_of (es ++ (k, x) ∷ []))
   below_last [] k x below = (omega arith, tt)
   below_last (e ∷ es) k x below = (let low = below.0 in omega (low, arith), below_last es k x below.1)
 
-  above_found : (j k : ℕ) (x : X) (es : List (ℕ × X)) → AllByRecursion (λ y. nat_cmp j y ≡ Less) (keys_of es) → lookup (is_at (nat_cmp k)) es ≡ Some x → nat_cmp j k ≡ Less
+  above_found : (j k : ℕ) (x : X) (es : List (ℕ × X)) → AllByRecursion (λ y. nat_cmp j y ≡ Less) (keys_of es)
+      → lookup (is_at (nat_cmp k)) es ≡ Some x → nat_cmp j k ≡ Less
   above_found j k x [] above found = cc
   above_found j k x (e ∷ es) above found =
       on_number (λ b. cond b (Some e.1) (lookup (is_at (nat_cmp k)) es) ≡ Some x → nat_cmp j k ≡ Less) k e.0
       (λ same it. ap (λ (n : ℕ). nat_cmp j n) same ∙ above.0) (λ other it. above_found j k x es above.1 it) found
 
   -- what is found behind the first entry is found
-  pub found_behind : (e : ℕ × X) (es : List (ℕ × X)) (k : ℕ) (x : X) → IsStrictlySortedBy nat_cmp (keys_of (e ∷ es)) → lookup (is_at (nat_cmp k)) es ≡ Some x
+  pub found_behind : (e : ℕ × X) (es : List (ℕ × X)) (k : ℕ) (x : X) → IsStrictlySortedBy nat_cmp (keys_of (e ∷ es))
+      → lookup (is_at (nat_cmp k)) es ≡ Some x
       → lookup (is_at (nat_cmp k)) (e ∷ es) ≡ Some x
   found_behind e es k x sorted found =
       let above : nat_cmp e.0 k ≡ Less = above_found e.0 k x es (sorted_head nat_cmp e.0 (keys_of es) sorted) found in
       on_number (λ b. cond b (Some e.1) (lookup (is_at (nat_cmp k)) es) ≡ Some x) k e.0
-      (λ same. let h : Equal ≡ Less = sym (tied_itself nat_cmp_total e.0) ∙ ap (λ (n : ℕ). nat_cmp e.0 n) (sym same) ∙ above in cc) (λ other. found)
+      (λ same. let h : Equal ≡ Less = sym (tied_itself nat_cmp_total e.0) ∙ ap (λ (n : ℕ). nat_cmp e.0 n) (sym same) ∙ above in cc)
+      (λ other. found)
 
-  all_from : (j m : ℕ) (xs : List X) → j < m → AllByRecursion (λ k. nat_cmp j k ≡ Less) (keys_of (enumerate_from m xs))
+  pub all_from : (j m : ℕ) (xs : List X) → j < m → AllByRecursion (λ k. nat_cmp j k ≡ Less) (keys_of (enumerate_from m xs))
   all_from j m [] lt = tt
   all_from j m (x ∷ xs) lt = (less_is j m lt, all_from j (m + 1) xs (omega (lt, arith)))
 
@@ -102,12 +107,15 @@ module _ {X : Type 0} where
   Ranks f m [] = Unit {0}
   Ranks f m (e ∷ es) = (f e.0 ≡ m) × Ranks f (m + 1) es
 
-  pub ranks_from : (f : ℕ → ℕ) (low m : ℕ) (es : List (ℕ × X)) → IsStrictlySortedBy nat_cmp (keys_of es) → AllByRecursion (λ k. low ≤ k) (keys_of es)
+  pub ranks_from : (f : ℕ → ℕ) (low m : ℕ) (es : List (ℕ × X)) → IsStrictlySortedBy nat_cmp (keys_of es)
+      → AllByRecursion (λ k. low ≤ k) (keys_of es)
       → ((k : ℕ) → low ≤ k → f k ≡ m + below k es) → Ranks f m es
   ranks_from f low m [] sorted high counts = tt
   ranks_from f low m (e ∷ es) sorted high counts = (
-    (let here = counts e.0 high.0 in let none = below_first e es (sorted_head nat_cmp e.0 (keys_of es) sorted) in omega (here, none, arith)),
-    ranks_from f (e.0 + 1) (m + 1) es (sorted_tail nat_cmp e.0 (keys_of es) sorted) (above (keys_of es) (sorted_head nat_cmp e.0 (keys_of es) sorted))
+    (let here = counts e.0 high.0 in let none = below_first e es (sorted_head nat_cmp e.0 (keys_of es) sorted) in
+        omega (here, none, arith)),
+    ranks_from f (e.0 + 1) (m + 1) es (sorted_tail nat_cmp e.0 (keys_of es) sorted)
+        (above (keys_of es) (sorted_head nat_cmp e.0 (keys_of es) sorted))
         (λ k le. let low : low ≤ k = (let first = high.0 in omega (first, le, arith)) in
         let here = counts k low in let more = below_behind k e es (omega (le, arith)) in omega (here, more, arith)),
   )
@@ -122,7 +130,8 @@ module _ {X : Type 0} where
     pub high : f k < m + length es
     pub found : lookup (is_at (nat_cmp (f k))) (enumerate_from m (values_of es)) ≡ Some x
 
-  pub rank_found : (f : ℕ → ℕ) (m : ℕ) (es : List (ℕ × X)) (k : ℕ) (x : X) → Ranks f m es → lookup (is_at (nat_cmp k)) es ≡ Some x → IsRanked f m es k x
+  pub rank_found : (f : ℕ → ℕ) (m : ℕ) (es : List (ℕ × X)) (k : ℕ) (x : X) → Ranks f m es → lookup (is_at (nat_cmp k)) es ≡ Some x
+      → IsRanked f m es k x
   rank_found f m [] k x ranks found = cc
   rank_found f m (e ∷ es) k x ranks found =
       on_number (λ b. cond b (Some e.1) (lookup (is_at (nat_cmp k)) es) ≡ Some x → IsRanked f m (e ∷ es) k x) k e.0
@@ -147,7 +156,8 @@ module _ {X : Type 0} where
 
   -- and what is found under a rank is found under a number of that rank
   pub rank_back : (f : ℕ → ℕ) (m : ℕ) (es : List (ℕ × X)) (n : ℕ) (x : X) → IsStrictlySortedBy nat_cmp (keys_of es) → Ranks f m es
-      → lookup (is_at (nat_cmp n)) (enumerate_from m (values_of es)) ≡ Some x → (k : ℕ) × (lookup (is_at (nat_cmp k)) es ≡ Some x) × (f k ≡ n)
+      → lookup (is_at (nat_cmp n)) (enumerate_from m (values_of es)) ≡ Some x
+      → (k : ℕ) × (lookup (is_at (nat_cmp k)) es ≡ Some x) × (f k ≡ n)
   rank_back f m [] n x sorted ranks found = cc
   rank_back f m (e ∷ es) n x sorted ranks found =
       on_number (λ b. cond b (Some e.1) (lookup (is_at (nat_cmp n)) (enumerate_from (m + 1) (values_of es))) ≡ Some x
@@ -157,11 +167,13 @@ module _ {X : Type 0} where
       (back.0, found_behind e es back.0 x sorted back.1, back.2)) found
 
 -- the finds have their ranks
-pub finds-enumerate_from : (f : ℕ → ℕ) (m : ℕ) (es : List (ℕ × OutstandingRequest)) → Ranks f m es → finds_in (enumerate_from m (values_of es)) ≡ map (λ e. (f e.0, e.1)) (finds_in es)
+pub finds-enumerate_from : (f : ℕ → ℕ) (m : ℕ) (es : List (ℕ × OutstandingRequest)) → Ranks f m es
+    → finds_in (enumerate_from m (values_of es)) ≡ map (λ e. (f e.0, e.1)) (finds_in es)
 finds-enumerate_from f m [] ranks = refl
 finds-enumerate_from f m (e ∷ es) ranks = by (find_in e.1) (finds-enumerate_from f (m + 1) es ranks.1)
   where
     by : (o : Option Grain) → finds_in (enumerate_from (m + 1) (values_of es)) ≡ map (λ x. (f x.0, x.1)) (finds_in es)
-        → cons_option (option_map (λ g. (m, g)) o) (finds_in (enumerate_from (m + 1) (values_of es))) ≡ map (λ x. (f x.0, x.1)) (cons_option (option_map (λ g. (e.0, g)) o) (finds_in es))
+        → cons_option (option_map (λ g. (m, g)) o) (finds_in (enumerate_from (m + 1) (values_of es))) ≡ map (λ x. (f x.0, x.1))
+        (cons_option (option_map (λ g. (e.0, g)) o) (finds_in es))
     by None later = later
     by (Some g) later = λ i. (sym ranks.0 i, g) ∷ later i

@@ -7,14 +7,14 @@ use Rattle.std.specs.Map.{lookup, keys_of, values_of}
 use Rattle.std.specs.BTreeMap.{is_at}
 use Rattle.std.proofs.lemmas.Option.{same_Some}
 use Rattle.std.proofs.lemmas.List.Sums.{sum_by-cons}
-use Rattle.std.proofs.lemmas.List.{length-map}
 use Rattle.texts.proofs.Orderings.{Equal-from}
 use Rattle.silo_address.specs.Grain.{Grain, grain_cmp, grain_eq}
 use Rattle.silo_address.proofs.Order.{grain_cmp_exact}
 use Rattle.directory_rules.specs.declared.Held.{Held}
 use Rattle.directory_rules.specs.declared.Phase.{Phase}
 use Rattle.directory_rules.specs.declared.Phase.TheVariants.{Asking, Firm, Closing}
-use Rattle.directory_rules.specs.Host.{Host, new_number, outstanding, renewed, renewed_phase}
+use Rattle.directory_rules.specs.State.{Host}
+use Rattle.directory_rules.specs.Host.{new_number, outstanding, renewed, renewed_phase}
 use Rattle.host_activations.specs.declared.asked.OutstandingRequest.{OutstandingRequest}
 use Rattle.host_activations.specs.declared.asked.OutstandingRequest.TheVariants.{Activation, Find}
 use Rattle.host_activations.specs.declared.host.Host.TheInside.{Inside}
@@ -23,7 +23,7 @@ use Rattle.host_activations.specs.Asked.{asked_under, finds_in, AreAsked}
 use Rattle.host_activations.specs.IsHost.{AreHeld, IsHost}
 use Rattle.host_activations.specs.HostModel.{IsWhole, host_of}
 use Rattle.host_activations.specs.Acts.{acts_in}
-use Rattle.host_activations.specs.Renewal.{asked_by, renewal_of}
+use Rattle.host_activations.specs.Renewal.{asked_by, is_request_of, renewal_of, with_numbers}
 use Rattle.host_activations.proofs.Agreement.{nothing}
 use Rattle.host_activations.proofs.Entries.{keys-map, lookup-map}
 use Rattle.host_activations.proofs.Found.{IsFoundIn, all_map, each_found}
@@ -31,20 +31,20 @@ use Rattle.host_activations.proofs.OutstandingActs.{acts_are, keys_are, as_many}
 use Rattle.host_activations.proofs.AskedAgain.{asked_again, each_asked, same_act}
 use Rattle.host_activations.proofs.Fields.{made, meant}
 use Rattle.host_activations.proofs.Ranks.{Ranks, below, ranks_from, rank_found, rank_back, sorted-enumerate_from, finds-enumerate_from}
-use Rattle.host_activations.proofs.NewNumbers.{after, after_asking, after_resting, each_after, is_request_of, with_numbers}
+use Rattle.host_activations.proofs.NewNumbers.{after, after_asking, after_resting, each_after}
 
-below_keys : {X : Type 0} (k : ℕ) (es : List (ℕ × X)) → below k es ≡ count_by (λ j. nat_lt j k) (keys_of es)
+pub below_keys : {X : Type 0} (k : ℕ) (es : List (ℕ × X)) → below k es ≡ count_by (λ j. nat_lt j k) (keys_of es)
 below_keys k [] = refl
 below_keys k (e ∷ es) =
     let here = sum_by-cons (λ x. cond (nat_lt x.0 k) 1 0) e es in
     let there = sum_by-cons (λ (j : ℕ). cond (nat_lt j k) 1 0) e.0 (keys_of es) in
     let later = below_keys k es in omega (here, there, later, arith)
 
-all_high : (ks : List ℕ) → AllByRecursion (λ k. 0 ≤ k) ks
+pub all_high : (ks : List ℕ) → AllByRecursion (λ k. 0 ≤ k) ks
 all_high [] = tt
 all_high (k ∷ ks) = (omega arith, all_high ks)
 
-map_same : {A B : Type 0} (f g : A → B) (xs : List A) → AllByRecursion (λ x. f x ≡ g x) xs → map f xs ≡ map g xs
+pub map_same : {A B : Type 0} (f g : A → B) (xs : List A) → AllByRecursion (λ x. f x ≡ g x) xs → map f xs ≡ map g xs
 map_same f g [] same = refl
 map_same f g (x ∷ xs) same = λ i. same.0 i ∷ map_same f g xs same.1 i
 
@@ -63,7 +63,7 @@ asks host (Asking j) k is = ap (λ (n : ℕ). Asking (new_number host n)) (sym (
 asks host Firm k is = refl
 asks host (Closing j) k is = ap (λ (n : ℕ). Closing (new_number host n)) (sym (same_Some j k is))
 
-of_grain : (q : Grain) (asked : OutstandingRequest) → is_request_of q asked ≡ true → asked ≡ Activation q
+pub of_grain : (q : Grain) (asked : OutstandingRequest) → is_request_of q asked ≡ true → asked ≡ Activation q
 of_grain q (Activation g) is = ap (λ (x : Grain). Activation x) (grain_cmp_exact g q (Equal-from (grain_cmp g q) is))
 of_grain q (Find g) is = cc
 
@@ -102,7 +102,8 @@ module _ (h : Inside) (is : IsWhole h) where
   only_under : (q : Grain) (k : ℕ) → number_of q h.held.entries ≡ Some k → AllByRecursion (λ e. is_request_of q e.1 ≡ true → e.0 ≡ k) out
   only_under q k has =
       all_map (λ e. asked_under e.0 out ≡ Some e.1) (λ e. is_request_of q e.1 ≡ true → e.0 ≡ k) out
-      (λ e found request. same_Some e.0 k (sym (is.are_held.asked.only q e.0 (found ∙ ap (λ (a : OutstandingRequest). Some a) (of_grain q e.1 request))) ∙ has))
+      (λ e found request. same_Some e.0 k (sym (is.are_held.asked.only q e.0
+      (found ∙ ap (λ (a : OutstandingRequest). Some a) (of_grain q e.1 request))) ∙ has))
       (each_asked out is.are_held.in_order)
 
   one_after : (e : Grain × Held) → IsFoundIn h.held.entries e → after now e.0 e.1 ≡ renewed_held e.1
@@ -112,14 +113,16 @@ module _ (h : Inside) (is : IsWhole h) where
       by None none = after_resting now e.0 e.1 none ∙ ap (λ (p : Phase). record e.1 { phase = p }) (rests (host_of h) e.1.phase none)
       by (Some k) has =
           let number : number_of e.0 h.held.entries ≡ Some k = ap (λ o. option_and_then (λ (x : Held). number_in x.phase) o) found ∙ has in
-          after_asking new e.0 e.1 k h.next_number out is.are_held.in_order ranks (only_under e.0 k number) (is.are_held.asked.there e.0 k number)
+          after_asking new e.0 e.1 k h.next_number out is.are_held.in_order ranks (only_under e.0 k number)
+          (is.are_held.asked.there e.0 k number)
           ∙ ap (λ (p : Phase). record e.1 { phase = p }) (asks (host_of h) e.1.phase k has)
 
   pub held_is : with_numbers now h.held.entries ≡ held_now
   held_is =
       each_after now h.held.entries
       ∙ map_same (λ e. (e.0, after now e.0 e.1)) (λ e. (e.0, renewed_held e.1)) h.held.entries
-      (all_map (IsFoundIn h.held.entries) (λ e. (e.0, after now e.0 e.1) ≡ (e.0, renewed_held e.1)) h.held.entries (λ e found. ap (λ (x : Held). (e.0, x)) (one_after e found))
+      (all_map (IsFoundIn h.held.entries) (λ e. (e.0, after now e.0 e.1) ≡ (e.0, renewed_held e.1)) h.held.entries
+      (λ e found. ap (λ (x : Held). (e.0, x)) (one_after e found))
       (each_found h.held.entries is.are_held.apart))
 
   number_now : (q : Grain) → number_of q held_now ≡ option_map new (number_of q h.held.entries)
@@ -127,7 +130,8 @@ module _ (h : Inside) (is : IsWhole h) where
       ap (λ o. option_and_then (λ (x : Held). number_in x.phase) o) (lookup-map renewed_held (is_at (grain_cmp q)) h.held.entries)
       ∙ by (lookup (is_at (grain_cmp q)) h.held.entries)
     where
-      by : (o : Option Held) → option_and_then (λ x. number_in x.phase) (option_map renewed_held o) ≡ option_map new (option_and_then (λ x. number_in x.phase) o)
+      by : (o : Option Held) → option_and_then (λ x. number_in x.phase) (option_map renewed_held o) ≡ option_map new
+          (option_and_then (λ x. number_in x.phase) o)
       by None = refl
       by (Some x) = number_renewed (host_of h) x.phase
 
@@ -139,7 +143,8 @@ module _ (h : Inside) (is : IsWhole h) where
         let back = rank_back new h.next_number out n (Activation q) is.are_held.in_order ranks found in
         number_now q ∙ ap (option_map new) (is.are_held.asked.only q back.0 back.1) ∙ ap (λ (k : ℕ). Some k) back.2;
   } where
-    there_by : (q : Grain) (n : ℕ) (o : Option ℕ) → number_of q h.held.entries ≡ o → option_map new o ≡ Some n → asked_under n now ≡ Some (Activation q)
+    there_by : (q : Grain) (n : ℕ) (o : Option ℕ) → number_of q h.held.entries ≡ o → option_map new o ≡ Some n
+        → asked_under n now ≡ Some (Activation q)
     there_by q n None none is_n = nothing n is_n
     there_by q n (Some k) has is_n =
         let ranked = rank_found new h.next_number out k (Activation q) ranks (is.are_held.asked.there q k has) in
@@ -163,7 +168,8 @@ module _ (h : Inside) (is : IsWhole h) where
   finds_now = finds-enumerate_from new h.next_number out ranks
 
   module _ (host : Host) (means : host_of h ≡ host) where
-    module _ (held_new : List (Grain × Held)) (out_new : List (ℕ × OutstandingRequest)) (count : ℕ) (held_made : held_new ≡ held_now) (out_made : out_new ≡ now) (counted : count ≡ length out) where
+    module _ (held_new : List (Grain × Held)) (out_new : List (ℕ × OutstandingRequest)) (count : ℕ) (held_made : held_new ≡ held_now)
+        (out_made : out_new ≡ now) (counted : count ≡ length out) where
       pub renewed_means : meant h.silo (h.next_number + count) h.held.next_count held_new out_new ≡ renewed host
       renewed_means =
           (λ i. made h.silo (h.next_number + (counted ∙ sym many) i) h.held.next_count (held_made i) ((ap finds_in out_made ∙ finds_now) i))
@@ -189,11 +195,11 @@ module _ (h : Inside) (is : IsWhole h) where
           let left_here : h.next_number + length (outstanding (host_of h)) ≤ 2 ^ 60 + 1 = subst (λ (x : Host). x.next_number + length (outstanding x) ≤ 2 ^ 60 + 1) (sym means) left in
           let all = many in omega (left_here, all, arith)
 
-      pub renewed_is : (held_new : List (Grain × Held)) (out_new : List (ℕ × OutstandingRequest)) (count : ℕ) → held_new ≡ held_now → out_new ≡ now → count ≡ length out → IsHost (h.next_number + count) held_new out_new h.find_count
+      pub renewed_is : (held_new : List (Grain × Held)) (out_new : List (ℕ × OutstandingRequest)) (count : ℕ) → held_new ≡ held_now
+          → out_new ≡ now → count ≡ length out → IsHost (h.next_number + count) held_new out_new
       renewed_is held_new out_new count held_made out_made counted = record {
         number = let above = is.number.above in record { above = omega (above, arith); within = omega (enough, counted, arith) };
         are_held = subst (λ (n : ℕ). AreHeld (h.next_number + n) held_new out_new) (sym counted)
-            (subst (λ l. AreHeld (h.next_number + length out) l out_new) (sym held_made) (subst (λ l. AreHeld (h.next_number + length out) held_now l) (sym out_made) are_now));
-        counted = is.counted ∙ sym (length-map (finds_in out) (λ e. (new e.0, e.1))) ∙ ap (λ (l : List (ℕ × Grain)). length l) (sym (ap finds_in out_made ∙ finds_now));
-        few = let few = is.few in omega (few, arith);
+            (subst (λ l. AreHeld (h.next_number + length out) l out_new) (sym held_made)
+            (subst (λ l. AreHeld (h.next_number + length out) held_now l) (sym out_made) are_now));
       }

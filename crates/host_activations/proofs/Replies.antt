@@ -8,7 +8,8 @@ use Rattle.silo_address.specs.Grain.{Grain, grain_cmp}
 use Rattle.directory_rules.specs.declared.Held.{Held}
 use Rattle.directory_rules.specs.declared.Phase.{Phase}
 use Rattle.directory_rules.specs.declared.Phase.TheVariants.{Asking, Firm, Closing}
-use Rattle.directory_rules.specs.Host.{Host, is_asking_under, is_closing_under}
+use Rattle.directory_rules.specs.State.{Host}
+use Rattle.directory_rules.specs.Host.{is_asking_under, is_closing_under}
 use Rattle.host_activations.specs.declared.host.Host.TheInside.{Inside}
 use Rattle.host_activations.specs.HostModel.{IsWhole, host_of}
 use Rattle.host_activations.specs.declared.asked.OutstandingRequest.{OutstandingRequest}
@@ -26,19 +27,27 @@ activation_in (Find grain) = None
 
 tells_activation : (o : Option OutstandingRequest) (g : Grain) → (option_and_then activation_in o ≡ Some g) ↔ (o ≡ Some (Activation g))
 tells_activation None g = (λ h. cc, λ h. cc)
-tells_activation (Some (Activation q)) g = (λ h. ap (λ (x : Grain). Some (Activation x)) (same_Some q g h), λ h. ap (λ (x : Grain). Some x) (same_activation q g h))
+tells_activation (Some (Activation q)) g =
+    (λ h. ap (λ (x : Grain). Some (Activation x)) (same_Some q g h), λ h. ap (λ (x : Grain). Some x) (same_activation q g h))
 tells_activation (Some (Find q)) g = (λ h. cc, λ h. no_find q g h)
 
-pub none_told : (r : Option Grain) (o : Option OutstandingRequest) → r ≡ None → None ≡ o → (g : Grain) → (r ≡ Some g) ↔ (o ≡ Some (Activation g))
-none_told r o none is g = subst (λ x. (x ≡ Some g) ↔ (o ≡ Some (Activation g))) (sym none) (subst (λ x. (None ≡ Some g) ↔ (x ≡ Some (Activation g))) is (tells_activation None g))
+pub none_told : (r : Option Grain) (o : Option OutstandingRequest) → r ≡ None → None ≡ o → (g : Grain)
+    → (r ≡ Some g) ↔ (o ≡ Some (Activation g))
+none_told r o none is g =
+    subst (λ x. (x ≡ Some g) ↔ (o ≡ Some (Activation g))) (sym none)
+    (subst (λ x. (None ≡ Some g) ↔ (x ≡ Some (Activation g))) is (tells_activation None g))
 
-pub activation_told : (q : Grain) (asked : OutstandingRequest) (o : Option OutstandingRequest) → asked ≡ Activation q → Some asked ≡ o → (g : Grain) → (Some q ≡ Some g) ↔ (o ≡ Some (Activation g))
+pub activation_told : (q : Grain) (asked : OutstandingRequest) (o : Option OutstandingRequest) → asked ≡ Activation q → Some asked ≡ o
+    → (g : Grain) → (Some q ≡ Some g) ↔ (o ≡ Some (Activation g))
 activation_told q asked o what is g =
-    subst (λ x. (Some q ≡ Some g) ↔ (x ≡ Some (Activation g))) (ap (λ (a : OutstandingRequest). Some a) (sym what) ∙ is) (tells_activation (Some (Activation q)) g)
+    subst (λ x. (Some q ≡ Some g) ↔ (x ≡ Some (Activation g))) (ap (λ (a : OutstandingRequest). Some a) (sym what) ∙ is)
+    (tells_activation (Some (Activation q)) g)
 
-pub find_told : (q : Grain) (asked : OutstandingRequest) (o : Option OutstandingRequest) → asked ≡ Find q → Some asked ≡ o → (g : Grain) → (None ≡ Some g) ↔ (o ≡ Some (Activation g))
+pub find_told : (q : Grain) (asked : OutstandingRequest) (o : Option OutstandingRequest) → asked ≡ Find q → Some asked ≡ o → (g : Grain)
+    → (None ≡ Some g) ↔ (o ≡ Some (Activation g))
 find_told q asked o what is g =
-    subst (λ x. (None ≡ Some g) ↔ (x ≡ Some (Activation g))) (ap (λ (a : OutstandingRequest). Some a) (sym what) ∙ is) (tells_activation (Some (Find q)) g)
+    subst (λ x. (None ≡ Some g) ↔ (x ≡ Some (Activation g))) (ap (λ (a : OutstandingRequest). Some a) (sym what) ∙ is)
+    (tells_activation (Some (Find q)) g)
 
 module _ (next : ℕ) (held : List (Grain × Held)) (out : List (ℕ × OutstandingRequest)) (are : AreHeld next held out)
     (test : Phase → Bool) (n : ℕ) (has : (phase : Phase) → test phase ≡ true → number_in phase ≡ Some n) where
@@ -52,7 +61,8 @@ module _ (next : ℕ) (held : List (Grain × Held)) (out : List (ℕ × Outstand
   none_passes : ((e : Grain × Held) → IsFoundIn held e → test e.1.phase ≡ true → ⊥) → find (λ e. test e.1.phase) held ≡ None
   none_passes never =
       search_fails (λ e. test e.1.phase) held
-      (all_map (IsFoundIn held) (λ e. test e.1.phase ≡ false) held (λ e found. by e (test e.1.phase) refl found) (each_found held are.apart))
+      (all_map (IsFoundIn held) (λ e. test e.1.phase ≡ false) held (λ e found. by e (test e.1.phase) refl found)
+      (each_found held are.apart))
     where
       by : (e : Grain × Held) (b : Bool) → test e.1.phase ≡ b → IsFoundIn held e → b ≡ false
       by e true h found = absurd (never e found h)
@@ -65,14 +75,16 @@ module _ (next : ℕ) (held : List (Grain × Held)) (out : List (ℕ × Outstand
       only : (e : Grain × Held) → IsFoundIn held e → test e.1.phase ≡ true → e.0 ≡ g
       only e found passes = same_activation e.0 g (sym (stands e found passes) ∙ is)
 
-      by_held : (o : Option Held) → lookup (is_at (grain_cmp g)) held ≡ o → find (λ e. test e.1.phase) held ≡ option_and_then (λ h. cond (test h.phase) (Some (g, h)) None) o
+      by_held : (o : Option Held) → lookup (is_at (grain_cmp g)) held ≡ o
+          → find (λ e. test e.1.phase) held ≡ option_and_then (λ h. cond (test h.phase) (Some (g, h)) None) o
       by_held None none = nothing n (sym (ap (λ o. option_and_then (λ (x : Held). number_in x.phase) o) none) ∙ are.asked.only g n is)
       by_held (Some h) there = by_test (test h.phase) refl
         where
           by_test : (b : Bool) → test h.phase ≡ b → find (λ e. test e.1.phase) held ≡ cond b (Some (g, h)) None
           by_test true passes =
               search_finds (λ e. test e.1.phase) held g h
-              (all_map (IsFoundIn held) (λ e. test e.1.phase ≡ true → e.0 ≡ g) held (λ e found passes. only e found passes) (each_found held are.apart)) there passes
+              (all_map (IsFoundIn held) (λ e. test e.1.phase ≡ true → e.0 ≡ g) held (λ e found passes. only e found passes)
+              (each_found held are.apart)) there passes
           by_test false fails =
               none_passes (λ e found passes.
               let same : e.1 ≡ h = same_Some e.1 h (sym found ∙ ap (λ (x : Grain). lookup (is_at (grain_cmp x)) held) (only e found passes) ∙ there) in
@@ -100,7 +112,8 @@ module _ (h : Inside) (is : IsWhole h) (host : Host) (means : host_of h ≡ host
       → find (λ e. test e.1.phase) host.held ≡ option_and_then (λ e. cond (test e.1.phase) (Some e) None) result
 
   -- there is none of the number
-  pub finds_none : ((g : Grain) → asked_under n h.outstanding.entries ≡ Some (Activation g) → ⊥) → (result : Option (Grain × Held)) → result ≡ None → Finds result
+  pub finds_none : ((g : Grain) → asked_under n h.outstanding.entries ≡ Some (Activation g) → ⊥) → (result : Option (Grain × Held))
+      → result ≡ None → Finds result
   finds_none never result none test has =
       ap (λ (x : Host). find (λ e. test e.1.phase) x.held) (sym means)
       ∙ not_asked h.next_number h.held.entries h.outstanding.entries is.are_held test n has never

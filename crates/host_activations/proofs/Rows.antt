@@ -37,7 +37,8 @@ not_below : (a b : ℕ) → b < a → nat_lt a b ≡ false
 not_below a b above = grind (arith, nat_tests)
 
 -- ---- One more.
-pub all_placed : (P : Grain × Held → Type 0) (xs : List (Grain × Held)) (e : Grain × Held) → AllByRecursion P xs → P e → AllByRecursion P (placed xs e)
+pub all_placed : (P : Grain × Held → Type 0) (xs : List (Grain × Held)) (e : Grain × Held) → AllByRecursion P xs → P e
+    → AllByRecursion P (placed xs e)
 all_placed P [] e all one = (one, tt)
 all_placed P (x ∷ xs) e all one = by (nat_lt e.1.count x.1.count) (all_placed P xs e all.1 one)
   where
@@ -45,9 +46,11 @@ all_placed P (x ∷ xs) e all one = by (nat_lt e.1.count x.1.count) (all_placed 
     by true later = (one, all)
     by false later = (all.0, later)
 
-before_all : (e x : Grain × Held) (xs : List (Grain × Held)) → e.1.count < x.1.count → AllByRecursion (Before x) xs → AllByRecursion (Apart e) xs → AllByRecursion (Before e) xs
+before_all : (e x : Grain × Held) (xs : List (Grain × Held)) → e.1.count < x.1.count → AllByRecursion (Before x) xs
+    → AllByRecursion (Apart e) xs → AllByRecursion (Before e) xs
 before_all e x [] below before apart = tt
-before_all e x (y ∷ xs) below before apart = ((apart.0.0, let then = before.0.1 in omega (below, then, arith)), before_all e x xs below before.1 apart.1)
+before_all e x (y ∷ xs) below before apart =
+    ((apart.0.0, let then = before.0.1 in omega (below, then, arith)), before_all e x xs below before.1 apart.1)
 
 pub row_placed : (xs : List (Grain × Held)) (e : Grain × Held) → IsRow xs → AllByRecursion (Apart e) xs → IsRow (placed xs e)
 row_placed [] e row apart = (tt, tt)
@@ -57,7 +60,8 @@ row_placed (x ∷ xs) e row apart = by (nat_lt e.1.count x.1.count) refl (row_pl
     by true is later =
         let below : e.1.count < x.1.count = ltb-true e.1.count x.1.count is in
         (((apart.0.0, below), before_all e x xs below row.0 apart.1), row)
-    by false is later = (all_placed (Before x) xs e row.0 ((λ same. apart.0.0 (sym same)), is_above e.1.count x.1.count is apart.0.1), later)
+    by false is later =
+        (all_placed (Before x) xs e row.0 ((λ same. apart.0.0 (sym same)), is_above e.1.count x.1.count is apart.0.1), later)
 
 swapped : {A : Type 0} (b c : Bool) (x y z : A) → (b ≡ true → c ≡ true → ⊥) → cond b x (cond c y z) ≡ cond c y (cond b x z)
 swapped true true x y z never = absurd (never refl refl)
@@ -74,7 +78,8 @@ lookup_placed q (x ∷ xs) e apart = by (nat_lt e.1.count x.1.count) (lookup_pla
         on_grain (λ b. b ≡ true → is_at (grain_cmp q) e.0 ≡ true → ⊥) q x.0
         (λ same yes. on_grain (λ b. b ≡ true → ⊥) q e.0 (λ also so. apart.0.0 (sym also ∙ same)) (λ other so. cc)) (λ other no. cc)
 
-    by : (b : Bool) → lookup (is_at (grain_cmp q)) (placed xs e) ≡ cond (is_at (grain_cmp q) e.0) (Some e.1) (lookup (is_at (grain_cmp q)) xs)
+    by : (b : Bool) → lookup (is_at (grain_cmp q)) (placed xs e) ≡ cond (is_at (grain_cmp q) e.0) (Some e.1)
+        (lookup (is_at (grain_cmp q)) xs)
         → lookup (is_at (grain_cmp q)) (cond b (e ∷ x ∷ xs) (x ∷ placed xs e))
         ≡ cond (is_at (grain_cmp q) e.0) (Some e.1) (cond (is_at (grain_cmp q) x.0) (Some x.1) (lookup (is_at (grain_cmp q)) xs))
     by true later = refl
@@ -91,23 +96,28 @@ length_placed (x ∷ xs) e = by (nat_lt e.1.count x.1.count) (length_placed xs e
     by false later = omega (later, arith)
 
 -- one that began after all others comes last
-pub placed_last : (xs : List (Grain × Held)) (e : Grain × Held) → AllByRecursion (λ x. x.1.count < e.1.count) xs → placed xs e ≡ xs ++ e ∷ []
+pub placed_last : (xs : List (Grain × Held)) (e : Grain × Held) → AllByRecursion (λ x. x.1.count < e.1.count) xs
+    → placed xs e ≡ xs ++ e ∷ []
 placed_last [] e all = refl
 placed_last (x ∷ xs) e all =
     ap (λ b. cond b (e ∷ x ∷ xs) (x ∷ placed xs e)) (not_below e.1.count x.1.count all.0) ∙ ap (λ l. x ∷ l) (placed_last xs e all.1)
 
 -- ---- Many more.
-fresh_on : (e : Grain × Held) (acc es : List (Grain × Held)) → AllByRecursion (Apart e) es → AllByRecursion (λ x. AllByRecursion (Apart x) acc) es
+fresh_on : (e : Grain × Held) (acc es : List (Grain × Held)) → AllByRecursion (Apart e) es
+    → AllByRecursion (λ x. AllByRecursion (Apart x) acc) es
     → AllByRecursion (λ x. AllByRecursion (Apart x) (placed acc e)) es
 fresh_on e acc [] apart fresh = tt
 fresh_on e acc (x ∷ es) apart fresh = (all_placed (Apart x) acc e fresh.0 (flip e x apart.0), fresh_on e acc es apart.1 fresh.1)
 
 -- with others that none of these is, or began at the count of
-pub row_spread : (acc es : List (Grain × Held)) → IsRow acc → AllApart es → AllByRecursion (λ x. AllByRecursion (Apart x) acc) es → IsRow (fold placed acc es)
+pub row_spread : (acc es : List (Grain × Held)) → IsRow acc → AllApart es → AllByRecursion (λ x. AllByRecursion (Apart x) acc) es
+    → IsRow (fold placed acc es)
 row_spread acc [] row apart fresh = row
-row_spread acc (e ∷ es) row apart fresh = row_spread (placed acc e) es (row_placed acc e row fresh.0) apart.1 (fresh_on e acc es apart.0 fresh.1)
+row_spread acc (e ∷ es) row apart fresh =
+    row_spread (placed acc e) es (row_placed acc e row fresh.0) apart.1 (fresh_on e acc es apart.0 fresh.1)
 
-pub all_spread : (P : Grain × Held → Type 0) (acc es : List (Grain × Held)) → AllByRecursion P acc → AllByRecursion P es → AllByRecursion P (fold placed acc es)
+pub all_spread : (P : Grain × Held → Type 0) (acc es : List (Grain × Held)) → AllByRecursion P acc → AllByRecursion P es
+    → AllByRecursion P (fold placed acc es)
 all_spread P acc [] all more = all
 all_spread P acc (e ∷ es) all more = all_spread P (placed acc e) es (all_placed P acc e all more.0) more.1
 
@@ -116,10 +126,12 @@ length_spread acc [] = omega arith
 length_spread acc (e ∷ es) = let more = length_spread (placed acc e) es in let one = length_placed acc e in omega (more, one, arith)
 
 -- none of the grain of one that is apart from all
-pub absent : (q : Grain) (e : Grain × Held) (es : List (Grain × Held)) → q ≡ e.0 → AllByRecursion (λ x. e.0 ≡ x.0 → ⊥) es → lookup (is_at (grain_cmp q)) es ≡ None
+pub absent : (q : Grain) (e : Grain × Held) (es : List (Grain × Held)) → q ≡ e.0 → AllByRecursion (λ x. e.0 ≡ x.0 → ⊥) es
+    → lookup (is_at (grain_cmp q)) es ≡ None
 absent q e [] is apart = refl
 absent q e (x ∷ es) is apart =
-    on_grain (λ b. cond b (Some x.1) (lookup (is_at (grain_cmp q)) es) ≡ None) q x.0 (λ same. absurd (apart.0 (sym is ∙ same))) (λ other. absent q e es is apart.1)
+    on_grain (λ b. cond b (Some x.1) (lookup (is_at (grain_cmp q)) es) ≡ None) q x.0 (λ same. absurd (apart.0 (sym is ∙ same)))
+    (λ other. absent q e es is apart.1)
 
 pub lookup_spread : (q : Grain) (acc es : List (Grain × Held)) → AllApart es → AllByRecursion (λ x. AllByRecursion (Apart x) acc) es
     → lookup (is_at (grain_cmp q)) (fold placed acc es) ≡ either (lookup (is_at (grain_cmp q)) es) (lookup (is_at (grain_cmp q)) acc)
@@ -133,7 +145,8 @@ lookup_spread q acc (e ∷ es) apart fresh =
     (λ other. refl)
 
 -- ---- One less, and one changed.
-all_removed : (P : Grain × Held → Type 0) (test : Grain → Bool) (xs : List (Grain × Held)) → AllByRecursion P xs → AllByRecursion P (remove_entry test xs)
+all_removed : (P : Grain × Held → Type 0) (test : Grain → Bool) (xs : List (Grain × Held)) → AllByRecursion P xs
+    → AllByRecursion P (remove_entry test xs)
 all_removed P test [] all = tt
 all_removed P test (x ∷ xs) all = by (test x.0) (all_removed P test xs all.1)
   where
@@ -153,15 +166,18 @@ row_removed test (x ∷ xs) row = by (test x.0) (row_removed test xs row.1)
 abbrev pub HasCount : (Grain → Bool) → List (Grain × Held) → Held → Type 0
 HasCount test xs held = AllByRecursion (λ x. test x.0 ≡ true → x.1.count ≡ held.count) xs
 
-before_set : (x : Grain × Held) (test : Grain → Bool) (xs : List (Grain × Held)) (held : Held) → HasCount test xs held → AllByRecursion (Before x) xs → AllByRecursion (Before x) (set_value test xs held)
+before_set : (x : Grain × Held) (test : Grain → Bool) (xs : List (Grain × Held)) (held : Held) → HasCount test xs held
+    → AllByRecursion (Before x) xs → AllByRecursion (Before x) (set_value test xs held)
 before_set x test [] held same all = tt
 before_set x test (y ∷ xs) held same all = by (test y.0) refl (before_set x test xs held same.1 all.1)
   where
-    by : (b : Bool) → test y.0 ≡ b → AllByRecursion (Before x) (set_value test xs held) → AllByRecursion (Before x) (cond b ((y.0, held) ∷ xs) (y ∷ set_value test xs held))
+    by : (b : Bool) → test y.0 ≡ b → AllByRecursion (Before x) (set_value test xs held)
+        → AllByRecursion (Before x) (cond b ((y.0, held) ∷ xs) (y ∷ set_value test xs held))
     by true is later = ((all.0.0, subst (λ (n : ℕ). x.1.count < n) (same.0 is) all.0.1), all.1)
     by false is later = (all.0, later)
 
-pub row_set : (test : Grain → Bool) (xs : List (Grain × Held)) (held : Held) → HasCount test xs held → IsRow xs → IsRow (set_value test xs held)
+pub row_set : (test : Grain → Bool) (xs : List (Grain × Held)) (held : Held) → HasCount test xs held → IsRow xs
+    → IsRow (set_value test xs held)
 row_set test [] held same row = tt
 row_set test (x ∷ xs) held same row = by (test x.0) refl (row_set test xs held same.1 row.1)
   where

@@ -43,9 +43,11 @@ Decides-state (Alone a) (Alone b) = Decides-like _ (λ e. ap (λ (s : Stage). Al
 Decides-state (Alone a) (After b q) = (λ h. cc, λ h. cc)
 Decides-state (After a p) (Alone b) = (λ h. cc, λ h. cc)
 Decides-state (After a p) (After b q) =
-    Decides-like _ (λ e i. After (e.0 i) (e.1 i)) (λ e. (ap stage_in e, same_Some p q (ap previous_in e))) (Decides-and _ _ (Decides-stage a b) (Decides-activation p q))
+    Decides-like _ (λ e i. After (e.0 i) (e.1 i)) (λ e. (ap stage_in e, same_Some p q (ap previous_in e)))
+    (Decides-and _ _ (Decides-stage a b) (Decides-activation p q))
 
-pub Decides-option : {A : Type 0} (test : A → A → Bool) → ((a b : A) → Decides (test a b) (a ≡ b)) → (a b : Option A) → Decides (option_eq test a b) (a ≡ b)
+pub Decides-option : {A : Type 0} (test : A → A → Bool) → ((a b : A) → Decides (test a b) (a ≡ b)) → (a b : Option A)
+    → Decides (option_eq test a b) (a ≡ b)
 Decides-option test decides None None = (λ h. refl, λ h. refl)
 Decides-option test decides None (Some b) = (λ h. cc, λ h. cc)
 Decides-option test decides (Some a) None = (λ h. cc, λ h. cc)
@@ -76,17 +78,30 @@ held_again h i = record {
 pub Decides-kept : (a b : Held) → Decides (kept_eq.TheImpl.ghosts.eq a b) (a ≡ b)
 Decides-kept a b =
     Decides-like _ (λ e. sym (held_again a) ∙ (λ i. held_in (record { count = e.0 i; number = e.1.0 i; state = e.1.1 i })) ∙ held_again b)
-    (λ e. (ap (λ (h : Held). h.count) e, (ap (λ (h : Held). number_of h.phase) e, ap (λ (h : Held). state_of (stage_of h.phase) h.previous) e)))
+    (λ e. (
+      ap (λ (h : Held). h.count) e,
+      (
+        ap (λ (h : Held). number_of h.phase) e,
+        ap (λ (h : Held). state_of (stage_of h.phase) h.previous)
+            e,
+      ),
+    ))
     (Decides-and _ _ (Decides-eqb a.count b.count)
-    (Decides-and _ _ (Decides-eqb (number_of a.phase) (number_of b.phase)) (Decides-state (state_of (stage_of a.phase) a.previous) (state_of (stage_of b.phase) b.previous))))
+    (Decides-and _ _ (Decides-eqb (number_of a.phase) (number_of b.phase))
+    (Decides-state (state_of (stage_of a.phase) a.previous) (state_of (stage_of b.phase) b.previous))))
 
 -- ---- What a host holds.
-pub same_value : (next then : ℕ) (es fs : List (Grain × Held)) → AreBegun next es → AreBegun then fs → next ≡ then → (a b : ActivationsValue) → value next es ≡ a → value then fs ≡ b
+pub same_value : (next then : ℕ) (es fs : List (Grain × Held)) → AreBegun next es → AreBegun then fs → next ≡ then
+    → (a b : ActivationsValue) → value next es ≡ a → value then fs ≡ b
     → (r : Bool) → Decides r ((q : Grain) → lookup (grain_eq q) es ≡ lookup (grain_eq q) fs) → Decides r (a ≡ b)
 same_value next then es fs are also alike a b is_a is_b r tells =
     Decides-like r
     (λ found. sym is_a
-    ∙ (λ i. record { next_count = alike i; entries = same_order es fs are.apart also.apart (λ q. ap (λ test. lookup test es) (sym (tests_alike q)) ∙ found q ∙ ap (λ test. lookup test fs) (tests_alike q)) i })
+    ∙ (λ i. record {
+      next_count = alike i;
+      entries = same_order es fs are.apart also.apart
+          (λ q. ap (λ test. lookup test es) (sym (tests_alike q)) ∙ found q ∙ ap (λ test. lookup test fs) (tests_alike q)) i;
+    })
     ∙ is_b)
     (λ same q.
     ap (λ test. lookup test es) (tests_alike q)

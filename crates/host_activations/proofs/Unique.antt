@@ -12,15 +12,19 @@ use Rattle.host_activations.proofs.Rows.{Before, IsRow, absent}
 first_found : (x : Grain × Held) (xs : List (Grain × Held)) → lookup (is_at (grain_cmp x.0)) (x ∷ xs) ≡ Some x.1
 first_found x xs = ap (λ b. cond b (Some x.1) (lookup (is_at (grain_cmp x.0)) xs)) (grain_at_itself x.0)
 
-passed_by : (q : Grain) (x : Grain × Held) (xs : List (Grain × Held)) → is_at (grain_cmp q) x.0 ≡ false → lookup (is_at (grain_cmp q)) (x ∷ xs) ≡ lookup (is_at (grain_cmp q)) xs
+passed_by : (q : Grain) (x : Grain × Held) (xs : List (Grain × Held)) → is_at (grain_cmp q) x.0 ≡ false
+    → lookup (is_at (grain_cmp q)) (x ∷ xs) ≡ lookup (is_at (grain_cmp q)) xs
 passed_by q x xs other = ap (λ b. cond b (Some x.1) (lookup (is_at (grain_cmp q)) xs)) other
 
-gone_behind : (q : Grain) (x : Grain × Held) (xs : List (Grain × Held)) → q ≡ x.0 → AllByRecursion (Before x) xs → lookup (is_at (grain_cmp q)) xs ≡ None
+gone_behind : (q : Grain) (x : Grain × Held) (xs : List (Grain × Held)) → q ≡ x.0 → AllByRecursion (Before x) xs
+    → lookup (is_at (grain_cmp q)) xs ≡ None
 gone_behind q x xs is before = absent q x xs is (all_map (Before x) (λ y. x.0 ≡ y.0 → ⊥) xs (λ y p. p.0) before)
 
 -- one that isn't first began after the first
-later_than : (x : Grain × Held) (q : Grain) (xs : List (Grain × Held)) (h : Held) → AllByRecursion (Before x) xs → lookup (is_at (grain_cmp q)) xs ≡ Some h → x.1.count < h.count
-later_than x q xs h before is = found_all (λ k. x.1.count < k.count) q xs h (all_map (Before x) (λ y. x.1.count < y.1.count) xs (λ y p. p.1) before) is
+later_than : (x : Grain × Held) (q : Grain) (xs : List (Grain × Held)) (h : Held) → AllByRecursion (Before x) xs
+    → lookup (is_at (grain_cmp q)) xs ≡ Some h → x.1.count < h.count
+later_than x q xs h before is =
+    found_all (λ k. x.1.count < k.count) q xs h (all_map (Before x) (λ y. x.1.count < y.1.count) xs (λ y p. p.1) before) is
 
 abbrev FindsAlike : List (Grain × Held) → List (Grain × Held) → Type 0
 FindsAlike xs ys = (q : Grain) → lookup (is_at (grain_cmp q)) xs ≡ lookup (is_at (grain_cmp q)) ys
@@ -35,7 +39,8 @@ unique (x ∷ xs) (y ∷ ys) rx ry alike = by (is_at (grain_cmp x.0) y.0) refl (
     tails same q =
         on_grain (λ b. (b ≡ is_at (grain_cmp q) x.0) → lookup (is_at (grain_cmp q)) xs ≡ lookup (is_at (grain_cmp q)) ys) q x.0
         (λ is at. gone_behind q x xs is rx.0 ∙ sym (gone_behind q y ys (is ∙ same) ry.0))
-        (λ other at. sym (passed_by q x xs other) ∙ alike q ∙ passed_by q y ys (sym (ap (λ (g : Grain). is_at (grain_cmp q) g) same) ∙ other)) refl
+        (λ other at. sym (passed_by q x xs other) ∙ alike q
+        ∙ passed_by q y ys (sym (ap (λ (g : Grain). is_at (grain_cmp q) g) same) ∙ other)) refl
 
     heads : x.0 ≡ y.0 → x ≡ y
     heads same =
@@ -45,7 +50,8 @@ unique (x ∷ xs) (y ∷ ys) rx ry alike = by (is_at (grain_cmp x.0) y.0) refl (
     never : (x.0 ≡ y.0 → ⊥) → ⊥
     never apart =
         let left : x.1.count < y.1.count =
-        later_than x y.0 xs y.1 rx.0 (sym (passed_by y.0 x xs (not_at y.0 x.0 (λ same. apart (sym same)))) ∙ alike y.0 ∙ first_found y ys) in
+        later_than x y.0 xs y.1 rx.0 (sym (passed_by y.0 x xs (not_at y.0 x.0 (λ same. apart (sym same)))) ∙ alike y.0
+        ∙ first_found y ys) in
         let right : y.1.count < x.1.count = later_than y x.0 ys x.1 ry.0 (sym (passed_by x.0 y ys (not_at x.0 y.0 apart)) ∙ sym (alike x.0) ∙ first_found x xs) in
         absurd (omega (left, right, arith))
 

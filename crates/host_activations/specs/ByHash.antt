@@ -10,6 +10,8 @@ use Rattle.hash_ring.specs.declared.Hashing.{Hashing}
 use Rattle.hash_ring.specs.Hash.{hash_grain}
 use Rattle.directory_rules.specs.declared.Held.{Held}
 use Rattle.host_activations.specs.Begun.{AreBegun}
+use Rattle.host_activations.specs.UnderWay.{under_way_in}
+use Rattle.host_activations.specs.declared.under_way.UnderWay.{UnderWay}
 use Rattle.host_activations.specs.declared.by_hash.HashedCount.{HashedCount}
 
 -- by hash, then count
@@ -34,7 +36,8 @@ abbrev pub hashes_of : Hashing → List (Grain × Held) → List ℕ
 hashes_of hashing es = map (hash_grain hashing) (keys_of es)
 
 -- what the fields of activations keep
-pub record AreKept (hashing : Hashing) (next_count : ℕ) (es : List (Grain × Held)) (hashes : List ℕ) (hashed : List (HashedCount × ℕ)) : Type 0 where
+pub record AreKept (hashing : Hashing) (next_count : ℕ) (es : List (Grain × Held)) (counts : UnderWay) (hashes : List ℕ) (hashed : List (HashedCount × ℕ)) : Type 0 where
   pub begun : AreBegun next_count es
+  pub under_way : counts ≡ under_way_in es
   pub are_hashes : hashes ≡ hashes_of hashing es
   pub by_hash : AreByHash hashing es hashed

@@ -13,7 +13,8 @@ use Rattle.hash_ring.specs.declared.Hashing.{Hashing}
 use Rattle.hash_ring.specs.Hash.{hash_grain}
 use Rattle.directory_rules.specs.declared.Held.{Held}
 use Rattle.directory_rules.specs.Host.{entry_on, is_firm}
-use Rattle.directory_rules.specs.Table.{Table, entries_of, with_entry}
+use Rattle.directory_rules.specs.State.{Table}
+use Rattle.directory_rules.specs.Table.{entries_of, with_entry}
 
 -- whether an activation is told of a range: it is firm and hashed into it
 abbrev pub is_told : Hashing → Range → Grain × Held → Bool

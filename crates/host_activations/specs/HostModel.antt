@@ -1,6 +1,6 @@
 -- How the fields of a host mean the rule's host.
 use Rattle.host_activations.specs.declared.host.Host.TheInside.{Inside}
-use Rattle.directory_rules.specs.Host.{Host}
+use Rattle.directory_rules.specs.State.{Host}
 use Rattle.host_activations.specs.Asked.{finds_in}
 use Rattle.host_activations.specs.IsHost.{IsHost}
 
@@ -16,4 +16,4 @@ host_of h = record {
 
 -- what the fields keep
 abbrev pub IsWhole : Inside → Type 0
-IsWhole h = IsHost h.next_number h.held.entries h.outstanding.entries h.find_count
+IsWhole h = IsHost h.next_number h.held.entries h.outstanding.entries

@@ -1,5 +1,6 @@
 pub mod Numbers
 pub mod Asked
+pub mod Outstanding
 pub mod Acts
 pub mod IsHost
 pub mod HostModel
@@ -7,6 +8,7 @@ pub mod Renewal
 pub mod Activations
 pub mod InOrder
 pub mod Begun
+pub mod UnderWay
 pub mod ByHash
 pub mod Kept
 pub mod KeptFields

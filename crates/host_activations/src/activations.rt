@@ -1,12 +1,16 @@
 ghost use Rattle.std.specs.BTreeMap.{is_at};
 ghost use Rattle.std.specs.List.{IsDistinct};
 ghost use Rattle.std.specs.Map.{keys_of, lookup, remove_entry, set_value};
-ghost use Rattle.std.specs.Prelude.{⊤, ◌≡◌, ◌+◌, ◌<◌, ◌≤◌, ◌^◌, ◌++◌, [], ◌∷◌, if◌then◌else◌, None, Some, IfOk, IsSome, MatchOption, OnOk, OnErr, length, slice_get};
+ghost use Rattle.std.specs.Option.{option_map};
+ghost use Rattle.std.specs.Prelude.{⊤, ◌≡◌, ◌+◌, ◌<◌, ◌≤◌, ◌^◌, ◌++◌, [], ◌∷◌, Bool, if◌then◌else◌, None, Some, IfOk, IsSome, MatchOption, OnOk, OnErr, length, count_by, slice_get};
+ghost use Rattle.directory_rules.specs.Host.{is_asking, is_closing};
+ghost use Rattle.directory_rules.specs.declared.Phase.{Phase as PhaseSeen};
 ghost use Rattle.directory_rules.specs.declared.Phase.TheVariants.{Asking};
 ghost use Rattle.silo_address.specs.Grain.{Grain, grain_cmp, grain_eq};
 ghost use Rattle.host_activations.specs.Begun.{IsNext};
 ghost use Rattle.hash_ring.specs.Hash.{hash_grain};
 ghost use Rattle.host_activations.specs.ByHash.{AreByHash, hashed_count_cmp, hashes_of, key_of};
+ghost use Rattle.host_activations.specs.UnderWay.{in_phase, one_if_some};
 
 mod firm;
 mod order;
@@ -14,6 +18,7 @@ mod same;
 
 use crate::by_hash::{ByHash, HashedCount};
 use crate::kept::{Kept, held_at, held_of};
+use crate::under_way::UnderWay;
 use directory_rules::{Held, Phase, Settings};
 pub use firm::entry_on;
 use grain_names::GrainMap;
@@ -31,6 +36,7 @@ use std::marker::Model;
 pub struct Activations {
     next_count: u64,
     map: GrainMap<Kept>,
+    under_way: UnderWay,
     hashing: Hashing,
     // The hashes of their grains, by index, so that a grain is hashed once, as its activation begins.
     hashes: Vec<u32>,
@@ -47,7 +53,7 @@ impl Model for Activations {
 
     ghost view = { λ a. record { next_count = a.next_count; entries = in_order a.map } };
 
-    ghost invariant = { λ a. AreKept a.hashing a.next_count a.map a.hashes.items a.by_hash.entries };
+    ghost invariant = { λ a. AreKept a.hashing a.next_count a.map a.under_way a.hashes.items a.by_hash.entries };
 }
 
 impl Activations {
@@ -59,6 +65,10 @@ impl Activations {
         Activations {
             next_count: 1,
             map: GrainMap::new(alloc),
+            under_way: UnderWay {
+                asking: 0,
+                closing: 0,
+            },
             hashing: settings.hashing(),
             hashes: Vec::new(alloc),
             by_hash: BTreeMap::new(alloc),
@@ -77,6 +87,20 @@ impl Activations {
         ensures { result ≡ length self.now.entries }
     {
         self.map.len()
+    }
+
+    /// How many of them ask to be entered.
+    pub fn asking_count(&self) -> usize
+        ensures { result ≡ count_by (λ e. is_asking e.1.phase) self.now.entries }
+    {
+        self.under_way.asking
+    }
+
+    /// How many of them ask to be taken out.
+    pub fn closing_count(&self) -> usize
+        ensures { result ≡ count_by (λ e. is_closing e.1.phase) self.now.entries }
+    {
+        self.under_way.closing
     }
 
     /// The grain's activation.
@@ -119,6 +143,8 @@ impl Activations {
         )?;
         self.hashes.push_reserved(key.hash);
         self.map.apart();
+        let _len = self.map.len();
+        self.under_way = self.under_way.with(&asking);
         self.next_count += 1;
         Ok(())
     }
@@ -129,21 +155,20 @@ impl Activations {
         ensures { MatchOption (lookup (is_at (grain_cmp grain.now)) self.old.entries) (self.new ≡ self.old)
             (λ held. self.new ≡ record self.old { entries = set_value (is_at (grain_cmp grain.now)) self.old.entries (record held { phase = phase; previous = previous }) }) }
     {
-        write(&mut self.map, grain, phase, previous);
+        if let Some(was) = write(&mut self.map, grain, phase, previous) {
+            let _len = self.map.len();
+            self.under_way = self.under_way.without(&was).with(&phase);
+        }
     }
 
     /// The grain's activation goes. Where there is none, nothing changes.
     pub fn end(&mut self, grain: &GrainId)
         ensures { self.new ≡ record self.old { entries = remove_entry (is_at (grain_cmp grain.now)) self.old.entries } }
     {
-        take_out(
-            self.hashing,
-            &mut self.map,
-            &mut self.hashes,
-            &mut self.by_hash,
-            grain,
-        );
-        self.map.apart();
+        let (hashing, map) = (self.hashing, &mut self.map);
+        if let Some(was) = take_out(hashing, map, &mut self.hashes, &mut self.by_hash, grain) {
+            self.under_way = self.under_way.without(&was);
+        }
     }
 
     /// The hash of a grain. Takes it as it is known where the grain has an activation, and where the hashing is the one by which
@@ -177,6 +202,7 @@ impl Activations {
         Ok(Activations {
             next_count: self.next_count,
             map,
+            under_way: self.under_way,
             hashing: self.hashing,
             hashes,
             by_hash,
@@ -184,14 +210,20 @@ impl Activations {
     }
 }
 
-// What is held of the grain, if anything, is in this phase, and in the place of this previous one.
-fn write(map: &mut GrainMap<Kept>, grain: &GrainId, phase: Phase, previous: Option<ActivationId>)
+// What is held of the grain, if anything, is in this phase, and in the place of this previous one; its phase before is told.
+fn write(
+    map: &mut GrainMap<Kept>,
+    grain: &GrainId,
+    phase: Phase,
+    previous: Option<ActivationId>,
+) -> Option<Phase>
+    ensures was { result ≡ option_map (λ held. held.phase) (lookup (is_at (grain_cmp grain.now)) map.old) }
     ensures written { MatchOption (lookup (is_at (grain_cmp grain.now)) map.old) (map.new ≡ map.old)
         (λ held. map.new ≡ set_value (is_at (grain_cmp grain.now)) map.old (record held { phase = phase; previous = previous })) }
 {
     map.apart();
     let Some((index, held)) = held_of(map, grain) else {
-        return;
+        return None;
     };
     map.set_at(
         index,
@@ -201,6 +233,7 @@ fn write(map: &mut GrainMap<Kept>, grain: &GrainId, phase: Phase, previous: Opti
             previous,
         }),
     );
+    Some(held.phase)
 }
 
 // An activation of a grain without one is put in, with the count in its key, as the last one, and its index under the key. Fails
@@ -236,23 +269,25 @@ fn put_in(
     }
 }
 
-// What is held of the grain, if anything, goes, and so does its hash; the last one takes its room.
+// What is held of the grain, if anything, goes, and so does its hash; the last one takes its room. Its phase is told.
 fn take_out(
     hashing: Hashing,
     map: &mut GrainMap<Kept>,
     hashes: &mut Vec<u32>,
     by_hash: &mut ByHash,
     grain: &GrainId,
-)
+) -> Option<Phase>
     requires hashes { hashes.old.items ≡ hashes_of hashing map.old }
     requires by_hash { AreByHash hashing map.old by_hash.old.entries }
     ensures gone { (q : Grain) → lookup (is_at (grain_cmp q)) map.new ≡ (if is_at (grain_cmp grain.now) q then None else lookup (is_at (grain_cmp q)) map.old) }
     ensures hashes { hashes.new.items ≡ hashes_of hashing map.new }
     ensures by_hash { AreByHash hashing map.new by_hash.new.entries }
+    ensures one { (test : PhaseSeen → Bool) → in_phase test map.new + one_if_some test result ≡ in_phase test map.old }
+    ensures apart { IsDistinct grain_eq (keys_of map.new) }
 {
     map.apart();
     let Some((index, held)) = held_of(map, grain) else {
-        return;
+        return None;
     };
     let key = HashedCount {
         hash: hash_at(hashes, index),
@@ -262,6 +297,8 @@ fn take_out(
     hashes.swap_remove(index);
     by_hash.remove(&key);
     note_index(hashing, map, hashes, by_hash, index);
+    map.apart();
+    Some(held.phase)
 }
 
 // The activation that stands at the index now, if there is one, is found there by its hash.

@@ -25,11 +25,11 @@ pub fn number_in(phase: Phase) -> Option<u64>
 }
 
 /// The grain for which it asks, if it is a find.
-pub fn find_in(asked: &OutstandingRequest) -> Option<GrainId>
-    ensures { result ≡ find_in asked.now }
+pub fn find_in(asked: OutstandingRequest) -> Option<GrainId>
+    ensures { result ≡ find_in asked }
 {
     match asked {
         OutstandingRequest::Activation(_) => None,
-        OutstandingRequest::Find(grain) => Some(*grain),
+        OutstandingRequest::Find(grain) => Some(grain),
     }
 }

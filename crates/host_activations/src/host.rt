@@ -1,7 +1,8 @@
-ghost use Rattle.std.specs.Prelude.{◌≡◌, IfOk, length};
-ghost use Rattle.directory_rules.specs.Host.{held_of, new_host};
+ghost use Rattle.std.specs.Prelude.{◌≡◌, ◌+◌, ◌≤◌, ◌^◌, IfOk, count_by, length};
+ghost use Rattle.directory_rules.specs.Host.{held_of, is_asking, is_closing, new_host};
 ghost use Rattle.hash_ring.specs.Hash.{hash_grain};
 
+mod about;
 mod begin;
 mod end;
 mod limits;
@@ -11,13 +12,12 @@ mod same;
 mod telling;
 
 use crate::Activations;
-use crate::asked::OutstandingRequest;
+use crate::outstanding::OutstandingRequests;
 use directory_rules::{Held, Settings};
 use hash_ring::Hashing;
 pub use renewal::Renewal;
 use silo_address::{GrainId, SiloAddress};
 use std::alloc::{AllocError, Global};
-use std::collections::BTreeMap;
 use std::marker::Model;
 
 /// A silo as the host of activations: the activations that it holds, and the requests that it has outstanding, each
@@ -27,14 +27,11 @@ pub struct Host {
     silo: SiloAddress,
     next_number: u64,
     held: Activations,
-    // All that is outstanding, by number, so that a reply finds what it answers at once.
-    outstanding: BTreeMap<u64, OutstandingRequest>,
-    // How many of them are finds.
-    find_count: usize,
+    outstanding: OutstandingRequests,
 }
 
 impl Model for Host {
-    ghost use Rattle.directory_rules.specs.Host.{Host};
+    ghost use Rattle.directory_rules.specs.State.{Host};
 
     ghost Value = { Host };
 
@@ -46,17 +43,18 @@ impl Model for Host {
 }
 
 impl Host {
-    /// The host of a silo, which has nothing yet. It reports the firm activations of a range fast where grains are hashed as the
-    /// settings have it.
-    pub fn new(alloc: Global, silo: SiloAddress, settings: &Settings) -> Host
-        ensures { result ≡ new_host silo }
+    /// The host of a silo, which has nothing yet, and whose first request will have this number, from 1 to 2^60 + 1: 1 in a
+    /// directory. It reports the firm activations of a range fast where grains are hashed as the settings have it.
+    pub fn new(alloc: Global, silo: SiloAddress, first_number: u64, settings: &Settings) -> Host
+        requires above { 1 ≤ first_number }
+        requires within { first_number ≤ 2 ^ 60 + 1 }
+        ensures { result ≡ record (new_host silo) { next_number = first_number } }
     {
         Host {
             silo,
-            next_number: 1,
+            next_number: first_number,
             held: Activations::new(alloc, settings),
-            outstanding: BTreeMap::new(alloc),
-            find_count: 0,
+            outstanding: OutstandingRequests::new(alloc),
         }
     }
 
@@ -100,6 +98,27 @@ impl Host {
         ensures { result ≡ length self.now.held }
     {
         self.held.len()
+    }
+
+    /// How many of them ask to be entered.
+    pub fn asking_count(&self) -> usize
+        ensures { result ≡ count_by (λ e. is_asking e.1.phase) self.now.held }
+    {
+        self.held.asking_count()
+    }
+
+    /// How many of them ask to be taken out.
+    pub fn closing_count(&self) -> usize
+        ensures { result ≡ count_by (λ e. is_closing e.1.phase) self.now.held }
+    {
+        self.held.closing_count()
+    }
+
+    /// How many finds the host has outstanding.
+    pub fn find_count(&self) -> usize
+        ensures { result ≡ length self.now.finds }
+    {
+        self.outstanding.find_count()
     }
 
     /// The activations, under their grains, in the order in which they began. Costs a sort of all of them. Fails only when memory

@@ -7,6 +7,8 @@ mod asked;
 mod by_hash;
 mod host;
 mod kept;
+mod outstanding;
+mod under_way;
 
 pub use activations::{Activations, entry_on};
 pub use host::{Host, Renewal};

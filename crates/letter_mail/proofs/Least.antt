@@ -7,7 +7,7 @@ use Rattle.std.specs.Map.{lookup}
 use Rattle.std.specs.BTreeMap.{is_at}
 use Rattle.silo_address.specs.Grain.{Grain}
 use Rattle.silo_address.specs.Silo.{Silo, silo_cmp}
-use Rattle.directory_rules.specs.World.{Posted}
+use Rattle.directory_rules.specs.State.{Posted}
 use Rattle.directory_rules.specs.Laws.{RiseBetween}
 use Rattle.letter_mail.specs.declared.slots.Slot.{Slot}
 use Rattle.letter_mail.specs.declared.slots.Slot.TheVariants.{Short, Whole, Lost}
@@ -25,7 +25,8 @@ first_part o = option_map (λ e. e.0) o
 abbrev is_for : Silo → ℕ × Posted → Bool
 is_for silo e = e.1.fresh && is_at (silo_cmp e.1.letter.to) silo
 
-first_sent : (first : ℕ) (silo : Silo) (grains : List Grain) (slots : List Slot) → first_part (find (is_for silo) (posted_from first grains slots)) ≡ first_part (find (λ e. e.1) (sent_from first silo slots))
+first_sent : (first : ℕ) (silo : Silo) (grains : List Grain) (slots : List Slot)
+    → first_part (find (is_for silo) (posted_from first grains slots)) ≡ first_part (find (λ e. e.1) (sent_from first silo slots))
 first_sent first silo grains [] = refl
 first_sent first silo grains (s ∷ slots) = by s (first_sent (first + 1) silo grains slots)
   where
@@ -35,7 +36,8 @@ first_sent first silo grains (s ∷ slots) = by s (first_sent (first + 1) silo g
     own : List (ℕ × Bool)
     own = sent_from (first + 1) silo slots
 
-    posted : (f b : Bool) (p : Posted) → p.fresh ≡ f → is_at (silo_cmp p.letter.to) silo ≡ b → first_part (find (is_for silo) rest) ≡ first_part (find (λ e. e.1) own)
+    posted : (f b : Bool) (p : Posted) → p.fresh ≡ f → is_at (silo_cmp p.letter.to) silo ≡ b
+        → first_part (find (is_for silo) rest) ≡ first_part (find (λ e. e.1) own)
         → first_part (cond (p.fresh && is_at (silo_cmp p.letter.to) silo) (Some (first, p)) (find (is_for silo) rest))
         ≡ first_part (find (λ e. e.1) (cons_option (cond b (Some (first, f)) None) own))
     posted f b p fresh for later =
@@ -43,7 +45,8 @@ first_sent first silo grains (s ∷ slots) = by s (first_sent (first + 1) silo g
         ∙ ap (λ c. first_part (cond (f && c) (Some (first, p)) (find (is_for silo) rest))) for
         ∙ either f b
       where
-        either : (f b : Bool) → first_part (cond (f && b) (Some (first, p)) (find (is_for silo) rest)) ≡ first_part (find (λ e. e.1) (cons_option (cond b (Some (first, f)) None) own))
+        either : (f b : Bool) → first_part (cond (f && b) (Some (first, p)) (find (is_for silo) rest)) ≡ first_part
+            (find (λ e. e.1) (cons_option (cond b (Some (first, f)) None) own))
         either true true = refl
         either true false = later
         either false true = later
@@ -53,12 +56,15 @@ first_sent first silo grains (s ∷ slots) = by s (first_sent (first + 1) silo g
         → first_part (find (is_for silo) (cons_option (option_map (λ posted. (first, posted)) (posted_in grains slot)) rest))
         ≡ first_part (find (λ e. e.1) (cons_option (cond (is_at (silo_cmp silo) (slot_to slot)) (Some (first, is_fresh slot)) None) own))
     by (Short fresh brief) later =
-        posted fresh (is_at (silo_cmp silo) brief.to) (record { letter = letter_by grains brief; fresh = fresh }) refl (turned brief.to silo) later
+        posted fresh (is_at (silo_cmp silo) brief.to) (record { letter = letter_by grains brief; fresh = fresh }) refl
+        (turned brief.to silo) later
     by (Whole fresh letter) later =
-        posted fresh (is_at (silo_cmp silo) letter.value.to) (record { letter = letter.value; fresh = fresh }) refl (turned letter.value.to silo) later
+        posted fresh (is_at (silo_cmp silo) letter.value.to) (record { letter = letter.value; fresh = fresh }) refl
+        (turned letter.value.to silo) later
     by (Lost to) later = later ∙ lost (is_at (silo_cmp silo) to)
       where
-        lost : (b : Bool) → first_part (find (λ e. e.1) own) ≡ first_part (find (λ e. e.1) (cons_option (cond b (Some (first, false)) None) own))
+        lost : (b : Bool) → first_part (find (λ e. e.1) own) ≡ first_part
+            (find (λ e. e.1) (cons_option (cond b (Some (first, false)) None) own))
         lost true = refl
         lost false = refl
 
@@ -71,21 +77,27 @@ first_waiting (e ∷ es) = by e.1 (first_waiting es)
     by true later = refl
     by false later = later
 
-pub least_to : (silo : Silo) (grains : List Grain) (slots : List Slot) (queues : List (Silo × QueueValue)) → AreQueued slots queues → first_of (queue_of queues silo) ≡ least_fresh_to silo (mail_in grains slots)
-least_to silo grains slots queues are = ap (λ (l : List ℕ). slice_get l 0) (are silo) ∙ first_waiting (sent_from 1 silo slots) ∙ sym (first_sent 1 silo grains slots)
+pub least_to : (silo : Silo) (grains : List Grain) (slots : List Slot) (queues : List (Silo × QueueValue)) → AreQueued slots queues
+    → first_of (queue_of queues silo) ≡ least_fresh_to silo (mail_in grains slots)
+least_to silo grains slots queues are =
+    ap (λ (l : List ℕ). slice_get l 0) (are silo) ∙ first_waiting (sent_from 1 silo slots) ∙ sym (first_sent 1 silo grains slots)
 
 -- ---- the numbers rise
-rising_from : (low first : ℕ) (grains : List Grain) (slots : List Slot) → low < first → RiseBetween low (first + length slots - 1) (posted_from first grains slots)
+rising_from : (low first : ℕ) (grains : List Grain) (slots : List Slot) → low < first
+    → RiseBetween low (first + length slots - 1) (posted_from first grains slots)
 rising_from low first grains [] below = omega arith
 rising_from low first grains (s ∷ slots) below =
-    by (posted_in grains s) (subst (λ n. RiseBetween first n (posted_from (first + 1) grains slots)) high (rising_from first (first + 1) grains slots (omega arith)))
+    by (posted_in grains s) (subst (λ n. RiseBetween first n (posted_from (first + 1) grains slots)) high
+    (rising_from first (first + 1) grains slots (omega arith)))
     (subst (λ n. RiseBetween low n (posted_from (first + 1) grains slots)) high (rising_from low (first + 1) grains slots (omega arith)))
   where
     high : first + 1 + length slots - 1 ≡ first + suc (length slots) - 1
     high = omega arith
 
-    by : (o : Option Posted) → RiseBetween first (first + suc (length slots) - 1) (posted_from (first + 1) grains slots) → RiseBetween low (first + suc (length slots) - 1) (posted_from (first + 1) grains slots)
-        → RiseBetween low (first + suc (length slots) - 1) (cons_option (option_map (λ posted. (first, posted)) o) (posted_from (first + 1) grains slots))
+    by : (o : Option Posted) → RiseBetween first (first + suc (length slots) - 1) (posted_from (first + 1) grains slots)
+        → RiseBetween low (first + suc (length slots) - 1) (posted_from (first + 1) grains slots)
+        → RiseBetween low (first + suc (length slots) - 1)
+        (cons_option (option_map (λ posted. (first, posted)) o) (posted_from (first + 1) grains slots))
     by None above later = later
     by (Some posted) above later = (below, above)
 
@@ -112,7 +124,8 @@ abbrev IsAbove : ℕ → Option ℕ → Type 0
 IsAbove low None = Unit {0}
 IsAbove low (Some number) = low < number
 
-found_above : (p : ℕ × Posted → Bool) (low high : ℕ) (letters : List (ℕ × Posted)) → RiseBetween low high letters → IsAbove low (first_part (find p letters))
+found_above : (p : ℕ × Posted → Bool) (low high : ℕ) (letters : List (ℕ × Posted)) → RiseBetween low high letters
+    → IsAbove low (first_part (find p letters))
 found_above p low high [] rise = tt
 found_above p low high (e ∷ es) rise = by (p e) (lower (first_part (find p es)) (found_above p e.0 high es rise.1))
   where
@@ -132,15 +145,18 @@ lesser_second : (number : ℕ) (o : Option ℕ) → IsAbove number o → Some nu
 lesser_second number None above = refl
 lesser_second number (Some other) above = ap (λ n. Some n) (omega arith)
 
-found_by_either : (p q r : ℕ × Posted → Bool) → ((e : ℕ × Posted) → r e ≡ (p e || q e)) → (low high : ℕ) (letters : List (ℕ × Posted)) → RiseBetween low high letters
+found_by_either : (p q r : ℕ × Posted → Bool) → ((e : ℕ × Posted) → r e ≡ (p e || q e)) → (low high : ℕ) (letters : List (ℕ × Posted))
+    → RiseBetween low high letters
     → first_part (find r letters) ≡ lesser (first_part (find p letters)) (first_part (find q letters))
 found_by_either p q r either low high [] rise = refl
 found_by_either p q r either low high (e ∷ es) rise =
     ap (λ b. first_part (cond b (Some e) (find r es))) (either e)
     ∙ by (p e) (q e) (found_above p e.0 high es rise.1) (found_above q e.0 high es rise.1) (found_by_either p q r either e.0 high es rise.1)
   where
-    by : (a b : Bool) → IsAbove e.0 (first_part (find p es)) → IsAbove e.0 (first_part (find q es)) → first_part (find r es) ≡ lesser (first_part (find p es)) (first_part (find q es))
-        → first_part (cond (a || b) (Some e) (find r es)) ≡ lesser (first_part (cond a (Some e) (find p es))) (first_part (cond b (Some e) (find q es)))
+    by : (a b : Bool) → IsAbove e.0 (first_part (find p es)) → IsAbove e.0 (first_part (find q es))
+        → first_part (find r es) ≡ lesser (first_part (find p es)) (first_part (find q es))
+        → first_part (cond (a || b) (Some e) (find r es)) ≡ lesser (first_part (cond a (Some e) (find p es)))
+        (first_part (cond b (Some e) (find q es)))
     by true true above_p above_q later = ap (λ n. Some n) (omega arith)
     by true false above_p above_q later = lesser_first e.0 (first_part (find q es)) above_q
     by false true above_p above_q later = lesser_second e.0 (first_part (find p es)) above_p
@@ -155,7 +171,8 @@ none_found : (p : ℕ × Posted → Bool) (letters : List (ℕ × Posted)) → (
 none_found p [] none = refl
 none_found p (e ∷ es) none = ap (λ b. first_part (cond b (Some e) (find p es))) (none e) ∙ none_found p es none
 
-pub least_is : {X : Type 0} (silos : List (Silo × X)) (mail : MailValue) → HasRisingNumbers mail → least_among (map (λ e. e.0) silos) mail ≡ least_fresh silos mail
+pub least_is : {X : Type 0} (silos : List (Silo × X)) (mail : MailValue) → HasRisingNumbers mail
+    → least_among (map (λ e. e.0) silos) mail ≡ least_fresh silos mail
 least_is {X} [] mail rise = sym (none_found (λ e. is_fresh_to {X = X} [] e.1) mail.letters (λ e. never e.1.fresh))
   where
     never : (b : Bool) → (b && false) ≡ false
@@ -163,9 +180,11 @@ least_is {X} [] mail rise = sym (none_found (λ e. is_fresh_to {X = X} [] e.1) m
     never false = refl
 least_is {X} (s ∷ silos) mail rise =
     ap (λ o. lesser (least_fresh_to s.0 mail) o) (least_is silos mail rise)
-    ∙ sym (found_by_either (is_for s.0) (λ e. is_fresh_to silos e.1) (λ e. is_fresh_to (s ∷ silos) e.1) either 0 mail.sent mail.letters rise.rising)
+    ∙ sym (found_by_either (is_for s.0) (λ e. is_fresh_to silos e.1) (λ e. is_fresh_to (s ∷ silos) e.1) either 0 mail.sent mail.letters
+    rise.rising)
   where
-    spread : (fresh at : Bool) (later : Option X) → (fresh && is_some (cond at (Some s.1) later)) ≡ ((fresh && at) || (fresh && is_some later))
+    spread : (fresh at : Bool) (later : Option X) → (fresh && is_some (cond at (Some s.1) later))
+        ≡ ((fresh && at) || (fresh && is_some later))
     spread true true later = refl
     spread true false later = refl
     spread false at later = refl

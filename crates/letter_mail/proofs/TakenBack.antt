@@ -9,8 +9,7 @@ use Rattle.std.specs.BTreeMap.{is_at}
 use Rattle.std.proofs.lemmas.Bool.{le-leb, lt-leb}
 use Rattle.std.proofs.lemmas.List.{append-nil}
 use Rattle.std.proofs.lemmas.List.Elements.{filter-append}
-use Rattle.directory_rules.specs.Letter.{Letter}
-use Rattle.directory_rules.specs.World.{Posted}
+use Rattle.directory_rules.specs.State.{Letter, Posted}
 use Rattle.directory_rules.specs.Mail.{fresh_letter}
 use Rattle.directory_rules.specs.Laws.{RiseBetween}
 use Rattle.letter_mail.specs.Mail.{HasRisingNumbers, MailValue, letter_in, with_posted, with_stale, without_last}
@@ -29,16 +28,19 @@ ends low high (e ∷ es) rise = let later = ends e.0 high es rise.1 in let below
 all_stay : (bound low : ℕ) (letters : List (ℕ × Posted)) → RiseBetween low bound letters → up_to bound letters ≡ letters
 all_stay bound low [] rise = refl
 all_stay bound low (e ∷ es) rise =
-    ap (λ b. cond b (e ∷ up_to bound es) (up_to bound es)) (le-leb e.0 bound (ends e.0 bound es rise.1)) ∙ ap (λ (l : List (ℕ × Posted)). e ∷ l) (all_stay bound e.0 es rise.1)
+    ap (λ b. cond b (e ∷ up_to bound es) (up_to bound es)) (le-leb e.0 bound (ends e.0 bound es rise.1))
+    ∙ ap (λ (l : List (ℕ × Posted)). e ∷ l) (all_stay bound e.0 es rise.1)
 
 all_go : (bound sent : ℕ) (letters : List Letter) → bound ≤ sent → up_to bound (sent_now sent letters) ≡ []
 all_go bound sent [] within = refl
 all_go bound sent (letter ∷ letters) within =
-    ap (λ b. cond b ((sent + 1, fresh_letter letter) ∷ up_to bound (sent_now (sent + 1) letters)) (up_to bound (sent_now (sent + 1) letters))) (lt-leb (sent + 1) bound (omega arith))
+    ap (λ b. cond b ((sent + 1, fresh_letter letter) ∷ up_to bound (sent_now (sent + 1) letters))
+    (up_to bound (sent_now (sent + 1) letters))) (lt-leb (sent + 1) bound (omega arith))
     ∙ all_go bound (sent + 1) letters (omega arith)
 
 -- what was just sent is taken back, and the mail is as it was
-pub taken_back : (mail : MailValue) (letters : List Letter) → HasRisingNumbers mail → without_last (with_posted mail letters) (length letters) ≡ mail
+pub taken_back : (mail : MailValue) (letters : List Letter) → HasRisingNumbers mail
+    → without_last (with_posted mail letters) (length letters) ≡ mail
 taken_back mail letters are =
     ap (λ n. record { letters = up_to n (mail.letters ++ sent_now mail.sent letters); sent = n }) (back mail.sent (length letters))
     ∙ ap (λ (l : List (ℕ × Posted)). record { letters = l; sent = mail.sent })
@@ -50,10 +52,12 @@ taken_back mail letters are =
     back : (n m : ℕ) → n + m - m ≡ n
     back n m = omega arith
 
-pub undone : (mail now after : MailValue) (letters : List Letter) (count : ℕ) → HasRisingNumbers mail → count ≡ length letters → now ≡ with_posted mail letters → after ≡ without_last now count
+pub undone : (mail now after : MailValue) (letters : List Letter) (count : ℕ) → HasRisingNumbers mail → count ≡ length letters
+    → now ≡ with_posted mail letters → after ≡ without_last now count
     → after ≡ mail
 undone mail now after letters count are count_is now_is is =
-    is ∙ ap (λ n. without_last now n) count_is ∙ ap (λ (m : MailValue). without_last m (length letters)) now_is ∙ taken_back mail letters are
+    is ∙ ap (λ n. without_last now n) count_is ∙ ap (λ (m : MailValue). without_last m (length letters)) now_is
+    ∙ taken_back mail letters are
 
 -- ---- the letter that is received
 found_at : {X : Type 0} (test : ℕ → Bool) (es more : List (ℕ × X)) → IsSome (lookup test es) → lookup test (es ++ more) ≡ lookup test es
@@ -65,11 +69,13 @@ found_at test (e ∷ es) more there = by (test e.0) (λ later. found_at test es 
     by true later there = refl
     by false later there = later there
 
-set_in : {X : Type 0} (test : ℕ → Bool) (es more : List (ℕ × X)) (v : X) → IsSome (lookup test es) → set_value test (es ++ more) v ≡ set_value test es v ++ more
+set_in : {X : Type 0} (test : ℕ → Bool) (es more : List (ℕ × X)) (v : X) → IsSome (lookup test es)
+    → set_value test (es ++ more) v ≡ set_value test es v ++ more
 set_in test [] more v there = absurd (cc (there))
 set_in {X} test (e ∷ es) more v there = by (test e.0) (λ later. set_in test es more v later) there
   where
-    by : (b : Bool) → (IsSome (lookup test es) → set_value test (es ++ more) v ≡ set_value test es v ++ more) → IsSome (cond b (Some e.1) (lookup test es))
+    by : (b : Bool) → (IsSome (lookup test es) → set_value test (es ++ more) v ≡ set_value test es v ++ more)
+        → IsSome (cond b (Some e.1) (lookup test es))
         → cond b ((e.0, v) ∷ es ++ more) (e ∷ set_value test (es ++ more) v) ≡ cond b ((e.0, v) ∷ es) (e ∷ set_value test es v) ++ more
     by true later there = refl
     by false later there = ap (λ (l : List (ℕ × X)). e ∷ l) (later there)
@@ -78,13 +84,16 @@ there_at : (found : Option Posted) → IsSome (option_map (λ posted. posted.let
 there_at None there = absurd (cc (there))
 there_at (Some posted) there = refl
 
-pub letter_still : (mail now : MailValue) (letters : List Letter) (number : ℕ) → now ≡ with_posted mail letters → IsSome (letter_in mail number) → letter_in now number ≡ letter_in mail number
+pub letter_still : (mail now : MailValue) (letters : List Letter) (number : ℕ) → now ≡ with_posted mail letters
+    → IsSome (letter_in mail number) → letter_in now number ≡ letter_in mail number
 letter_still mail now letters number now_is there =
     ap (λ (m : MailValue). letter_in m number) now_is
     ∙ ap (λ o. option_map (λ (p : Posted). p.letter) o)
-    (found_at (is_at (nat_cmp number)) mail.letters (sent_now mail.sent letters) (there_at (lookup (is_at (nat_cmp number)) mail.letters) there))
+    (found_at (is_at (nat_cmp number)) mail.letters (sent_now mail.sent letters)
+    (there_at (lookup (is_at (nat_cmp number)) mail.letters) there))
 
-pub stale_first : (mail now after : MailValue) (letters : List Letter) (number : ℕ) (letter : Letter) → now ≡ with_posted mail letters → IsSome (letter_in mail number)
+pub stale_first : (mail now after : MailValue) (letters : List Letter) (number : ℕ) (letter : Letter) → now ≡ with_posted mail letters
+    → IsSome (letter_in mail number)
     → after ≡ with_stale now number letter → after ≡ with_posted (with_stale mail number letter) letters
 stale_first mail now after letters number letter now_is there is =
     is ∙ ap (λ (m : MailValue). with_stale m number letter) now_is

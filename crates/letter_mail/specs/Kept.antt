@@ -8,7 +8,7 @@ use Rattle.directory_rules.specs.declared.Act.TheVariants as act
 use Rattle.directory_rules.specs.declared.Reply.TheVariants as reply
 use Rattle.directory_rules.specs.declared.Why.TheVariants as why
 use Rattle.ring_range.specs.Range.{Range}
-use Rattle.directory_rules.specs.Letter.{Letter, Body, Request_letter, Reply_letter, Ask_letter, Missing_letter, Done_letter, Query_letter, Behind_letter, Ahead_letter, Offer_letter}
+use Rattle.directory_rules.specs.State.{Letter, Body, Request_letter, Reply_letter, Ask_letter, Missing_letter, Done_letter, Query_letter, Behind_letter, Ahead_letter, Offer_letter}
 use Rattle.letter_mail.specs.declared.kept.Named.{Named}
 use Rattle.letter_mail.specs.declared.kept.Span.{Span}
 use Rattle.letter_mail.specs.declared.kept.Says.{Says}

@@ -6,8 +6,7 @@ use Rattle.std.specs.Ordering.{nat_cmp}
 use Rattle.std.specs.Map.{lookup, remove_entry, set_value}
 use Rattle.std.specs.BTreeMap.{is_at}
 use Rattle.silo_address.specs.Silo.{Silo, silo_cmp}
-use Rattle.directory_rules.specs.Letter.{Letter}
-use Rattle.directory_rules.specs.World.{Posted}
+use Rattle.directory_rules.specs.State.{Letter, Posted}
 use Rattle.directory_rules.specs.Mail.{fresh_letter}
 use Rattle.directory_rules.specs.Laws.{RiseBetween}
 

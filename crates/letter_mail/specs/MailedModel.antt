@@ -1,5 +1,5 @@
 -- How what the mail hands out is a letter of the rule.
-use Rattle.directory_rules.specs.Letter.{Letter}
+use Rattle.directory_rules.specs.State.{Letter}
 use Rattle.letter_mail.specs.declared.mailed.MailedLetter.{MailedLetter}
 use Rattle.letter_mail.specs.declared.mailed.MailedLetter.TheVariants.{Made, Lent}
 

@@ -4,7 +4,7 @@ ghost use Rattle.directory_letters.specs.LetterModel.{body_of};
 ghost use Rattle.letter_mail.specs.KeptLetters.{Grows};
 ghost use Rattle.letter_mail.specs.Kept.{IsNumbered, entry_by, grain_at, letter_by, range_by, said_by};
 ghost use Rattle.letter_mail.specs.Slots.{IsSlot, posted_in};
-ghost use Rattle.directory_rules.specs.Letter.{Reply_letter, Request_letter};
+ghost use Rattle.directory_rules.specs.State.{Reply_letter, Request_letter};
 ghost use Rattle.directory_rules.specs.Mail.{fresh_letter};
 ghost use Rattle.silo_address.specs.Grain.{Grain};
 ghost use Rattle.silo_address.specs.Silo.{Silo};

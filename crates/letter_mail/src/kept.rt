@@ -1,6 +1,6 @@
 ghost use Rattle.std.specs.Prelude.{◌≡◌, ◌<◌, None, length};
 ghost use Rattle.std.specs.Map.{keys_of};
-ghost use Rattle.directory_rules.specs.Letter.{Ask_letter, Offer_letter, Reply_letter};
+ghost use Rattle.directory_rules.specs.State.{Ask_letter, Offer_letter, Reply_letter};
 ghost use Rattle.directory_letters.specs.LetterModel.{body_of};
 ghost use Rattle.letter_mail.specs.Kept.{IsNumbered, entry_by, grain_at, letter_by, range_by, request_by, said_by};
 

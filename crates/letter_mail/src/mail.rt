@@ -1,6 +1,6 @@
 ghost use Rattle.std.specs.Prelude.{◌≡◌, ◌≤◌, Some, [], IsSome, OnOk, OnErr};
 ghost use Rattle.std.specs.Option.{option_map};
-ghost use Rattle.directory_rules.specs.Letter.{Letter as LetterValue};
+ghost use Rattle.directory_rules.specs.State.{Letter as LetterValue};
 ghost use Rattle.letter_mail.specs.Mail.{HasRisingNumbers, has_fresh, least_fresh, least_fresh_to, lesser, letter_in, with_lost, with_posted, with_stale, without_last};
 ghost use Rattle.letter_mail.specs.MailedModel.{letter_seen};
 

@@ -16,7 +16,8 @@ held_behind bytes start end count within =
     let parts : suc count + (end - (start + suc count)) ≡ end - start = omega arith in
     ap (λ (n : ℕ). take (end - n) (drop n bytes)) place
     ∙ (ap (take (end - (start + suc count))) (sym (drop-drop (suc count) start bytes))
-    ∙ (sym (drop-take (suc count) (end - (start + suc count)) (drop start bytes)) ∙ ap (λ (n : ℕ). drop (suc count) (take n (drop start bytes))) parts))
+    ∙ (sym (drop-take (suc count) (end - (start + suc count)) (drop start bytes))
+    ∙ ap (λ (n : ℕ). drop (suc count) (take n (drop start bytes))) parts))
 
 -- its front
 pub held_front : (bytes : List ℕ) (start end count : ℕ) → count ≤ length (take (end - start) (drop start bytes))
@@ -38,13 +39,15 @@ held_still bytes rest start searched end begun within fits =
     ∙ (ap (take (searched - start)) front ∙ take-take (searched - start) (end - start) (drop start bytes) (omega arith)))
 
 -- what was read stands behind it
-pub read_there : (bytes chunk rest : List ℕ) (end count : ℕ) → end ≤ length bytes → count ≤ length chunk → take count (drop end (take end bytes ++ (chunk ++ rest))) ≡ take count chunk
+pub read_there : (bytes chunk rest : List ℕ) (end count : ℕ) → end ≤ length bytes → count ≤ length chunk
+    → take count (drop end (take end bytes ++ (chunk ++ rest))) ≡ take count chunk
 read_there bytes chunk rest end count fits within =
     ap (λ (n : ℕ). take count (drop n (take end bytes ++ (chunk ++ rest)))) (sym (length-take-le end bytes fits))
     ∙ (ap (take count) (drop-append_seam (take end bytes) (chunk ++ rest)) ∙ take-append-le count chunk rest within)
 
 -- one read was made
-pub filled : {R S : Type 0} (reads : R → Option (List ℕ) → R → Type 0) (before after : R) (old late new : Progress) (got held : List ℕ) (result : Option (Ended S)) → TakesIn late held new result → late ≡ old → held ≡ got
+pub filled : {R S : Type 0} (reads : R → Option (List ℕ) → R → Type 0) (before after : R) (old late new : Progress) (got held : List ℕ)
+    (result : Option (Ended S)) → TakesIn late held new result → late ≡ old → held ≡ got
     → reads before (Some got) after → length got ≤ 65536 → Fills reads before old after new result
 filled reads before after old late new got held None taken same is once fits =
     (got, once, fits, subst (λ (p : Progress). HasTakenIn p got new) same (subst (λ (h : List ℕ). HasTakenIn late h new) is taken))

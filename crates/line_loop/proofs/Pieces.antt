@@ -33,21 +33,26 @@ unfolding joined
 pieces_at-append [] back first others is = is
 pieces_at-append (byte ∷ front) back first others is =
     let cut = first_piece front in
-    ap (with_byte (byte == line_feed) byte) (pieces_at-append front back first others is ∙ ap (λ (ps : List (List ℕ)). joined ps first others) cut.2)
+    ap (with_byte (byte == line_feed) byte) (pieces_at-append front back first others is
+    ∙ ap (λ (ps : List (List ℕ)). joined ps first others) cut.2)
     ∙ (joined-with_byte (byte == line_feed) byte cut.0 cut.1 first others
     ∙ ap (λ (ps : List (List ℕ)). joined (with_byte (byte == line_feed) byte ps) first others) (sym cut.2))
 
-joined-last : (lines : List (List ℕ)) (begun first : List ℕ) (others : List (List ℕ)) → joined (lines ++ begun ∷ []) first others ≡ lines ++ (begun ++ first) ∷ others
+joined-last : (lines : List (List ℕ)) (begun first : List ℕ) (others : List (List ℕ))
+    → joined (lines ++ begun ∷ []) first others ≡ lines ++ (begun ++ first) ∷ others
 unfolding joined
 joined-last [] begun first others = refl
 joined-last (line ∷ []) begun first others = refl
-joined-last (line ∷ next ∷ lines) begun first others = ap (λ (ls : List (List ℕ)). line ∷ ls) (joined-last (next ∷ lines) begun first others)
+joined-last (line ∷ next ∷ lines) begun first others =
+    ap (λ (ls : List (List ℕ)). line ∷ ls) (joined-last (next ∷ lines) begun first others)
 
 -- the line that bytes begin goes on with the first piece of those behind them
-pub goes_on_behind : (front back : List ℕ) (lines : List (List ℕ)) (begun first : List ℕ) (others : List (List ℕ)) → pieces_at line_feed front ≡ lines ++ begun ∷ []
+pub goes_on_behind : (front back : List ℕ) (lines : List (List ℕ)) (begun first : List ℕ) (others : List (List ℕ))
+    → pieces_at line_feed front ≡ lines ++ begun ∷ []
     → pieces_at line_feed back ≡ first ∷ others → pieces_at line_feed (front ++ back) ≡ lines ++ (begun ++ first) ∷ others
 goes_on_behind front back lines begun first others cut is =
-    pieces_at-append front back first others is ∙ (ap (λ (ps : List (List ℕ)). joined ps first others) cut ∙ joined-last lines begun first others)
+    pieces_at-append front back first others is ∙ (ap (λ (ps : List (List ℕ)). joined ps first others) cut
+    ∙ joined-last lines begun first others)
 
 -- two pieces in a row are one
 pub one_behind : (front back : List ℕ) → IsOnePiece front → IsOnePiece back → IsOnePiece (front ++ back)
@@ -56,7 +61,8 @@ one_behind front back one other = goes_on_behind front back [] front back [] one
 -- a line feed behind a piece ends it
 pub ended_piece : (line rest first : List ℕ) (others : List (List ℕ)) → IsOnePiece line → pieces_at line_feed rest ≡ first ∷ others
     → pieces_at line_feed (line ++ line_feed ∷ rest) ≡ (line ++ []) ∷ first ∷ others
-ended_piece line rest first others one is = goes_on_behind line (line_feed ∷ rest) [] line [] (first ∷ others) one (ap (λ (ps : List (List ℕ)). [] ∷ ps) is)
+ended_piece line rest first others one is =
+    goes_on_behind line (line_feed ∷ rest) [] line [] (first ∷ others) one (ap (λ (ps : List (List ℕ)). [] ∷ ps) is)
 
 -- ---- Where the first line feed is found.
 
@@ -72,13 +78,15 @@ found_there bytes (Some count) found = (
 )
 
 -- behind a piece that was searched before
-pub found_behind : (front bytes : List ℕ) (count place : ℕ) → IsOnePiece front → place ≡ length front + count → IsEndedAfter bytes (Some count) → IsEndedAfter (front ++ bytes) (Some place)
+pub found_behind : (front bytes : List ℕ) (count place : ℕ) → IsOnePiece front → place ≡ length front + count
+    → IsEndedAfter bytes (Some count) → IsEndedAfter (front ++ bytes) (Some place)
 found_behind front bytes count place one is found =
     let next : length front + suc count ≡ suc (length front + count) = omega arith in
     subst (λ (n : ℕ). IsEndedAfter (front ++ bytes) (Some n)) (sym is) (
       omega (arith, length-append front bytes, found.0),
       subst IsOnePiece (sym (take-append-add front bytes count)) (one_behind front (take count bytes) one found.1),
-      drop-append-add front bytes count ∙ (found.2 ∙ ap (λ (bs : List ℕ). line_feed ∷ bs) (sym (drop-append-add front bytes (suc count)) ∙ ap (λ (n : ℕ). drop n (front ++ bytes)) next)),
+      drop-append-add front bytes count ∙ (found.2 ∙ ap (λ (bs : List ℕ). line_feed ∷ bs)
+          (sym (drop-append-add front bytes (suc count)) ∙ ap (λ (n : ℕ). drop n (front ++ bytes)) next)),
     )
 
 -- what is held is what was searched, and what wasn't
@@ -89,4 +97,5 @@ held_parts bytes start searched end begun within =
     let place : start + (searched - start) ≡ searched = omega arith in
     ap (λ (n : ℕ). take n (drop start bytes)) parts
     ∙ (take-add (searched - start) (end - searched) (drop start bytes)
-    ∙ ap (λ (bs : List ℕ). take (searched - start) (drop start bytes) ++ take (end - searched) bs) (drop-drop (searched - start) start bytes ∙ ap (λ (n : ℕ). drop n bytes) place))
+    ∙ ap (λ (bs : List ℕ). take (searched - start) (drop start bytes) ++ take (end - searched) bs)
+    (drop-drop (searched - start) start bytes ∙ ap (λ (n : ℕ). drop n bytes) place))

@@ -13,24 +13,30 @@ use Rattle.line_loop.specs.Transfers.{HasTakenIn}
 use Rattle.line_loop.proofs.Pieces.{ended_piece, first_piece, goes_on_behind}
 
 -- what waited, and what a line prints behind it, may wait
-waits_more : {P S : Type 0} (plays : P → ℕ → List ℕ → Bool → List ℕ → Option S → P → Type 0) (player next : P) (old new : Progress) (line : List ℕ) (ended : Bool) (stop : Option S) → length old.waiting < most_waiting
+waits_more : {P S : Type 0} (plays : P → ℕ → List ℕ → Bool → List ℕ → Option S → P → Type 0) (player next : P) (old new : Progress)
+    (line : List ℕ) (ended : Bool) (stop : Option S) → length old.waiting < most_waiting
     → Prints (plays player old.number line ended) old.waiting new.waiting stop next → MayWait (PrintsLine plays) new.waiting
 waits_more plays player next old new line ended stop short prints =
-    subst (MayWait (PrintsLine plays)) (sym prints.behind) (and_a_line old.waiting prints.text short (player, old.number, line, ended, stop, next, prints.plays))
+    subst (MayWait (PrintsLine plays)) (sym prints.behind)
+    (and_a_line old.waiting prints.text short (player, old.number, line, ended, stop, next, prints.plays))
 
 module _ {P S : Type 0} (plays : P → ℕ → List ℕ → Bool → List ℕ → Option S → P → Type 0) (most_kept most_read : ℕ)
-    (too_long : (old new : P) (number : ℕ) (line more text : List ℕ) (ended : Bool) (stop : Option S) → most_kept < length line → plays old number line true text stop new → plays old number (line ++ more) ended text stop new) (first : P) where
+    (too_long : (old new : P) (number : ℕ) (line more text : List ℕ) (ended : Bool) (stop : Option S) → most_kept < length line
+    → plays old number line true text stop new → plays old number (line ++ more) ended text stop new) (first : P) where
   -- ---- Bytes behind those that were read.
 
   -- the pieces of what was seen, and of some bytes behind it
-  pieces_behind : (seen back line : List ℕ) (lines : List (List ℕ)) (begun : List ℕ) (others : List (List ℕ)) → pieces_at line_feed seen ≡ lines ++ begun ∷ [] → begun ≡ [] → pieces_at line_feed back ≡ line ∷ others
+  pieces_behind : (seen back line : List ℕ) (lines : List (List ℕ)) (begun : List ℕ) (others : List (List ℕ))
+      → pieces_at line_feed seen ≡ lines ++ begun ∷ [] → begun ≡ [] → pieces_at line_feed back ≡ line ∷ others
       → pieces_at line_feed (seen ++ back) ≡ lines ++ line ∷ others
   pieces_behind seen back line lines begun others cut none is =
       goes_on_behind seen back lines begun line others cut is ∙ ap (λ (b : List ℕ). lines ++ (b ++ line) ∷ others) none
 
   -- what a line prints behind lines that were played, the last of the run
-  plays_to : (pieces : List (List ℕ)) (lines : List (List ℕ)) (line : List ℕ) (others : List (List ℕ)) (before more text : List ℕ) (between last : P) (stop : Option S) → pieces ≡ lines ++ line ∷ others
-      → PlaysOn plays first lines before between → plays between (length lines + 1) line (is_ended others) more stop last → text ≡ before ++ more → (stop ≡ None → others ≡ []) → PlaysTo plays first pieces text stop last
+  plays_to : (pieces : List (List ℕ)) (lines : List (List ℕ)) (line : List ℕ) (others : List (List ℕ)) (before more text : List ℕ)
+      (between last : P) (stop : Option S) → pieces ≡ lines ++ line ∷ others
+      → PlaysOn plays first lines before between → plays between (length lines + 1) line (is_ended others) more stop last
+      → text ≡ before ++ more → (stop ≡ None → others ≡ []) → PlaysTo plays first pieces text stop last
   plays_to pieces lines line others before more text between last stop cut on plays_line printed whole = record {
     lines = lines;
     line = line;
@@ -46,17 +52,21 @@ module _ {P S : Type 0} (plays : P → ℕ → List ℕ → Bool → List ℕ �
   }
 
   -- a line more was played
-  line_more : (lines : List (List ℕ)) (before more text : List ℕ) (between last : P) (line : List ℕ) → PlaysOn plays first lines before between → plays between (length lines + 1) line true more None last → text ≡ before ++ more
+  line_more : (lines : List (List ℕ)) (before more text : List ℕ) (between last : P) (line : List ℕ)
+      → PlaysOn plays first lines before between → plays between (length lines + 1) line true more None last → text ≡ before ++ more
       → PlaysOn plays first (lines ++ line ∷ []) text last
-  line_more lines before more text between last line on plays_line printed = subst (λ (t : List ℕ). PlaysOn plays first (lines ++ line ∷ []) t last) (sym printed) (then_line on line more plays_line)
+  line_more lines before more text between last line on plays_line printed =
+      subst (λ (t : List ℕ). PlaysOn plays first (lines ++ line ∷ []) t last) (sym printed) (then_line on line more plays_line)
 
   -- whatever may still be read, the text is what the first pieces print
-  some_played : (seen back : List ℕ) (lines : List (List ℕ)) (begun text : List ℕ) (player : P) (over : Bool) → pieces_at line_feed seen ≡ lines ++ begun ∷ [] → ArePlayed plays most_kept first lines begun text player over
+  some_played : (seen back : List ℕ) (lines : List (List ℕ)) (begun text : List ℕ) (player : P) (over : Bool)
+      → pieces_at line_feed seen ≡ lines ++ begun ∷ [] → ArePlayed plays most_kept first lines begun text player over
       → PlaysSome plays first (pieces_at line_feed (seen ++ back)) text player
   some_played seen back lines begun text player false cut played =
       let behind = first_piece back in
       inl (lines, behind.0, behind.1, pieces_behind seen back behind.0 lines begun behind.1 cut played.0 behind.2, played.1)
-  some_played seen back lines begun text player true cut played = by behind.1 (goes_on_behind seen back lines begun behind.0 behind.1 cut behind.2)
+  some_played seen back lines begun text player true cut played =
+      by behind.1 (goes_on_behind seen back lines begun behind.0 behind.1 cut behind.2)
     where
       behind : (next : List ℕ) × (others : List (List ℕ)) × (pieces_at line_feed back ≡ next ∷ others)
       behind = first_piece back
@@ -64,8 +74,14 @@ module _ {P S : Type 0} (plays : P → ℕ → List ℕ → Bool → List ℕ �
       longer : (ended : Bool) → plays played.between (length lines + 1) (begun ++ behind.0) ended played.more None player
       longer ended = too_long played.between player (length lines + 1) begun behind.0 played.more ended None played.long played.plays_line
 
-      by : (others : List (List ℕ)) → pieces_at line_feed (seen ++ back) ≡ lines ++ (begun ++ behind.0) ∷ others → PlaysSome plays first (pieces_at line_feed (seen ++ back)) text player
-      by [] is = inr (None, plays_to _ lines (begun ++ behind.0) [] played.before played.more text played.between player None is played.on (longer false) played.printed (λ none. refl))
+      by : (others : List (List ℕ)) → pieces_at line_feed (seen ++ back) ≡ lines ++ (begun ++ behind.0) ∷ others
+          → PlaysSome plays first (pieces_at line_feed (seen ++ back)) text player
+      by [] is =
+          inr (
+            None,
+            plays_to _ lines (begun ++ behind.0) [] played.before played.more text played.between player None is played.on
+                (longer false) played.printed (λ none. refl),
+          )
       by (next ∷ others) is = inl (
         lines ++ (begun ++ behind.0) ∷ [],
         next,
@@ -74,12 +90,14 @@ module _ {P S : Type 0} (plays : P → ℕ → List ℕ → Bool → List ℕ �
         line_more lines played.before played.more text played.between player (begun ++ behind.0) played.on (longer true) played.printed,
       )
 
-  pub some_so_far : (bytes sent : List ℕ) (player : P) (at : Progress) → PlayedSoFar plays most_kept most_read first bytes sent player at → (more : List ℕ)
+  pub some_so_far : (bytes sent : List ℕ) (player : P) (at : Progress) → PlayedSoFar plays most_kept most_read first bytes sent player at
+      → (more : List ℕ)
       → PlaysSome plays first (pieces_at line_feed (bytes ++ more)) (sent ++ at.waiting) player
   some_so_far bytes sent player at so_far more =
       subst (λ (input : List ℕ). PlaysSome plays first (pieces_at line_feed input) (sent ++ at.waiting) player)
       (sym (append_assoc so_far.seen at.held more) ∙ ap (λ (bs : List ℕ). bs ++ more) (sym so_far.read))
-      (some_played so_far.seen (at.held ++ more) so_far.lines so_far.begun (sent ++ at.waiting) player at.passes_over so_far.cut so_far.played)
+      (some_played so_far.seen (at.held ++ more) so_far.lines so_far.begun (sent ++ at.waiting) player at.passes_over so_far.cut
+      so_far.played)
 
   -- ---- The run goes on.
 
@@ -98,11 +116,13 @@ module _ {P S : Type 0} (plays : P → ℕ → List ℕ → Bool → List ℕ �
   })
 
   -- nothing is to be passed over
-  none_over : (lines : List (List ℕ)) (begun text : List ℕ) (player : P) (over : Bool) → over ≡ false → ArePlayed plays most_kept first lines begun text player over → (begun ≡ []) × PlaysOn plays first lines text player
+  none_over : (lines : List (List ℕ)) (begun text : List ℕ) (player : P) (over : Bool) → over ≡ false
+      → ArePlayed plays most_kept first lines begun text player over → (begun ≡ []) × PlaysOn plays first lines text player
   none_over lines begun text player false is played = played
   none_over lines begun text player true is played = absurd (true≢false is)
 
-  some_over : (lines : List (List ℕ)) (begun text : List ℕ) (player : P) (over : Bool) → over ≡ true → ArePlayed plays most_kept first lines begun text player over → HasCut plays most_kept first lines begun text player
+  some_over : (lines : List (List ℕ)) (begun text : List ℕ) (player : P) (over : Bool) → over ≡ true
+      → ArePlayed plays most_kept first lines begun text player over → HasCut plays most_kept first lines begun text player
   some_over lines begun text player true is played = played
   some_over lines begun text player false is played = absurd (true≢false (sym is))
 
@@ -111,22 +131,27 @@ module _ {P S : Type 0} (plays : P → ℕ → List ℕ → Bool → List ℕ �
   cut_held held count found = sym (take-append-drop count held) ∙ ap (λ (bs : List ℕ). take count held ++ bs) found.2
 
   -- the bytes that were read, by what is seen then
-  seen_then : (bytes seen held line rest : List ℕ) → bytes ≡ seen ++ held → held ≡ line ++ line_feed ∷ rest → bytes ≡ (seen ++ (line ++ line_feed ∷ [])) ++ rest
+  seen_then : (bytes seen held line rest : List ℕ) → bytes ≡ seen ++ held → held ≡ line ++ line_feed ∷ rest
+      → bytes ≡ (seen ++ (line ++ line_feed ∷ [])) ++ rest
   seen_then bytes seen held line rest read is =
-      read ∙ (ap (λ (bs : List ℕ). seen ++ bs) (is ∙ sym (append_assoc line (line_feed ∷ []) rest)) ∙ sym (append_assoc seen (line ++ line_feed ∷ []) rest))
+      read ∙ (ap (λ (bs : List ℕ). seen ++ bs) (is ∙ sym (append_assoc line (line_feed ∷ []) rest))
+      ∙ sym (append_assoc seen (line ++ line_feed ∷ []) rest))
 
   -- its pieces end with one that nothing begins
-  cut_then : (seen line : List ℕ) (lines : List (List ℕ)) (begun : List ℕ) → pieces_at line_feed seen ≡ lines ++ begun ∷ [] → IsOnePiece line
+  cut_then : (seen line : List ℕ) (lines : List (List ℕ)) (begun : List ℕ) → pieces_at line_feed seen ≡ lines ++ begun ∷ []
+      → IsOnePiece line
       → pieces_at line_feed (seen ++ (line ++ line_feed ∷ [])) ≡ (lines ++ (begun ++ line) ∷ []) ++ [] ∷ []
   cut_then seen line lines begun cut one =
       goes_on_behind seen (line ++ line_feed ∷ []) lines begun (line ++ []) ([] ∷ []) cut (ended_piece line [] [] [] one refl)
       ∙ (ap (λ (l : List ℕ). lines ++ (begun ++ l) ∷ [] ∷ []) (append-nil line) ∙ sym (append_assoc lines ((begun ++ line) ∷ []) ([] ∷ [])))
 
-  length_more : (lines : List (List ℕ)) (line : List ℕ) (number : ℕ) → number ≡ length lines + 1 → number + 1 ≡ length (lines ++ line ∷ []) + 1
+  length_more : (lines : List (List ℕ)) (line : List ℕ) (number : ℕ) → number ≡ length lines + 1
+      → number + 1 ≡ length (lines ++ line ∷ []) + 1
   length_more lines line number is = omega (arith, is, length-append lines (line ∷ []))
 
   -- a line was played, whose line feed was found
-  pub played_line : (bytes sent : List ℕ) (player next : P) (old late new : Progress) (count : ℕ) → old.passes_over ≡ false → length old.waiting < most_waiting → IsEndedAfter old.held (Some count)
+  pub played_line : (bytes sent : List ℕ) (player next : P) (old late new : Progress) (count : ℕ) → old.passes_over ≡ false
+      → length old.waiting < most_waiting → IsEndedAfter old.held (Some count)
       → PlaysPart plays player old (take count old.held) true next late None → new ≡ behind_line count late
       → PlayedSoFar plays most_kept most_read first bytes sent player old → PlayedSoFar plays most_kept most_read first bytes sent next new
   played_line bytes sent player next old late new count over short found part is so_far =
@@ -134,12 +159,15 @@ module _ {P S : Type 0} (plays : P → ℕ → List ℕ → Bool → List ℕ �
       let none = none_over so_far.lines so_far.begun (sent ++ old.waiting) player old.passes_over over so_far.played in
       let prints = part.0 in
       let begun : so_far.begun ++ line ≡ line = ap (λ (b : List ℕ). b ++ line) none.0 in
-      subst (λ (p : Progress). PlayedSoFar plays most_kept most_read first bytes sent next p) (sym (is ∙ ap (behind_line count) part.1)) (record {
+      subst (λ (p : Progress). PlayedSoFar plays most_kept most_read first bytes sent next p) (sym (is ∙ ap (behind_line count) part.1))
+      (record {
         seen = so_far.seen ++ (line ++ line_feed ∷ []);
         lines = so_far.lines ++ line ∷ [];
         begun = [];
         read = seen_then bytes so_far.seen old.held line (drop (suc count) old.held) so_far.read (cut_held old.held count found);
-        cut = cut_then so_far.seen line so_far.lines so_far.begun so_far.cut found.1 ∙ ap (λ (l : List ℕ). (so_far.lines ++ l ∷ []) ++ [] ∷ []) begun;
+        cut =
+            cut_then so_far.seen line so_far.lines so_far.begun so_far.cut found.1
+            ∙ ap (λ (l : List ℕ). (so_far.lines ++ l ∷ []) ++ [] ∷ []) begun;
         played = (
           refl,
           line_more so_far.lines (sent ++ old.waiting) prints.text (sent ++ late.waiting) player next line none.1
@@ -152,8 +180,10 @@ module _ {P S : Type 0} (plays : P → ℕ → List ℕ → Bool → List ℕ �
       })
 
   -- one that is too long was passed over up to its line feed
-  pub passed_line : (bytes sent : List ℕ) (player : P) (old new : Progress) (count : ℕ) → old.passes_over ≡ true → IsEndedAfter old.held (Some count) → new ≡ behind_line count old
-      → PlayedSoFar plays most_kept most_read first bytes sent player old → PlayedSoFar plays most_kept most_read first bytes sent player new
+  pub passed_line : (bytes sent : List ℕ) (player : P) (old new : Progress) (count : ℕ) → old.passes_over ≡ true
+      → IsEndedAfter old.held (Some count) → new ≡ behind_line count old
+      → PlayedSoFar plays most_kept most_read first bytes sent player old
+      → PlayedSoFar plays most_kept most_read first bytes sent player new
   passed_line bytes sent player old new count over found is so_far =
       let line = take count old.held in
       let cut = some_over so_far.lines so_far.begun (sent ++ old.waiting) player old.passes_over over so_far.played in
@@ -167,7 +197,8 @@ module _ {P S : Type 0} (plays : P → ℕ → List ℕ → Bool → List ℕ �
         played = (
           refl,
           line_more so_far.lines cut.before cut.more (sent ++ old.waiting) cut.between player whole cut.on
-              (too_long cut.between player (length so_far.lines + 1) so_far.begun line cut.more true None cut.long cut.plays_line) cut.printed,
+              (too_long cut.between player (length so_far.lines + 1) so_far.begun line cut.more true None cut.long cut.plays_line)
+              cut.printed,
         );
         numbered = length_more so_far.lines whole old.number so_far.numbered;
         counted = so_far.counted;
@@ -175,11 +206,14 @@ module _ {P S : Type 0} (plays : P → ℕ → List ℕ → Bool → List ℕ �
       })
 
   -- or all that is held of it was
-  pub passed_all : (bytes sent : List ℕ) (player : P) (old new : Progress) → old.passes_over ≡ true → IsOnePiece old.held → new ≡ record old { held = [] }
-      → PlayedSoFar plays most_kept most_read first bytes sent player old → PlayedSoFar plays most_kept most_read first bytes sent player new
+  pub passed_all : (bytes sent : List ℕ) (player : P) (old new : Progress) → old.passes_over ≡ true → IsOnePiece old.held
+      → new ≡ record old { held = [] }
+      → PlayedSoFar plays most_kept most_read first bytes sent player old
+      → PlayedSoFar plays most_kept most_read first bytes sent player new
   passed_all bytes sent player old new over one is so_far =
       let cut = some_over so_far.lines so_far.begun (sent ++ old.waiting) player old.passes_over over so_far.played in
-      subst (λ (p : Progress). PlayedSoFar plays most_kept most_read first bytes sent player p) (sym (is ∙ ap (λ (b : Bool). let p : Progress = record old { held = []; passes_over = b } in p) over)) (record {
+      subst (λ (p : Progress). PlayedSoFar plays most_kept most_read first bytes sent player p)
+      (sym (is ∙ ap (λ (b : Bool). let p : Progress = record old { held = []; passes_over = b } in p) over)) (record {
         seen = so_far.seen ++ old.held;
         lines = so_far.lines;
         begun = so_far.begun ++ old.held;
@@ -191,7 +225,8 @@ module _ {P S : Type 0} (plays : P → ℕ → List ℕ → Bool → List ℕ �
           between = cut.between;
           on = cut.on;
           more = cut.more;
-          plays_line = too_long cut.between player (length so_far.lines + 1) so_far.begun old.held cut.more true None cut.long cut.plays_line;
+          plays_line =
+              too_long cut.between player (length so_far.lines + 1) so_far.begun old.held cut.more true None cut.long cut.plays_line;
           printed = cut.printed;
         };
         numbered = so_far.numbered;
@@ -200,13 +235,15 @@ module _ {P S : Type 0} (plays : P → ℕ → List ℕ → Bool → List ℕ �
       })
 
   -- one was played that is too long
-  pub played_long : (bytes sent : List ℕ) (player next : P) (old late new : Progress) → old.passes_over ≡ false → length old.waiting < most_waiting → IsOnePiece old.held → most_kept < length old.held
+  pub played_long : (bytes sent : List ℕ) (player next : P) (old late new : Progress) → old.passes_over ≡ false
+      → length old.waiting < most_waiting → IsOnePiece old.held → most_kept < length old.held
       → PlaysPart plays player old old.held true next late None → new ≡ record late { held = []; passes_over = true }
       → PlayedSoFar plays most_kept most_read first bytes sent player old → PlayedSoFar plays most_kept most_read first bytes sent next new
   played_long bytes sent player next old late new over short one long part is so_far =
       let none = none_over so_far.lines so_far.begun (sent ++ old.waiting) player old.passes_over over so_far.played in
       let prints = part.0 in
-      subst (λ (p : Progress). PlayedSoFar plays most_kept most_read first bytes sent next p) (sym (is ∙ ap (λ (p : Progress). let q : Progress = record p { held = []; passes_over = true } in q) part.1)) (record {
+      subst (λ (p : Progress). PlayedSoFar plays most_kept most_read first bytes sent next p)
+      (sym (is ∙ ap (λ (p : Progress). let q : Progress = record p { held = []; passes_over = true } in q) part.1)) (record {
         seen = so_far.seen ++ old.held;
         lines = so_far.lines;
         begun = old.held;
@@ -228,33 +265,39 @@ module _ {P S : Type 0} (plays : P → ℕ → List ℕ → Bool → List ℕ �
 
   -- what waited was written
   pub played_written : (bytes sent : List ℕ) (player : P) (old new : Progress) → new ≡ record old { waiting = [] }
-      → PlayedSoFar plays most_kept most_read first bytes sent player old → PlayedSoFar plays most_kept most_read first bytes (sent ++ old.waiting) player new
-  played_written bytes sent player old new is so_far = subst (λ (p : Progress). PlayedSoFar plays most_kept most_read first bytes (sent ++ old.waiting) player p) (sym is) (record {
-    seen = so_far.seen;
-    lines = so_far.lines;
-    begun = so_far.begun;
-    read = so_far.read;
-    cut = so_far.cut;
-    played = subst (λ (t : List ℕ). ArePlayed plays most_kept first so_far.lines so_far.begun t player old.passes_over) (sym (append-nil (sent ++ old.waiting))) so_far.played;
-    numbered = so_far.numbered;
-    counted = so_far.counted;
-    waits = few (omega arith);
-  })
+      → PlayedSoFar plays most_kept most_read first bytes sent player old
+      → PlayedSoFar plays most_kept most_read first bytes (sent ++ old.waiting) player new
+  played_written bytes sent player old new is so_far =
+      subst (λ (p : Progress). PlayedSoFar plays most_kept most_read first bytes (sent ++ old.waiting) player p) (sym is) (record {
+        seen = so_far.seen;
+        lines = so_far.lines;
+        begun = so_far.begun;
+        read = so_far.read;
+        cut = so_far.cut;
+        played =
+            subst (λ (t : List ℕ). ArePlayed plays most_kept first so_far.lines so_far.begun t player old.passes_over)
+            (sym (append-nil (sent ++ old.waiting))) so_far.played;
+        numbered = so_far.numbered;
+        counted = so_far.counted;
+        waits = few (omega arith);
+      })
 
   -- more was read
   pub played_read_on : (bytes sent got : List ℕ) (player : P) (old new : Progress) → HasTakenIn old got new
-      → PlayedSoFar plays most_kept most_read first bytes sent player old → PlayedSoFar plays most_kept most_read first (bytes ++ got) sent player new
-  played_read_on bytes sent got player old new taken so_far = subst (λ (p : Progress). PlayedSoFar plays most_kept most_read first (bytes ++ got) sent player p) (sym taken.same) (record {
-    seen = so_far.seen;
-    lines = so_far.lines;
-    begun = so_far.begun;
-    read = ap (λ (bs : List ℕ). bs ++ got) so_far.read ∙ append_assoc so_far.seen old.held got;
-    cut = so_far.cut;
-    played = so_far.played;
-    numbered = so_far.numbered;
-    counted = omega (arith, so_far.counted, taken.counted, length-append bytes got);
-    waits = so_far.waits;
-  })
+      → PlayedSoFar plays most_kept most_read first bytes sent player old
+      → PlayedSoFar plays most_kept most_read first (bytes ++ got) sent player new
+  played_read_on bytes sent got player old new taken so_far =
+      subst (λ (p : Progress). PlayedSoFar plays most_kept most_read first (bytes ++ got) sent player p) (sym taken.same) (record {
+        seen = so_far.seen;
+        lines = so_far.lines;
+        begun = so_far.begun;
+        read = ap (λ (bs : List ℕ). bs ++ got) so_far.read ∙ append_assoc so_far.seen old.held got;
+        cut = so_far.cut;
+        played = so_far.played;
+        numbered = so_far.numbered;
+        counted = omega (arith, so_far.counted, taken.counted, length-append bytes got);
+        waits = so_far.waits;
+      })
 
   -- ---- What is due.
 
@@ -265,29 +308,40 @@ module _ {P S : Type 0} (plays : P → ℕ → List ℕ → Bool → List ℕ �
   due_long lines begun long = ap (λ (b : Bool). if b then lines ++ begun ∷ [] else lines) (lt-ltb most_kept (length begun) long)
 
   -- where nothing waits, and what is held is begun, all is written that is due
-  pub all_written : (bytes sent : List ℕ) (player : P) (at : Progress) → IsBegun most_kept at → at.waiting ≡ [] → PlayedSoFar plays most_kept most_read first bytes sent player at
+  pub all_written : (bytes sent : List ℕ) (player : P) (at : Progress) → IsBegun most_kept at → at.waiting ≡ []
+      → PlayedSoFar plays most_kept most_read first bytes sent player at
       → IsDue most_kept most_read (PlaysLines plays first) bytes sent
   all_written bytes sent player at begun none so_far = by at.passes_over refl so_far.played
     where
       whole : sent ++ at.waiting ≡ sent
       whole = ap (λ (w : List ℕ). sent ++ w) none ∙ append-nil sent
 
-      by : (over : Bool) → at.passes_over ≡ over → ArePlayed plays most_kept first so_far.lines so_far.begun (sent ++ at.waiting) player over → IsDue most_kept most_read (PlaysLines plays first) bytes sent
+      by : (over : Bool) → at.passes_over ≡ over → ArePlayed plays most_kept first so_far.lines so_far.begun (sent ++ at.waiting) player
+          over → IsDue most_kept most_read (PlaysLines plays first) bytes sent
       by false is played = record {
         lines = so_far.lines;
         begun = at.held;
-        cut = ap (pieces_at line_feed) so_far.read ∙ pieces_behind so_far.seen at.held at.held so_far.lines so_far.begun [] so_far.cut played.0 begun.one_piece;
-        printed = (player, subst (λ (ls : List (List ℕ)). PlaysOn plays first ls sent player) (sym (due_short so_far.lines at.held begun.fits)) (subst (λ (t : List ℕ). PlaysOn plays first so_far.lines t player) whole played.1));
+        cut =
+            ap (pieces_at line_feed) so_far.read ∙ pieces_behind so_far.seen at.held at.held so_far.lines so_far.begun [] so_far.cut
+            played.0 begun.one_piece;
+        printed = (
+          player,
+          subst (λ (ls : List (List ℕ)). PlaysOn plays first ls sent player) (sym (due_short so_far.lines at.held begun.fits))
+              (subst (λ (t : List ℕ). PlaysOn plays first so_far.lines t player) whole played.1),
+        );
         within = omega (arith, so_far.counted);
       }
       by true is played = record {
         lines = so_far.lines;
         begun = so_far.begun;
-        cut = ap (pieces_at line_feed) (so_far.read ∙ (ap (λ (bs : List ℕ). so_far.seen ++ bs) (begun.passed is) ∙ append-nil so_far.seen)) ∙ so_far.cut;
+        cut =
+            ap (pieces_at line_feed) (so_far.read ∙ (ap (λ (bs : List ℕ). so_far.seen ++ bs) (begun.passed is) ∙ append-nil so_far.seen))
+            ∙ so_far.cut;
         printed = (
           player,
           subst (λ (ls : List (List ℕ)). PlaysOn plays first ls sent player) (sym (due_long so_far.lines so_far.begun played.long))
-              (line_more so_far.lines played.before played.more sent played.between player so_far.begun played.on played.plays_line (sym whole ∙ played.printed)),
+              (line_more so_far.lines played.before played.more sent played.between player so_far.begun played.on played.plays_line
+              (sym whole ∙ played.printed)),
         );
         within = omega (arith, so_far.counted);
       }
@@ -295,15 +349,20 @@ module _ {P S : Type 0} (plays : P → ℕ → List ℕ → Bool → List ℕ �
   -- ---- The run ends.
 
   -- some bytes are played as a line that stands behind those so far, whatever may still be read
-  pub record IsNextLine (bytes sent : List ℕ) (player : P) (at : Progress) (so_far : PlayedSoFar plays most_kept most_read first bytes sent player at) (line : List ℕ) (feed : Bool) (more : List ℕ) : Type 0 where
+  pub record IsNextLine (bytes sent : List ℕ) (player : P) (at : Progress)
+      (so_far : PlayedSoFar plays most_kept most_read first bytes sent player at) (line : List ℕ) (feed : Bool) (more : List ℕ) : Type
+      0 where
     pub whole : List ℕ
     pub others : List (List ℕ)
     pub cut : pieces_at line_feed (bytes ++ more) ≡ so_far.lines ++ whole ∷ others
-    pub same : (next : P) (text : List ℕ) (stop : Option S) → plays player (length so_far.lines + 1) line feed text stop next → plays player (length so_far.lines + 1) whole (is_ended others) text stop next
+    pub same : (next : P) (text : List ℕ) (stop : Option S) → plays player (length so_far.lines + 1) line feed text stop next
+        → plays player (length so_far.lines + 1) whole (is_ended others) text stop next
 
   -- so the run ends by it
-  pub ends_by_line : (bytes sent : List ℕ) (player next : P) (old new : Progress) (line : List ℕ) (feed : Bool) (ending : Ended S) → old.passes_over ≡ false → length old.waiting < most_waiting
-      → (so_far : PlayedSoFar plays most_kept most_read first bytes sent player old) → ((more : List ℕ) → (old.ended ≡ true → more ≡ []) → IsNextLine bytes sent player old so_far line feed more)
+  pub ends_by_line : (bytes sent : List ℕ) (player next : P) (old new : Progress) (line : List ℕ) (feed : Bool) (ending : Ended S)
+      → old.passes_over ≡ false → length old.waiting < most_waiting
+      → (so_far : PlayedSoFar plays most_kept most_read first bytes sent player old)
+      → ((more : List ℕ) → (old.ended ≡ true → more ≡ []) → IsNextLine bytes sent player old so_far line feed more)
       → PlaysPart plays player old line feed next new (Some ending)
       → MayWait (PrintsLine plays) new.waiting × HasEnded plays most_read first bytes (sent ++ new.waiting) next old.ended ending
   ends_by_line bytes sent player next old new line feed (ended.Stopped stop) over short so_far next_line part =
@@ -313,8 +372,10 @@ module _ {P S : Type 0} (plays : P → ℕ → List ℕ → Bool → List ℕ �
         record {
           concludes = λ more may.
               let it = next_line more may in
-              plays_to _ so_far.lines it.whole it.others (sent ++ old.waiting) prints.text (sent ++ new.waiting) player next (Some stop) it.cut none.1
-              (it.same next prints.text (Some stop) (subst (λ (n : ℕ). plays player n line feed prints.text (Some stop) next) so_far.numbered prints.plays))
+              plays_to _ so_far.lines it.whole it.others (sent ++ old.waiting) prints.text (sent ++ new.waiting) player next (Some stop)
+              it.cut none.1
+              (it.same next prints.text (Some stop) (subst (λ (n : ℕ). plays player n line feed prints.text (Some stop) next)
+              so_far.numbered prints.plays))
               (ap (λ (w : List ℕ). sent ++ w) prints.behind ∙ sym (append_assoc sent old.waiting prints.text)) (λ is. absurd (cc));
           reads = tt;
         },
@@ -323,7 +384,12 @@ module _ {P S : Type 0} (plays : P → ℕ → List ℕ → Bool → List ℕ �
       let same : new.waiting ≡ old.waiting = ap (λ (p : Progress). p.waiting) part in (
         subst (MayWait (PrintsLine plays)) (sym same) so_far.waits,
         record {
-          concludes = λ more may. (player, subst (λ (w : List ℕ). PlaysSome plays first (pieces_at line_feed (bytes ++ more)) (sent ++ w) player) (sym same) (some_so_far bytes sent player old so_far more));
+          concludes =
+              λ more may. (
+                player,
+                subst (λ (w : List ℕ). PlaysSome plays first (pieces_at line_feed (bytes ++ more)) (sent ++ w) player)
+                    (sym same) (some_so_far bytes sent player old so_far more),
+              );
           reads = tt;
         },
       )
@@ -332,7 +398,8 @@ module _ {P S : Type 0} (plays : P → ℕ → List ℕ → Bool → List ℕ �
   ends_by_line bytes sent player next old new line feed ended.Broken over short so_far next_line part = absurd part
 
   -- the last line was played
-  pub ends_at_last : (bytes sent : List ℕ) (player next : P) (old new : Progress) → old.passes_over ≡ false → old.ended ≡ true → length old.waiting < most_waiting → IsOnePiece old.held
+  pub ends_at_last : (bytes sent : List ℕ) (player next : P) (old new : Progress) → old.passes_over ≡ false → old.ended ≡ true
+      → length old.waiting < most_waiting → IsOnePiece old.held
       → PlaysPart plays player old old.held false next new None → PlayedSoFar plays most_kept most_read first bytes sent player old
       → MayWait (PrintsLine plays) new.waiting × HasEnded plays most_read first bytes (sent ++ new.waiting) next old.ended ended.AtEnd
   ends_at_last bytes sent player next old new over end short one part so_far =
@@ -342,7 +409,8 @@ module _ {P S : Type 0} (plays : P → ℕ → List ℕ → Bool → List ℕ �
         record {
           concludes = λ more may.
               plays_to _ so_far.lines old.held [] (sent ++ old.waiting) prints.text (sent ++ new.waiting) player next None
-              (ap (pieces_at line_feed) (ap (λ (bs : List ℕ). bytes ++ bs) (may end) ∙ (append-nil bytes ∙ so_far.read)) ∙ pieces_behind so_far.seen old.held old.held so_far.lines so_far.begun [] so_far.cut none.0 one)
+              (ap (pieces_at line_feed) (ap (λ (bs : List ℕ). bytes ++ bs) (may end) ∙ (append-nil bytes ∙ so_far.read))
+              ∙ pieces_behind so_far.seen old.held old.held so_far.lines so_far.begun [] so_far.cut none.0 one)
               none.1 (subst (λ (n : ℕ). plays player n old.held false prints.text None next) so_far.numbered prints.plays)
               (ap (λ (w : List ℕ). sent ++ w) prints.behind ∙ sym (append_assoc sent old.waiting prints.text)) (λ is. refl);
           reads = (end, omega (arith, so_far.counted));
@@ -350,7 +418,8 @@ module _ {P S : Type 0} (plays : P → ℕ → List ℕ → Bool → List ℕ �
       )
 
   -- or one that was played before, as it is too long
-  pub ends_over : (bytes sent : List ℕ) (player : P) (old new : Progress) → old.passes_over ≡ true → old.ended ≡ true → IsOnePiece old.held → new ≡ record old { held = [] }
+  pub ends_over : (bytes sent : List ℕ) (player : P) (old new : Progress) → old.passes_over ≡ true → old.ended ≡ true → IsOnePiece old.held
+      → new ≡ record old { held = [] }
       → PlayedSoFar plays most_kept most_read first bytes sent player old
       → MayWait (PrintsLine plays) new.waiting × HasEnded plays most_read first bytes (sent ++ new.waiting) player old.ended ended.AtEnd
   ends_over bytes sent player old new over end one is so_far =
@@ -360,8 +429,10 @@ module _ {P S : Type 0} (plays : P → ℕ → List ℕ → Bool → List ℕ �
         record {
           concludes = λ more may.
               plays_to _ so_far.lines (so_far.begun ++ old.held) [] cut.before cut.more (sent ++ new.waiting) cut.between player None
-              (ap (pieces_at line_feed) (ap (λ (bs : List ℕ). bytes ++ bs) (may end) ∙ (append-nil bytes ∙ so_far.read)) ∙ goes_on_behind so_far.seen old.held so_far.lines so_far.begun old.held [] so_far.cut one)
-              cut.on (too_long cut.between player (length so_far.lines + 1) so_far.begun old.held cut.more false None cut.long cut.plays_line)
+              (ap (pieces_at line_feed) (ap (λ (bs : List ℕ). bytes ++ bs) (may end) ∙ (append-nil bytes ∙ so_far.read))
+              ∙ goes_on_behind so_far.seen old.held so_far.lines so_far.begun old.held [] so_far.cut one)
+              cut.on (too_long cut.between player (length so_far.lines + 1) so_far.begun old.held cut.more false None cut.long
+              cut.plays_line)
               (ap (λ (w : List ℕ). sent ++ w) same ∙ cut.printed) (λ none. refl);
           reads = (end, omega (arith, so_far.counted));
         },
@@ -370,7 +441,9 @@ module _ {P S : Type 0} (plays : P → ℕ → List ℕ → Bool → List ℕ �
   -- ---- Which line it is.
 
   -- one whose line feed was found
-  pub ended_is_next : (bytes sent : List ℕ) (player : P) (at : Progress) (so_far : PlayedSoFar plays most_kept most_read first bytes sent player at) (count : ℕ) → at.passes_over ≡ false → IsEndedAfter at.held (Some count) → (more : List ℕ)
+  pub ended_is_next : (bytes sent : List ℕ) (player : P) (at : Progress)
+      (so_far : PlayedSoFar plays most_kept most_read first bytes sent player at) (count : ℕ) → at.passes_over ≡ false
+      → IsEndedAfter at.held (Some count) → (more : List ℕ)
       → IsNextLine bytes sent player at so_far (take count at.held) true more
   ended_is_next bytes sent player at so_far count over found more =
       let none = none_over so_far.lines so_far.begun (sent ++ at.waiting) player at.passes_over over so_far.played in
@@ -384,12 +457,15 @@ module _ {P S : Type 0} (plays : P → ℕ → List ℕ → Bool → List ℕ �
         cut = ap (λ (bs : List ℕ). pieces_at line_feed (bs ++ more)) so_far.read
             ∙ (ap (pieces_at line_feed) (append_assoc so_far.seen at.held more)
             ∙ pieces_behind so_far.seen (at.held ++ more) line so_far.lines so_far.begun (behind.0 ∷ behind.1) so_far.cut none.0
-            (ap (pieces_at line_feed) held ∙ (ended_piece line (rest ++ more) behind.0 behind.1 found.1 behind.2 ∙ ap (λ (l : List ℕ). l ∷ behind.0 ∷ behind.1) (append-nil line))));
+            (ap (pieces_at line_feed) held ∙ (ended_piece line (rest ++ more) behind.0 behind.1 found.1 behind.2
+            ∙ ap (λ (l : List ℕ). l ∷ behind.0 ∷ behind.1) (append-nil line))));
         same = λ next text stop made. made;
       }
 
   -- one that is too long
-  pub long_is_next : (bytes sent : List ℕ) (player : P) (at : Progress) (so_far : PlayedSoFar plays most_kept most_read first bytes sent player at) → at.passes_over ≡ false → IsOnePiece at.held → most_kept < length at.held → (more : List ℕ)
+  pub long_is_next : (bytes sent : List ℕ) (player : P) (at : Progress)
+      (so_far : PlayedSoFar plays most_kept most_read first bytes sent player at) → at.passes_over ≡ false → IsOnePiece at.held
+      → most_kept < length at.held → (more : List ℕ)
       → IsNextLine bytes sent player at so_far at.held true more
   long_is_next bytes sent player at so_far over one long more =
       let none = none_over so_far.lines so_far.begun (sent ++ at.waiting) player at.passes_over over so_far.played in
@@ -399,18 +475,24 @@ module _ {P S : Type 0} (plays : P → ℕ → List ℕ → Bool → List ℕ �
         others = behind.1;
         cut = ap (λ (bs : List ℕ). pieces_at line_feed (bs ++ more)) so_far.read
             ∙ (ap (pieces_at line_feed) (append_assoc so_far.seen at.held more)
-            ∙ pieces_behind so_far.seen (at.held ++ more) (at.held ++ behind.0) so_far.lines so_far.begun behind.1 so_far.cut none.0 (goes_on_behind at.held more [] at.held behind.0 behind.1 one behind.2));
-        same = λ next text stop made. too_long player next (length so_far.lines + 1) at.held behind.0 text (is_ended behind.1) stop long made;
+            ∙ pieces_behind so_far.seen (at.held ++ more) (at.held ++ behind.0) so_far.lines so_far.begun behind.1 so_far.cut none.0
+            (goes_on_behind at.held more [] at.held behind.0 behind.1 one behind.2));
+        same =
+            λ next text stop made. too_long player next (length so_far.lines + 1) at.held behind.0 text (is_ended behind.1) stop long made;
       }
 
   -- the last one
-  pub last_is_next : (bytes sent : List ℕ) (player : P) (at : Progress) (so_far : PlayedSoFar plays most_kept most_read first bytes sent player at) → at.passes_over ≡ false → IsOnePiece at.held → (more : List ℕ) → more ≡ []
+  pub last_is_next : (bytes sent : List ℕ) (player : P) (at : Progress)
+      (so_far : PlayedSoFar plays most_kept most_read first bytes sent player at) → at.passes_over ≡ false → IsOnePiece at.held
+      → (more : List ℕ) → more ≡ []
       → IsNextLine bytes sent player at so_far at.held false more
   last_is_next bytes sent player at so_far over one more nothing =
       let none = none_over so_far.lines so_far.begun (sent ++ at.waiting) player at.passes_over over so_far.played in
       record {
         whole = at.held;
         others = [];
-        cut = ap (pieces_at line_feed) (ap (λ (bs : List ℕ). bytes ++ bs) nothing ∙ (append-nil bytes ∙ so_far.read)) ∙ pieces_behind so_far.seen at.held at.held so_far.lines so_far.begun [] so_far.cut none.0 one;
+        cut =
+            ap (pieces_at line_feed) (ap (λ (bs : List ℕ). bytes ++ bs) nothing ∙ (append-nil bytes ∙ so_far.read))
+            ∙ pieces_behind so_far.seen at.held at.held so_far.lines so_far.begun [] so_far.cut none.0 one;
         same = λ next text stop made. made;
       }

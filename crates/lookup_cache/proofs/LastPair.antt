@@ -46,10 +46,12 @@ module _ {K V : Type 0} (eq : K → K → Bool) (laws : IsEquivalence eq) where
   not_found k (e ∷ es) apart = ap (λ b. cond b (Some e) (lookup_entry (eq k) es)) apart.0 ∙ not_found k es apart.1
 
   -- a pair that stood before the others is put before them, where there is room
-  pub put_before : (es : List (K × V)) (e : K × V) (fs : List (K × V)) (n : ℕ) → IsDistinct eq (keys_of (es ++ e ∷ fs)) → length (es ++ e ∷ fs) ≤ n
+  pub put_before : (es : List (K × V)) (e : K × V) (fs : List (K × V)) (n : ℕ) → IsDistinct eq (keys_of (es ++ e ∷ fs))
+      → length (es ++ e ∷ fs) ≤ n
       → put_entries eq (lru_cache fs n) e.0 e.1 ≡ e ∷ fs
   put_before es e fs n distinct within =
       let long = length-append es (e ∷ fs) in
       let room : length fs ≤ n - 1 = omega arith in
-      ap (λ o. option_map_or (λ f. (f.0, e.1) ∷ remove_entry (eq e.0) fs) o (e ∷ take (n - 1) fs)) (not_found e.0 fs (IsDistinct-head eq e.0 (keys_of fs) (distinct_behind es (e ∷ fs) distinct)))
+      ap (λ o. option_map_or (λ f. (f.0, e.1) ∷ remove_entry (eq e.0) fs) o (e ∷ take (n - 1) fs))
+      (not_found e.0 fs (IsDistinct-head eq e.0 (keys_of fs) (distinct_behind es (e ∷ fs) distinct)))
       ∙ ap (λ l. e ∷ l) (take_whole (n - 1) fs room)

@@ -26,21 +26,25 @@ module _ {K V : Type 0} where
   removed_none test [] none = refl
   removed_none test (e ∷ es) none = by (test e.0) none (removed_none test es)
     where
-      by : (b : Bool) → cond b (Some e) (lookup_entry test es) ≡ None → (lookup_entry test es ≡ None → remove_entry test es ≡ es) → cond b es (e ∷ remove_entry test es) ≡ e ∷ es
+      by : (b : Bool) → cond b (Some e) (lookup_entry test es) ≡ None → (lookup_entry test es ≡ None → remove_entry test es ≡ es)
+          → cond b es (e ∷ remove_entry test es) ≡ e ∷ es
       by true none later = cc
       by false none later = ap (λ l. e ∷ l) (later none)
 
-  pub length-removed : (test : K → Bool) (es : List (K × V)) (f : K × V) → lookup_entry test es ≡ Some f → length (remove_entry test es) + 1 ≡ length es
+  pub length-removed : (test : K → Bool) (es : List (K × V)) (f : K × V) → lookup_entry test es ≡ Some f
+      → length (remove_entry test es) + 1 ≡ length es
   length-removed test [] f found = cc
   length-removed test (e ∷ es) f found = by (test e.0) found (length-removed test es f)
     where
-      by : (b : Bool) → cond b (Some e) (lookup_entry test es) ≡ Some f → (lookup_entry test es ≡ Some f → length (remove_entry test es) + 1 ≡ length es)
+      by : (b : Bool) → cond b (Some e) (lookup_entry test es) ≡ Some f
+          → (lookup_entry test es ≡ Some f → length (remove_entry test es) + 1 ≡ length es)
           → length (cond b es (e ∷ remove_entry test es)) + 1 ≡ length (e ∷ es)
       by true found later = omega arith
       by false found later = let less = later found in omega arith
 
   -- what comes to the front is the pair that was found
-  pub first-promoted : (test : K → Bool) (es : List (K × V)) → is_some (lookup test es) ≡ true → option_map (λ e. e.1) (slice_get (promoted test es) 0) ≡ lookup test es
+  pub first-promoted : (test : K → Bool) (es : List (K × V)) → is_some (lookup test es) ≡ true
+      → option_map (λ e. e.1) (slice_get (promoted test es) 0) ≡ lookup test es
   first-promoted test es there = by (lookup_entry test es) (lookup-lookup_entry test es) there
     where
       by : (o : Option (K × V)) → option_map (λ e. e.1) o ≡ lookup test es → is_some (lookup test es) ≡ true
@@ -56,22 +60,26 @@ module _ {K V : Type 0} where
     -- ---- a pair is put: it stands in front, in place of one of its key, and the last goes where there are too many
     put_by : (k : K) (v : V) (es : List (K × V)) (n : ℕ) → length es ≤ n → 0 < n → (o : Option (K × V)) → lookup_entry (eq k) es ≡ o
         → option_map_or (λ e. (e.0, v) ∷ remove_entry (eq k) es) o ((k, v) ∷ take (n - 1) es) ≡ take n ((k, v) ∷ remove_entry (eq k) es)
-    put_by k v es n within some None found = sym (take_first n (k, v) (remove_entry (eq k) es) some ∙ ap (λ l. (k, v) ∷ take (n - 1) l) (removed_none (eq k) es found))
+    put_by k v es n within some None found =
+        sym (take_first n (k, v) (remove_entry (eq k) es) some ∙ ap (λ l. (k, v) ∷ take (n - 1) l) (removed_none (eq k) es found))
     put_by k v es n within some (Some e) found =
         let less = length-removed (eq k) es e found in
         ap (λ (f : K × V). (f.0, v) ∷ remove_entry (eq k) es) (found_key k es e found)
         ∙ sym (take_whole n ((k, v) ∷ remove_entry (eq k) es) (omega arith))
 
-    pub put_is : (c : LruCache K V) (k : K) (v : V) → IsValid eq c → put_entries eq c k v ≡ take c.cap ((k, v) ∷ remove_entry (eq k) c.entries)
+    pub put_is : (c : LruCache K V) (k : K) (v : V) → IsValid eq c
+        → put_entries eq c k v ≡ take c.cap ((k, v) ∷ remove_entry (eq k) c.entries)
     put_is c k v valid = put_by k v c.entries c.cap valid.1 valid.2 (lookup_entry (eq k) c.entries) refl
 
     -- ---- a pair is used: it comes to the front in the same way
     used_by : (k : K) (es : List (K × V)) (n : ℕ) → length es ≤ n → (o : Option (K × V)) → lookup_entry (eq k) es ≡ o
-        → option_map_or (λ e. e ∷ remove_entry (eq k) es) o es ≡ option_map_or (λ v. take n ((k, v) ∷ remove_entry (eq k) es)) (option_map (λ e. e.1) o) es
+        → option_map_or (λ e. e ∷ remove_entry (eq k) es) o es ≡ option_map_or (λ v. take n ((k, v) ∷ remove_entry (eq k) es))
+        (option_map (λ e. e.1) o) es
     used_by k es n within None found = refl
     used_by k es n within (Some e) found =
         let less = length-removed (eq k) es e found in
-        ap (λ (f : K × V). f ∷ remove_entry (eq k) es) (found_key k es e found) ∙ sym (take_whole n ((k, e.1) ∷ remove_entry (eq k) es) (omega arith))
+        ap (λ (f : K × V). f ∷ remove_entry (eq k) es) (found_key k es e found)
+        ∙ sym (take_whole n ((k, e.1) ∷ remove_entry (eq k) es) (omega arith))
 
     pub used_is : (k : K) (es : List (K × V)) (n : ℕ) → length es ≤ n
         → promoted (eq k) es ≡ option_map_or (λ v. take n ((k, v) ∷ remove_entry (eq k) es)) (lookup (eq k) es) es
@@ -80,7 +88,8 @@ module _ {K V : Type 0} where
         ∙ ap (λ o. option_map_or (λ v. take n ((k, v) ∷ remove_entry (eq k) es)) o es) (lookup-lookup_entry (eq k) es)
 
     -- ---- a pair is forgotten, if the key has just that value
-    module _ (laws : IsEquivalence eq) (same : V → V → Bool) (one : (a b : V) → same a b ≡ true → a ≡ b) (itself : (a : V) → same a a ≡ true) (k : K) (v : V) where
+    module _ (laws : IsEquivalence eq) (same : V → V → Bool) (one : (a b : V) → same a b ≡ true → a ≡ b)
+        (itself : (a : V) → same a a ≡ true) (k : K) (v : V) where
       abbrev is_it : K × V → Bool
       is_it pair = eq k pair.0 && same v pair.1
 
@@ -94,23 +103,32 @@ module _ {K V : Type 0} where
           ap (λ b. cond (not b) (e ∷ filter (λ p. not (is_it p)) es) (filter (λ p. not (is_it p)) es)) (kept e apart.0)
           ∙ ap (λ l. e ∷ l) (all_kept es apart.1)
 
-      behind : (e : K × V) (es : List (K × V)) → eq k e.0 ≡ true → IsDistinct eq (keys_of (e ∷ es)) → AllByRecursion (λ y. eq k y ≡ false) (keys_of es)
-      behind e es is distinct = subst (λ q. AllByRecursion (λ y. eq q y ≡ false) (keys_of es)) (sym (exact k e.0 is)) (IsDistinct-head eq e.0 (keys_of es) distinct)
+      behind : (e : K × V) (es : List (K × V)) → eq k e.0 ≡ true → IsDistinct eq (keys_of (e ∷ es))
+          → AllByRecursion (λ y. eq k y ≡ false) (keys_of es)
+      behind e es is distinct =
+          subst (λ q. AllByRecursion (λ y. eq q y ≡ false) (keys_of es)) (sym (exact k e.0 is))
+          (IsDistinct-head eq e.0 (keys_of es) distinct)
 
-      pub forgot_it : (es : List (K × V)) → IsDistinct eq (keys_of es) → lookup (eq k) es ≡ Some v → remove_entry (eq k) es ≡ filter (λ p. not (is_it p)) es
+      pub forgot_it : (es : List (K × V)) → IsDistinct eq (keys_of es) → lookup (eq k) es ≡ Some v
+          → remove_entry (eq k) es ≡ filter (λ p. not (is_it p)) es
       forgot_it [] distinct found = cc
       forgot_it (e ∷ es) distinct found = by (eq k e.0) refl found (forgot_it es (IsDistinct-tail eq e.0 (keys_of es) distinct))
         where
-          by : (b : Bool) → eq k e.0 ≡ b → cond b (Some e.1) (lookup (eq k) es) ≡ Some v → (lookup (eq k) es ≡ Some v → remove_entry (eq k) es ≡ filter (λ p. not (is_it p)) es)
-              → cond b es (e ∷ remove_entry (eq k) es) ≡ cond (not (b && same v e.1)) (e ∷ filter (λ p. not (is_it p)) es) (filter (λ p. not (is_it p)) es)
+          by : (b : Bool) → eq k e.0 ≡ b → cond b (Some e.1) (lookup (eq k) es) ≡ Some v
+              → (lookup (eq k) es ≡ Some v → remove_entry (eq k) es ≡ filter (λ p. not (is_it p)) es)
+              → cond b es (e ∷ remove_entry (eq k) es) ≡ cond (not (b && same v e.1)) (e ∷ filter (λ p. not (is_it p)) es)
+              (filter (λ p. not (is_it p)) es)
           by true is found later =
               let its : same v e.1 ≡ true = subst (λ w. same v w ≡ true) (sym (same_Some e.1 v found)) (itself v) in
-              sym (ap (λ b. cond (not b) (e ∷ filter (λ p. not (is_it p)) es) (filter (λ p. not (is_it p)) es)) its ∙ all_kept es (behind e es is distinct))
+              sym (ap (λ b. cond (not b) (e ∷ filter (λ p. not (is_it p)) es) (filter (λ p. not (is_it p)) es)) its
+              ∙ all_kept es (behind e es is distinct))
           by false is found later = ap (λ l. e ∷ l) (later found)
 
-      pub forgot_none : (es : List (K × V)) → IsDistinct eq (keys_of es) → (lookup (eq k) es ≡ Some v → ⊥) → es ≡ filter (λ p. not (is_it p)) es
+      pub forgot_none : (es : List (K × V)) → IsDistinct eq (keys_of es) → (lookup (eq k) es ≡ Some v → ⊥)
+          → es ≡ filter (λ p. not (is_it p)) es
       forgot_none [] distinct absent = refl
-      forgot_none (e ∷ es) distinct absent = by (eq k e.0) refl (same v e.1) refl absent (forgot_none es (IsDistinct-tail eq e.0 (keys_of es) distinct))
+      forgot_none (e ∷ es) distinct absent =
+          by (eq k e.0) refl (same v e.1) refl absent (forgot_none es (IsDistinct-tail eq e.0 (keys_of es) distinct))
         where
           by : (b : Bool) → eq k e.0 ≡ b → (s : Bool) → same v e.1 ≡ s → (cond b (Some e.1) (lookup (eq k) es) ≡ Some v → ⊥)
               → ((lookup (eq k) es ≡ Some v → ⊥) → es ≡ filter (λ p. not (is_it p)) es)

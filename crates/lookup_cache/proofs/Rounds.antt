@@ -30,20 +30,23 @@ pub not_turned : (view : ViewValue) (was : List Hint) → IsTurned view 0 was wa
 not_turned view was = record { front = was; back = []; was_is = sym (append-nil was); now_is = refl; turns_is = refl }
 
 -- the last one is turned
-turned_push : (view : ViewValue) (hints : List Hint) (hint : Hint) → turned view (hints ++ hint ∷ []) ≡ living_hints view (hint ∷ []) ++ hints
+turned_push : (view : ViewValue) (hints : List Hint) (hint : Hint)
+    → turned view (hints ++ hint ∷ []) ≡ living_hints view (hint ∷ []) ++ hints
 turned_push view hints hint =
     let last = last_of_push hints hint in
     ap (λ o. option_map_or (λ p. living_hints view (p ∷ []) ++ take (length (hints ++ hint ∷ []) - 1) (hints ++ hint ∷ [])) o []) last.0
     ∙ ap (λ l. living_hints view (hint ∷ []) ++ l) last.1
 
-living-cons : (view : ViewValue) (hint : Hint) (hints : List Hint) → living_hints view (hint ∷ []) ++ living_hints view hints ≡ living_hints view (hint ∷ hints)
+living-cons : (view : ViewValue) (hint : Hint) (hints : List Hint)
+    → living_hints view (hint ∷ []) ++ living_hints view hints ≡ living_hints view (hint ∷ hints)
 living-cons view hint hints = by (not (is_dead_in view hint.1.silo))
   where
     by : (b : Bool) → cond b (hint ∷ []) [] ++ living_hints view hints ≡ cond b (hint ∷ living_hints view hints) (living_hints view hints)
     by true = refl
     by false = refl
 
-pub turned_once_more : (view : ViewValue) (turns : ℕ) (was now next : List Hint) → IsTurned view turns was now → turns < length was → next ≡ turned view now
+pub turned_once_more : (view : ViewValue) (turns : ℕ) (was now next : List Hint) → IsTurned view turns was now → turns < length was
+    → next ≡ turned view now
     → IsTurned view (turns + 1) was next
 turned_once_more view turns was now next is more turn =
     let long : length was ≡ length is.front + length is.back = ap (λ (l : List Hint). length l) is.was_is ∙ length-append is.front is.back in
@@ -54,7 +57,8 @@ turned_once_more view turns was now next is more turn =
       back = end.1 ∷ is.back;
       was_is = is.was_is ∙ ap (λ l. l ++ is.back) end.2 ∙ append_assoc end.0 (end.1 ∷ []) is.back;
       now_is = turn
-          ∙ ap (λ l. turned view l) (is.now_is ∙ ap (λ l. living_hints view is.back ++ l) end.2 ∙ sym (append_assoc (living_hints view is.back) end.0 (end.1 ∷ [])))
+          ∙ ap (λ l. turned view l) (is.now_is ∙ ap (λ l. living_hints view is.back ++ l) end.2
+          ∙ sym (append_assoc (living_hints view is.back) end.0 (end.1 ∷ [])))
           ∙ turned_push view (living_hints view is.back ++ end.0) end.1
           ∙ sym (append_assoc (living_hints view (end.1 ∷ [])) (living_hints view is.back) end.0)
           ∙ ap (λ l. l ++ end.0) (living-cons view end.1 is.back);
@@ -87,7 +91,8 @@ module _ (view : ViewValue) (hints : List Hint) (hint : Hint) (last : last_entry
           let its : end.1 ≡ hint = same_Some end.1 hint (sym some.0 ∙ ap (λ (m : List Hint). last_entry m) (sym (same ∙ end.2)) ∙ last) in
           record { front = end.0; is = same ∙ end.2 ∙ ap (λ (e : Hint). end.0 ++ e ∷ []) its }
 
-  pub turned_living : IsDistinct grain_eq (keys_of hints) → is_dead_in view hint.1.silo ≡ false → promoted (grain_eq hint.0) hints ≡ turned view hints
+  pub turned_living : IsDistinct grain_eq (keys_of hints) → is_dead_in view hint.1.silo ≡ false
+      → promoted (grain_eq hint.0) hints ≡ turned view hints
   turned_living distinct lives =
       let end = is_end in
       ap (λ (l : List Hint). promoted (grain_eq hint.0) l) end.is

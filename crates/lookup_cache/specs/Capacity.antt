@@ -3,7 +3,7 @@ use Rattle.std.specs.Prelude.{ℕ, ◌<◌, ◌≤◌, length}
 use Rattle.std.specs.List.{IsDistinct}
 use Rattle.std.specs.Map.{keys_of}
 use Rattle.silo_address.specs.Grain.{grain_eq}
-use Rattle.directory_rules.specs.Cache.{Cache}
+use Rattle.directory_rules.specs.State.{Cache}
 
 -- how many hints a cache may be made for: 1 to 65536
 abbrev pub IsCapacity : ℕ → Type 0

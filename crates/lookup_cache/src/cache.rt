@@ -23,7 +23,7 @@ pub struct Cache {
 }
 
 impl Model for Cache {
-    ghost use Rattle.directory_rules.specs.Cache.{Cache as CacheValue};
+    ghost use Rattle.directory_rules.specs.State.{Cache as CacheValue};
 
     ghost Value = { CacheValue };
 

@@ -34,7 +34,8 @@ same_or_not a b = by (is_at (silo_cmp a) b) refl
         differ e = let yes : is_at (silo_cmp a) b ≡ true = ap (λ k. is_at (silo_cmp a) k) e ∙ ap is_eq (tied_itself silo_cmp_total a) in cc
 
 -- one view and one change leave no choice of the next view's statuses
-joins_alike : (silo : Silo) (view next other : ViewValue) → Joins silo view next → Joins silo view other → (q : Silo) → status_of next q ≡ status_of other q
+joins_alike : (silo : Silo) (view next other : ViewValue) → Joins silo view next → Joins silo view other → (q : Silo)
+    → status_of next q ≡ status_of other q
 joins_alike silo view next other a b q = elim (same_or_not silo q) [
   | inl e ↦ ap (λ k. status_of next k) (sym e) ∙ a.joined ∙ sym b.joined ∙ ap (λ k. status_of other k) e
   | inr ne ↦ by ne (shares_endpoint silo q) refl
@@ -47,13 +48,15 @@ joins_alike silo view next other a b q = elim (same_or_not silo q) [
         apart : shares_endpoint silo q ≡ false → ¬ (IsSameEndpoint silo q)
         apart h same = let yes : shares_endpoint silo q ≡ true = (Decides-shares silo q).1 same in cc
 
-leaves_alike : (silo : Silo) (view next other : ViewValue) → Leaves silo view next → Leaves silo view other → (q : Silo) → status_of next q ≡ status_of other q
+leaves_alike : (silo : Silo) (view next other : ViewValue) → Leaves silo view next → Leaves silo view other → (q : Silo)
+    → status_of next q ≡ status_of other q
 leaves_alike silo view next other a b q = elim (same_or_not silo q) [
   | inl e ↦ ap (λ k. status_of next k) (sym e) ∙ a.left ∙ sym b.left ∙ ap (λ k. status_of other k) e
   | inr ne ↦ a.others q ne ∙ sym (b.others q ne)
 ]
 
-dies_alike : (silo : Silo) (view next other : ViewValue) → Dies silo view next → Dies silo view other → (q : Silo) → status_of next q ≡ status_of other q
+dies_alike : (silo : Silo) (view next other : ViewValue) → Dies silo view next → Dies silo view other → (q : Silo)
+    → status_of next q ≡ status_of other q
 dies_alike silo view next other a b q = elim (same_or_not silo q) [
   | inl e ↦ ap (λ k. status_of next k) (sym e) ∙ a.dead ∙ sym b.dead ∙ ap (λ k. status_of other k) e
   | inr ne ↦ a.others q ne ∙ sym (b.others q ne)
@@ -61,15 +64,19 @@ dies_alike silo view next other a b q = elim (same_or_not silo q) [
 
 -- a change that is accepted, with the statuses that it makes
 abbrev IsTaken : ViewsValue → Change → ViewValue → Type 0
-IsTaken views change view = (next : ViewsValue) × (after views change ≡ Ok next) × ((silo : Silo) → status_at next next.version silo ≡ status_of view silo)
+IsTaken views change view =
+    (next : ViewsValue) × (after views change ≡ Ok next) × ((silo : Silo) → status_at next next.version silo ≡ status_of view silo)
 
-joins_newest : (views : ViewsValue) → IsViews views → (silo : Silo) (view : ViewValue) → Joins silo (view_at views views.version) view → is_newest silo views.rows ≡ true
-joins_newest views whole silo view step = newest_from silo views.rows whole.in_order (λ q row found shares. step.newest q ((Decides-shares silo q).0 shares) (there q row found))
+joins_newest : (views : ViewsValue) → IsViews views → (silo : Silo) (view : ViewValue) → Joins silo (view_at views views.version) view
+    → is_newest silo views.rows ≡ true
+joins_newest views whole silo view step =
+    newest_from silo views.rows whole.in_order (λ q row found shares. step.newest q ((Decides-shares silo q).0 shares) (there q row found))
   where
     there : (q : Silo) (row : Row) → row_of views q ≡ Some row → IsSome (status_at views views.version q)
     there q row found =
         subst (λ o. IsSome o)
-        (sym (status_at-made views whole.in_order views.version q (omega arith) ∙ ap (λ o. option_and_then (status_in views.version) o) found))
+        (sym (status_at-made views whole.in_order views.version q (omega arith)
+        ∙ ap (λ o. option_and_then (status_in views.version) o) found))
         (there_from views.version row (whole.in_time q row found).joined_by)
 
 -- a join of the newest, by whether there is room
@@ -83,8 +90,10 @@ steps_are_changes views whole (Join silo) view step = by (nat_lt (length views.r
     newest : is_newest silo views.rows ≡ true
     newest = joins_newest views whole silo view step
 
-    by : (room : Bool) → nat_lt (length views.rows) views.limit ≡ room → (after views (Join silo) ≡ Err 205) ⊎ IsTaken views (Join silo) view
-    by false room = inl (ap (λ n. by_room views silo n (nat_lt (length views.rows) views.limit)) newest ∙ ap (λ r. by_room views silo true r) room)
+    by : (room : Bool) → nat_lt (length views.rows) views.limit ≡ room → (after views (Join silo) ≡ Err 205)
+        ⊎ IsTaken views (Join silo) view
+    by false room =
+        inl (ap (λ n. by_room views silo n (nat_lt (length views.rows) views.limit)) newest ∙ ap (λ r. by_room views silo true r) room)
     by true room =
         let next : ViewsValue = next_views views (joined_rows silo (views.version + 1) views.rows) in
         let is : after views (Join silo) ≡ Ok next =
@@ -114,7 +123,8 @@ steps_are_changes views whole (Die silo) view step =
           (changes_are_steps views (Die silo) next (record { whole = whole; is = is })) step,
     )
   where
-    by : (o : Option Status) → IsSome o → o ≢ Some Dead → die_from o views silo ≡ Ok (next_views views (changed (dying (views.version + 1)) silo views.rows))
+    by : (o : Option Status) → IsSome o → o ≢ Some Dead
+        → die_from o views silo ≡ Ok (next_views views (changed (dying (views.version + 1)) silo views.rows))
     by None there not_dead = cc
     by (Some Active) there not_dead = refl
     by (Some Leaving) there not_dead = refl

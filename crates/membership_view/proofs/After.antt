@@ -29,7 +29,8 @@ pub apart : (a b : Silo) → a ≢ b → is_at (silo_cmp a) b ≡ false
 apart a b ne = false_from_ne_true (is_at (silo_cmp a) b) (λ h. ne (silo_cmp_exact a b (Equal-from (silo_cmp a b) h)))
 
 -- the changed row of one silo, and the rows of all others
-pub row_status-changed : (version : ℕ) (change : Row → Row) (silo : Silo) (rows : List (Silo × Row)) (row : Row) → found_row rows silo ≡ Some row
+pub row_status-changed : (version : ℕ) (change : Row → Row) (silo : Silo) (rows : List (Silo × Row)) (row : Row)
+    → found_row rows silo ≡ Some row
     → (q : Silo) → row_status version (changed change silo rows) q
     ≡ (if is_at (silo_cmp silo) q then status_in version (change row) else row_status version rows q)
 row_status-changed version change silo rows row found q =
@@ -51,7 +52,8 @@ row_status-changed version change silo rows row found q =
 
 -- the row that is put in, and the rows of all others
 pub row_status-put_in : (version made : ℕ) (silo : Silo) (rows : List (Silo × Row)) (q : Silo)
-    → row_status version (put_in silo made rows) q ≡ (if is_at (silo_cmp q) silo then status_in version (joining made) else row_status version rows q)
+    → row_status version (put_in silo made rows) q ≡ (if is_at (silo_cmp q) silo then status_in version (joining made) else row_status
+    version rows q)
 row_status-put_in version made silo rows q =
     ap (λ o. option_and_then (status_in version) o) (lookup-insert_entry silo_cmp_total silo (joining made) q rows)
     ∙ by (is_at (silo_cmp q) silo)
@@ -73,16 +75,19 @@ pub same-changed : (version : ℕ) (change : Row → Row) (silo : Silo) (rows : 
 same-changed version change silo rows row found same q =
     row_status-changed version change silo rows row found q ∙ by (is_at (silo_cmp silo) q) refl
   where
-    by : (b : Bool) → is_at (silo_cmp silo) q ≡ b → (if b then status_in version (change row) else row_status version rows q) ≡ row_status version rows q
+    by : (b : Bool) → is_at (silo_cmp silo) q ≡ b → (if b then status_in version (change row) else row_status version rows q) ≡ row_status
+        version rows q
     by true at =
         same ∙ ap (λ o. option_and_then (status_in version) o)
         (sym found ∙ ap (λ k. found_row rows k) (silo_cmp_exact silo q (Equal-from (silo_cmp silo q) at)))
     by false at = refl
 
-same-put_in : (version made : ℕ) (silo : Silo) (rows : List (Silo × Row)) → is_newest silo rows ≡ true → version < made → SaysSame version (put_in silo made rows) rows
+same-put_in : (version made : ℕ) (silo : Silo) (rows : List (Silo × Row)) → is_newest silo rows ≡ true → version < made
+    → SaysSame version (put_in silo made rows) rows
 same-put_in version made silo rows newest h q = row_status-put_in version made silo rows q ∙ by (is_at (silo_cmp q) silo) refl
   where
-    by : (b : Bool) → is_at (silo_cmp q) silo ≡ b → (if b then status_in version (joining made) else row_status version rows q) ≡ row_status version rows q
+    by : (b : Bool) → is_at (silo_cmp q) silo ≡ b → (if b then status_in version (joining made) else row_status version rows q) ≡ row_status
+        version rows q
     by true at =
         status_before_joining version made h
         ∙ ap (λ o. option_and_then (status_in version) o)
@@ -90,7 +95,8 @@ same-put_in version made silo rows newest h q = row_status-put_in version made s
     by false at = refl
 
 -- a join leaves every earlier version as it was
-pub same-joined : (version made : ℕ) (silo : Silo) (rows : List (Silo × Row)) → IsStrictlySortedBy silo_cmp (keys_of rows) → is_newest silo rows ≡ true
+pub same-joined : (version made : ℕ) (silo : Silo) (rows : List (Silo × Row)) → IsStrictlySortedBy silo_cmp (keys_of rows)
+    → is_newest silo rows ≡ true
     → version < made → SaysSame version (joined_rows silo made rows) rows
 same-joined version made silo rows s newest h = by (occupant silo rows) refl
   where
@@ -104,15 +110,18 @@ same-joined version made silo rows s newest h = by (occupant silo rows) refl
         ∙ same-put_in version made silo rows newest h q
 
 -- rows that say the same of a version make one view of it
-pub rows_in-same : (version : ℕ) (after rows : List (Silo × Row)) → IsStrictlySortedBy silo_cmp (keys_of after) → IsStrictlySortedBy silo_cmp (keys_of rows)
+pub rows_in-same : (version : ℕ) (after rows : List (Silo × Row)) → IsStrictlySortedBy silo_cmp (keys_of after)
+    → IsStrictlySortedBy silo_cmp (keys_of rows)
     → SaysSame version after rows → rows_in version after ≡ rows_in version rows
 rows_in-same version after rows s t same =
     same_entries silo_cmp_total silo_cmp_exact (rows_in version after) (rows_in version rows)
     (sorted-picked silo_cmp_total (status_in version) after s) (sorted-picked silo_cmp_total (status_in version) rows t)
-    (λ q. lookup-picked silo_cmp_total (status_in version) q after s ∙ same q ∙ sym (lookup-picked silo_cmp_total (status_in version) q rows t))
+    (λ q. lookup-picked silo_cmp_total (status_in version) q after s ∙ same q
+    ∙ sym (lookup-picked silo_cmp_total (status_in version) q rows t))
 
 -- so the view stays
-pub view_at-same : (views : ViewsValue) (after : List (Silo × Row)) (version : ℕ) → version ≤ views.version → rows_in version after ≡ rows_in version views.rows
+pub view_at-same : (views : ViewsValue) (after : List (Silo × Row)) (version : ℕ) → version ≤ views.version
+    → rows_in version after ≡ rows_in version views.rows
     → view_at (next_views views after) version ≡ view_at views version
 view_at-same views after version h same =
     let now : nat_le version (views.version + 1) ≡ true = le-leb version (views.version + 1) (omega arith) in

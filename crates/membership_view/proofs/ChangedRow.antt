@@ -25,14 +25,16 @@ pub record IsFoundChanged (change : Row → Row) (silo : Silo) (rows : List (Sil
 
 pub found_changed : (change : Row → Row) (silo : Silo) (rows : List (Silo × Row)) (other : Silo) (after : Row)
     → found_row (changed change silo rows) other ≡ Some after → IsFoundChanged change silo rows other after
-found_changed change silo rows other after found = by (found_row rows other) refl (sym (lookup-changed silo_cmp_total change silo other rows) ∙ found)
+found_changed change silo rows other after found =
+    by (found_row rows other) refl (sym (lookup-changed silo_cmp_total change silo other rows) ∙ found)
   where
     which : (row : Row) (b : Bool) → is_at (silo_cmp silo) other ≡ b → (if b then change row else row) ≡ after
         → ((silo ≡ other) × (after ≡ change row)) ⊎ ((is_at (silo_cmp silo) other ≡ false) × (after ≡ row))
     which row true at is = inl (silo_cmp_exact silo other (Equal-from (silo_cmp silo other) at), sym is)
     which row false at is = inr (at, sym is)
 
-    by : (o : Option Row) → found_row rows other ≡ o → option_map (λ x. if is_at (silo_cmp silo) other then change x else x) o ≡ Some after → IsFoundChanged change silo rows other after
+    by : (o : Option Row) → found_row rows other ≡ o → option_map (λ x. if is_at (silo_cmp silo) other then change x else x) o ≡ Some after
+        → IsFoundChanged change silo rows other after
     by None h is = cc
     by (Some row) h is = record {
       row = row;
@@ -59,15 +61,18 @@ pub record IsChange (version : ℕ) (change : Row → Row) (row : Row) : Type 0 
   pub dead : (made : ℕ) → has_come row.dead made ≡ true → has_come (change row).dead made ≡ true
   pub counted : changes_of (change row) ≡ changes_of row + 1
 
-pub sum-changed : (change : Row → Row) (silo : Silo) (rows : List (Silo × Row)) (row : Row) → IsStrictlySortedBy silo_cmp (keys_of rows) → found_row rows silo ≡ Some row
-    → changes_of (change row) ≡ changes_of row + 1 → sum_by changes_of (values_of (changed change silo rows)) ≡ sum_by changes_of (values_of rows) + 1
+pub sum-changed : (change : Row → Row) (silo : Silo) (rows : List (Silo × Row)) (row : Row) → IsStrictlySortedBy silo_cmp (keys_of rows)
+    → found_row rows silo ≡ Some row
+    → changes_of (change row) ≡ changes_of row + 1 → sum_by changes_of (values_of (changed change silo rows)) ≡ sum_by changes_of
+    (values_of rows) + 1
 sum-changed change silo rows row s found more =
     let e : set_value (is_at (silo_cmp silo)) rows (change row) ≡ changed change silo rows = set_value-changed silo_cmp_total change silo rows row s found in
     let f : sum_by changes_of (values_of (set_value (is_at (silo_cmp silo)) rows (change row))) + changes_of row ≡ sum_by changes_of (values_of rows) + changes_of (change row)
     = sum_by-set_value changes_of (is_at (silo_cmp silo)) rows row (change row) found in
     let g : sum_by changes_of (values_of (changed change silo rows)) + changes_of row ≡ sum_by changes_of (values_of rows) + changes_of (change row)
     = ap (λ es. sum_by changes_of (values_of es) + changes_of row) (sym e) ∙ f in
-    sum (sum_by changes_of (values_of (changed change silo rows))) (sum_by changes_of (values_of rows)) (changes_of row) (changes_of (change row)) g more
+    sum (sum_by changes_of (values_of (changed change silo rows))) (sum_by changes_of (values_of rows)) (changes_of row)
+    (changes_of (change row)) g more
   where
     sum : (a b c d : ℕ) → a + c ≡ b + d → d ≡ c + 1 → a ≡ b + 1
     sum a b c d h k = omega arith
@@ -80,7 +85,9 @@ whole-changed views whole silo row found change ok = record {
   within_limit = subst (λ n. n ≤ views.limit) (sym (length-changed silo_cmp_total change silo views.rows)) whole.within_limit;
   in_order = subst (λ ks. IsStrictlySortedBy silo_cmp ks) (sym (keys-changed silo_cmp_total change silo views.rows)) whole.in_order;
   in_time = λ q after at. timely q after (found_changed change silo views.rows q after at);
-  older_dead = λ a b ra rb at_a at_b. dead_by a b ra rb (found_changed change silo views.rows a ra at_a) (found_changed change silo views.rows b rb at_b);
+  older_dead =
+      λ a b ra rb at_a at_b. dead_by a b ra rb (found_changed change silo views.rows a ra at_a)
+      (found_changed change silo views.rows b rb at_b);
   counted =
       let e = sum-changed change silo views.rows row whole.in_order found ok.counted in
       let k : views.version ≤ sum_by changes_of (values_of views.rows) = whole.counted in
@@ -93,16 +100,19 @@ whole-changed views whole silo row found change ok = record {
     timely : (q : Silo) (after : Row) → IsFoundChanged change silo views.rows q after → IsInTime (views.version + 1) after
     timely q after f = elim f.is [
       | inl e ↦ subst (λ x. IsInTime (views.version + 1) x) (sym (e.1 ∙ ap change (its_row q f.row e.0 f.found))) ok.in_time
-      | inr e ↦ subst (λ x. IsInTime (views.version + 1) x) (sym e.1) (in_time_later views.version (views.version + 1) f.row (omega arith) (whole.in_time q f.row f.found))
+      | inr e ↦ subst (λ x. IsInTime (views.version + 1) x) (sym e.1)
+          (in_time_later views.version (views.version + 1) f.row (omega arith) (whole.in_time q f.row f.found))
     ]
 
     joined_same : (q : Silo) (after : Row) → (f : IsFoundChanged change silo views.rows q after) → after.joined ≡ f.row.joined
     joined_same q after f = elim f.is [
-      | inl e ↦ let k = its_row q f.row e.0 f.found in ap (λ (x : Row). x.joined) (e.1 ∙ ap change k) ∙ ok.joined ∙ ap (λ (x : Row). x.joined) (sym k)
+      | inl e ↦ let k = its_row q f.row e.0 f.found in ap (λ (x : Row). x.joined) (e.1 ∙ ap change k) ∙ ok.joined
+          ∙ ap (λ (x : Row). x.joined) (sym k)
       | inr e ↦ ap (λ (x : Row). x.joined) e.1
     ]
 
-    dead_stays : (q : Silo) (after : Row) (made : ℕ) → (f : IsFoundChanged change silo views.rows q after) → has_come f.row.dead made ≡ true → has_come after.dead made ≡ true
+    dead_stays : (q : Silo) (after : Row) (made : ℕ) → (f : IsFoundChanged change silo views.rows q after) → has_come f.row.dead made ≡ true
+        → has_come after.dead made ≡ true
     dead_stays q after made f come = elim f.is [
       | inl e ↦
           let k = its_row q f.row e.0 f.found in

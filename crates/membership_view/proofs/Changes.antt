@@ -39,10 +39,12 @@ next_is : (views : ViewsValue) (rows : List (Silo × Row)) → IsViews (next_vie
 next_is views rows whole q = status_at-made (next_views views rows) whole.in_order (views.version + 1) q (omega arith)
 
 -- rows that stay say the same of the next version
-still : (views : ViewsValue) → IsViews views → (q : Silo) → row_status (views.version + 1) views.rows q ≡ row_status views.version views.rows q
+still : (views : ViewsValue) → IsViews views → (q : Silo)
+    → row_status (views.version + 1) views.rows q ≡ row_status views.version views.rows q
 still views whole q = by (found_row views.rows q) refl
   where
-    by : (o : Option Row) → found_row views.rows q ≡ o → option_and_then (status_in (views.version + 1)) o ≡ option_and_then (status_in views.version) o
+    by : (o : Option Row) → found_row views.rows q ≡ o
+        → option_and_then (status_in (views.version + 1)) o ≡ option_and_then (status_in views.version) o
     by None is = refl
     by (Some row) is = status_next views.version row (whole.in_time q row is)
 
@@ -53,7 +55,8 @@ others : (views : ViewsValue) (whole : IsViews views) (change : Row → Row) (si
 others views whole change silo row found kept q ne =
     next_is views (changed change silo views.rows) kept q
     ∙ row_status-changed (views.version + 1) change silo views.rows row found q
-    ∙ ap (λ b. if b then status_in (views.version + 1) (change row) else row_status (views.version + 1) views.rows q) (apart silo q (λ e. ne (sym e)))
+    ∙ ap (λ b. if b then status_in (views.version + 1) (change row) else row_status (views.version + 1) views.rows q)
+    (apart silo q (λ e. ne (sym e)))
     ∙ still views whole q
     ∙ sym (now_is views whole q)
 
@@ -68,12 +71,14 @@ itself views change silo row found kept =
 
 leaving_says : (version : ℕ) (row : Row) → row.dead ≡ None → status_in version (leaving version row) ≡ Some Leaving
 leaving_says version row none =
-    ap (λ c. if has_come c version then Some Dead else (if nat_le version version then Some Leaving else (if nat_le row.joined version then Some Active else None))) none
+    ap (λ c. if has_come c version then Some Dead else
+    (if nat_le version version then Some Leaving else (if nat_le row.joined version then Some Active else None))) none
     ∙ ap (λ b. if b then Some Leaving else (if nat_le row.joined version then Some Active else None)) (le-leb version version (omega arith))
 
 leave_step : (views : ViewsValue) → IsViews views → (silo : Silo) → status_at views views.version silo ≡ Some Active
     → IsViews (next_views views (changed (leaving (views.version + 1)) silo views.rows))
-    → Leaves silo (view_at views views.version) (view_at (next_views views (changed (leaving (views.version + 1)) silo views.rows)) (views.version + 1))
+    → Leaves silo (view_at views views.version) (view_at (next_views views (changed (leaving (views.version + 1)) silo views.rows))
+    (views.version + 1))
 leave_step views whole silo active kept =
     let has = has_row views whole silo Active active in
     let none = active_row views.version has.row (whole.in_time silo has.row has.found) has.says in
@@ -84,21 +89,26 @@ leave_step views whole silo active kept =
       others = λ q ne. others views whole (leaving (views.version + 1)) silo has.row has.found kept q ne;
     }
 
-death_step : (views : ViewsValue) → IsViews views → (silo : Silo) (was : Status) → status_at views views.version silo ≡ Some was → Some was ≢ Some Dead
+death_step : (views : ViewsValue) → IsViews views → (silo : Silo) (was : Status) → status_at views views.version silo ≡ Some was
+    → Some was ≢ Some Dead
     → IsViews (next_views views (changed (dying (views.version + 1)) silo views.rows))
-    → Dies silo (view_at views views.version) (view_at (next_views views (changed (dying (views.version + 1)) silo views.rows)) (views.version + 1))
+    → Dies silo (view_at views views.version) (view_at (next_views views (changed (dying (views.version + 1)) silo views.rows))
+    (views.version + 1))
 death_step views whole silo was there not_dead kept =
     let has = has_row views whole silo was there in
     record {
       rises = refl;
       was = subst (λ o. IsSome o) (sym there) refl;
       was_not = λ e. not_dead (sym there ∙ e);
-      dead = itself views (dying (views.version + 1)) silo has.row has.found kept ∙ dead_by (views.version + 1) (views.version + 1) (dying (views.version + 1) has.row) refl (omega arith);
+      dead =
+          itself views (dying (views.version + 1)) silo has.row has.found kept
+          ∙ dead_by (views.version + 1) (views.version + 1) (dying (views.version + 1) has.row) refl (omega arith);
       others = λ q ne. others views whole (dying (views.version + 1)) silo has.row has.found kept q ne;
     }
 
 -- the silo that joined
-joined_says : (made : ℕ) (silo : Silo) (rows : List (Silo × Row)) → is_newest silo rows ≡ true → (o : Option Silo) → ((old : Silo) → o ≡ Some old → occupant silo rows ≡ Some old)
+joined_says : (made : ℕ) (silo : Silo) (rows : List (Silo × Row)) → is_newest silo rows ≡ true → (o : Option Silo)
+    → ((old : Silo) → o ≡ Some old → occupant silo rows ≡ Some old)
     → IsStrictlySortedBy silo_cmp (keys_of rows)
     → row_status made (without o made (put_in silo made rows)) silo ≡ Some Active
 joined_says made silo rows newest o occupies s = by o occupies
@@ -109,12 +119,14 @@ joined_says made silo rows newest o occupies s = by o occupies
         ∙ ap (λ b. if b then status_in made (joining made) else row_status made rows silo) (at_itself silo)
         ∙ ap (λ b. if b then Some Active else None) (le-leb made made (omega arith))
 
-    by : (o : Option Silo) → ((old : Silo) → o ≡ Some old → occupant silo rows ≡ Some old) → row_status made (without o made (put_in silo made rows)) silo ≡ Some Active
+    by : (o : Option Silo) → ((old : Silo) → o ≡ Some old → occupant silo rows ≡ Some old)
+        → row_status made (without o made (put_in silo made rows)) silo ≡ Some Active
     by None occupies = put
     by (Some old) occupies =
         let is = occupant_is silo rows s old (occupies old refl) in
         row_status-changed made (dying made) old (put_in silo made rows) is.row (found_occupant silo made rows newest old is) silo
-        ∙ ap (λ b. if b then status_in made (dying made is.row) else row_status made (put_in silo made rows) silo) (apart old silo (not_itself silo rows newest old is))
+        ∙ ap (λ b. if b then status_in made (dying made is.row) else row_status made (put_in silo made rows) silo)
+        (apart old silo (not_itself silo rows newest old is))
         ∙ put
 
 -- what a silo other than the one that joined has after the join: nothing, where it has no row, or its row as it was or dying
@@ -123,7 +135,8 @@ IsOther silo made rows q =
     ((found_row (joined_rows silo made rows) q ≡ None) × (found_row rows q ≡ None))
     ⊎ ((next : Row) × (found_row (joined_rows silo made rows) q ≡ Some next) × IsOlder silo made rows q next)
 
-none_before : (silo : Silo) (made : ℕ) (rows : List (Silo × Row)) (q : Silo) → (o : Option Silo) → found_row (without o made (put_in silo made rows)) q ≡ None
+none_before : (silo : Silo) (made : ℕ) (rows : List (Silo × Row)) (q : Silo) → (o : Option Silo)
+    → found_row (without o made (put_in silo made rows)) q ≡ None
     → found_row rows q ≡ None
 none_before silo made rows q o none = by o none
   where
@@ -144,7 +157,8 @@ none_before silo made rows q o none = by o none
         unput (kept (λ x. if is_at (silo_cmp old) q then dying made x else x) (found_row (put_in silo made rows) q)
         (sym (lookup-changed silo_cmp_total (dying made) old q (put_in silo made rows)) ∙ h))
 
-other_is : (silo : Silo) (made : ℕ) (rows : List (Silo × Row)) → IsStrictlySortedBy silo_cmp (keys_of rows) → is_newest silo rows ≡ true → (q : Silo) → q ≢ silo
+other_is : (silo : Silo) (made : ℕ) (rows : List (Silo × Row)) → IsStrictlySortedBy silo_cmp (keys_of rows) → is_newest silo rows ≡ true
+    → (q : Silo) → q ≢ silo
     → IsOther silo made rows q
 other_is silo made rows s newest q ne = by (found_row (joined_rows silo made rows) q) refl
   where
@@ -160,10 +174,13 @@ dies None h = cc
 dies (Some status) h = refl
 
 -- an older silo of the endpoint is Dead
-older_says : (views : ViewsValue) → IsViews views → (silo : Silo) → is_newest silo views.rows ≡ true → (q : Silo) → IsSameEndpoint silo q → q ≢ silo
-    → row_status (views.version + 1) (joined_rows silo (views.version + 1) views.rows) q ≡ option_map (λ _. Dead) (row_status views.version views.rows q)
+older_says : (views : ViewsValue) → IsViews views → (silo : Silo) → is_newest silo views.rows ≡ true → (q : Silo) → IsSameEndpoint silo q
+    → q ≢ silo
+    → row_status (views.version + 1) (joined_rows silo (views.version + 1) views.rows) q ≡ option_map (λ _. Dead)
+    (row_status views.version views.rows q)
 older_says views whole silo newest q same ne = elim (other_is silo (views.version + 1) views.rows whole.in_order newest q ne) [
-  | inl e ↦ ap (λ o. option_and_then (status_in (views.version + 1)) o) e.0 ∙ sym (ap (λ o. option_map (λ _. Dead) (option_and_then (status_in views.version) o)) e.1)
+  | inl e ↦ ap (λ o. option_and_then (status_in (views.version + 1)) o) e.0
+      ∙ sym (ap (λ o. option_map (λ _. Dead) (option_and_then (status_in views.version) o)) e.1)
   | inr e ↦
       ap (λ o. option_and_then (status_in (views.version + 1)) o) e.1
       ∙ dead e.0 e.2
@@ -173,23 +190,27 @@ older_says views whole silo newest q same ne = elim (other_is silo (views.versio
   where
     dead_before : (row : Row) → row_of views q ≡ Some row → (occupant silo views.rows ≡ Some q → ⊥) → (o : Option ℕ) → row.dead ≡ o
         → status_in (views.version + 1) row ≡ Some Dead
-    dead_before row found not None none = absurd (not (occupant_some views.rows whole.in_order whole.older_dead silo q row found ((Decides-shares silo q).1 same) none))
+    dead_before row found not None none =
+        absurd (not (occupant_some views.rows whole.in_order whole.older_dead silo q row found ((Decides-shares silo q).1 same) none))
     dead_before row found not (Some made) is =
         let k : made ≤ views.version = ((whole.in_time q row found).dead_after made is).1 in
         dead_by (views.version + 1) made row is (omega arith)
 
     dead : (next : Row) → IsOlder silo (views.version + 1) views.rows q next → status_in (views.version + 1) next ≡ Some Dead
     dead next f = elim f.is [
-      | inl e ↦ ap (λ r. status_in (views.version + 1) r) e.2 ∙ dead_by (views.version + 1) (views.version + 1) (dying (views.version + 1) f.row) refl (omega arith)
+      | inl e ↦ ap (λ r. status_in (views.version + 1) r) e.2
+          ∙ dead_by (views.version + 1) (views.version + 1) (dying (views.version + 1) f.row) refl (omega arith)
       | inr e ↦ ap (λ r. status_in (views.version + 1) r) e.1 ∙ dead_before f.row f.found e.0 f.row.dead refl
     ]
 
 -- a silo of another endpoint is what it was
-foreign_says : (views : ViewsValue) → IsViews views → (silo : Silo) → is_newest silo views.rows ≡ true → (q : Silo) → ¬ (IsSameEndpoint silo q)
+foreign_says : (views : ViewsValue) → IsViews views → (silo : Silo) → is_newest silo views.rows ≡ true → (q : Silo)
+    → ¬ (IsSameEndpoint silo q)
     → row_status (views.version + 1) (joined_rows silo (views.version + 1) views.rows) q ≡ row_status views.version views.rows q
 foreign_says views whole silo newest q other = elim (other_is silo (views.version + 1) views.rows whole.in_order newest q ne) [
   | inl e ↦ ap (λ o. option_and_then (status_in (views.version + 1)) o) (e.0 ∙ sym e.1) ∙ still views whole q
-  | inr e ↦ ap (λ o. option_and_then (status_in (views.version + 1)) o) (e.1 ∙ ap (λ r. Some r) (as_it_was e.0 e.2) ∙ sym (e.2).found) ∙ still views whole q
+  | inr e ↦ ap (λ o. option_and_then (status_in (views.version + 1)) o) (e.1 ∙ ap (λ r. Some r) (as_it_was e.0 e.2) ∙ sym (e.2).found)
+      ∙ still views whole q
 ]
   where
     ne : q ≢ silo
@@ -203,7 +224,8 @@ foreign_says views whole silo newest q other = elim (other_is silo (views.versio
 
 join_step : (views : ViewsValue) → IsViews views → (silo : Silo) → is_newest silo views.rows ≡ true
     → IsViews (next_views views (joined_rows silo (views.version + 1) views.rows))
-    → Joins silo (view_at views views.version) (view_at (next_views views (joined_rows silo (views.version + 1) views.rows)) (views.version + 1))
+    → Joins silo (view_at views views.version) (view_at (next_views views (joined_rows silo (views.version + 1) views.rows))
+    (views.version + 1))
 join_step views whole silo newest kept = record {
   rises = refl;
   newest = λ q same there. lower q same (row_of views q) refl (subst (λ o. IsSome o) (now_is views whole q) there);
@@ -220,7 +242,8 @@ join_step views whole silo newest kept = record {
       ∙ sym (now_is views whole q);
 }
   where
-    lower : (q : Silo) → IsSameEndpoint silo q → (o : Option Row) → row_of views q ≡ o → IsSome (option_and_then (status_in views.version) o)
+    lower : (q : Silo) → IsSameEndpoint silo q → (o : Option Row) → row_of views q ≡ o
+        → IsSome (option_and_then (status_in views.version) o)
         → q.generation < silo.generation
     lower q same None is there = cc
     lower q same (Some row) is there = lower_generation silo views.rows newest q row is ((Decides-shares silo q).1 same)
@@ -240,4 +263,5 @@ changes_are_steps views (Die silo) next accepts =
     let whole = accepts.whole in
     let is = death_is views silo next (status_at views views.version silo) accepts.is in
     let kept : IsViews (next_views views (changed (dying (views.version + 1)) silo views.rows)) = subst (λ v. IsViews v) is.is (whole-after views whole (Die silo) next accepts.is) in
-    subst (λ v. Dies silo (view_at views views.version) (view_at v v.version)) (sym is.is) (death_step views whole silo is.was is.there is.not_dead kept)
+    subst (λ v. Dies silo (view_at views views.version) (view_at v v.version)) (sym is.is)
+    (death_step views whole silo is.was is.there is.not_dead kept)

@@ -22,7 +22,8 @@ none_where x h = cc
 
 module _ {K X : Type 0} {R : K → K → Ordering} (o : IsTotalOrder R) where
   -- a key that is found among keys above another is above it
-  found_above : (j q : K) (x : X) (es : List (K × X)) → AllByRecursion (λ y. R j y ≡ Less) (keys_of es) → lookup (is_at (R q)) es ≡ Some x → R j q ≡ Less
+  found_above : (j q : K) (x : X) (es : List (K × X)) → AllByRecursion (λ y. R j y ≡ Less) (keys_of es) → lookup (is_at (R q)) es ≡ Some x
+      → R j q ≡ Less
   found_above j q x [] above found = cc
   found_above j q x (e ∷ es) above found = by (R q e.0) refl found (found_above j q x es above.1)
     where
@@ -33,7 +34,8 @@ module _ {K X : Type 0} {R : K → K → Ordering} (o : IsTotalOrder R) where
       by Greater h found later = later found
 
   -- what is found behind the first entry is found
-  found_behind : (e : K × X) (es : List (K × X)) → IsStrictlySortedBy R (keys_of (e ∷ es)) → (q : K) (x : X) → lookup (is_at (R q)) es ≡ Some x
+  found_behind : (e : K × X) (es : List (K × X)) → IsStrictlySortedBy R (keys_of (e ∷ es)) → (q : K) (x : X)
+      → lookup (is_at (R q)) es ≡ Some x
       → lookup (is_at (R q)) (e ∷ es) ≡ Some x
   found_behind e es s q x found =
       let above : R e.0 q ≡ Less = found_above e.0 q x es (sorted_head R e.0 (keys_of es) s) found in
@@ -44,7 +46,8 @@ module _ {K X : Type 0} {R : K → K → Ordering} (o : IsTotalOrder R) where
 
   module _ (p : K → X → Bool) where
     -- a test that each entry passes is passed by what is found
-    pub all_found : CmpEqualImpliesEq R → (es : List (K × X)) → list_all (λ e. p e.0 e.1) es ≡ true → (q : K) (x : X) → lookup (is_at (R q)) es ≡ Some x → p q x ≡ true
+    pub all_found : CmpEqualImpliesEq R → (es : List (K × X)) → list_all (λ e. p e.0 e.1) es ≡ true → (q : K) (x : X)
+        → lookup (is_at (R q)) es ≡ Some x → p q x ≡ true
     all_found exact [] all q x found = cc
     all_found exact (e ∷ es) all q x found =
         let both = and_parts (p e.0 e.1) (list_all (λ e. p e.0 e.1) es) all in
@@ -57,7 +60,8 @@ module _ {K X : Type 0} {R : K → K → Ordering} (o : IsTotalOrder R) where
         by Greater h found here later = later found
 
     -- and the way back
-    pub all_from_found : (es : List (K × X)) → IsStrictlySortedBy R (keys_of es) → ((q : K) (x : X) → lookup (is_at (R q)) es ≡ Some x → p q x ≡ true)
+    pub all_from_found : (es : List (K × X)) → IsStrictlySortedBy R (keys_of es)
+        → ((q : K) (x : X) → lookup (is_at (R q)) es ≡ Some x → p q x ≡ true)
         → list_all (λ e. p e.0 e.1) es ≡ true
     all_from_found [] s each = refl
     all_from_found (e ∷ es) s each =
@@ -83,7 +87,8 @@ module _ {K X : Type 0} {R : K → K → Ordering} (o : IsTotalOrder R) where
             (found_behind e es s f.0 f.1 both.0, both.1)
 
     -- where a search gives nothing, nothing that is found passes
-    pub find_none : CmpEqualImpliesEq R → (es : List (K × X)) → find (λ e. p e.0 e.1) es ≡ None → (q : K) (x : X) → lookup (is_at (R q)) es ≡ Some x → p q x ≡ false
+    pub find_none : CmpEqualImpliesEq R → (es : List (K × X)) → find (λ e. p e.0 e.1) es ≡ None → (q : K) (x : X)
+        → lookup (is_at (R q)) es ≡ Some x → p q x ≡ false
     find_none exact [] none q x found = cc
     find_none exact (e ∷ es) none q x found = by (p e.0 e.1) refl none (R q e.0) refl found (λ none. find_none exact es none q x)
       where
@@ -96,7 +101,8 @@ module _ {K X : Type 0} {R : K → K → Ordering} (o : IsTotalOrder R) where
         by false h none Greater at found later = later none found
 
   -- a key below all others is not found
-  below_all : (q : K) (e : K × X) (es : List (K × X)) → IsStrictlySortedBy R (keys_of (e ∷ es)) → R q e.0 ≡ Less → lookup (is_at (R q)) (e ∷ es) ≡ None
+  below_all : (q : K) (e : K × X) (es : List (K × X)) → IsStrictlySortedBy R (keys_of (e ∷ es)) → R q e.0 ≡ Less
+      → lookup (is_at (R q)) (e ∷ es) ≡ None
   below_all q e es s h = lookup-none (is_at (R q)) (e ∷ es) (none_below_head o q e es s h)
 
   -- two lists of entries in order in which the same is found are one
@@ -113,18 +119,22 @@ module _ {K X : Type 0} {R : K → K → Ordering} (o : IsTotalOrder R) where
 
       behind : R e.0 f.0 ≡ Equal → (q : K) → is_eq (R q e.0) ≡ false → lookup (is_at (R q)) es ≡ lookup (is_at (R q)) fs
       behind h q not =
-          sym (lookup_tail (is_at (R q)) e es not) ∙ same q ∙ lookup_tail (is_at (R q)) f fs (ap is_eq (sym (alike_right o e.0 f.0 q h)) ∙ not)
+          sym (lookup_tail (is_at (R q)) e es not) ∙ same q
+          ∙ lookup_tail (is_at (R q)) f fs (ap is_eq (sym (alike_right o e.0 f.0 q h)) ∙ not)
 
       tail : R e.0 f.0 ≡ Equal → (q : K) → (r : Ordering) → R q e.0 ≡ r → lookup (is_at (R q)) es ≡ lookup (is_at (R q)) fs
       tail h q Equal at =
-          lookup-none (is_at (R q)) es (none_past_head (eq_by_cmp_equiv o) q e es (IsDistinct-from_sorted R (keys_of (e ∷ es)) s) (ap is_eq at))
+          lookup-none (is_at (R q)) es (none_past_head (eq_by_cmp_equiv o) q e es (IsDistinct-from_sorted R (keys_of (e ∷ es)) s)
+          (ap is_eq at))
           ∙ sym (lookup-none (is_at (R q)) fs
-          (none_past_head (eq_by_cmp_equiv o) q f fs (IsDistinct-from_sorted R (keys_of (f ∷ fs)) t) (ap is_eq (sym (alike_right o e.0 f.0 q h) ∙ at))))
+          (none_past_head (eq_by_cmp_equiv o) q f fs (IsDistinct-from_sorted R (keys_of (f ∷ fs)) t)
+          (ap is_eq (sym (alike_right o e.0 f.0 q h) ∙ at))))
       tail h q Less at = behind h q (ap is_eq at)
       tail h q Greater at = behind h q (ap is_eq at)
 
       by : (r : Ordering) → R e.0 f.0 ≡ r → (((q : K) → lookup (is_at (R q)) es ≡ lookup (is_at (R q)) fs) → es ≡ fs) → e ∷ es ≡ f ∷ fs
       by Less h rest = absurd (none_where e.1 (sym (found_first e es) ∙ same e.0 ∙ below_all e.0 f fs t h))
       by Greater h rest =
-          absurd (none_where f.1 (sym (found_first f fs) ∙ sym (same f.0) ∙ below_all f.0 e es s (o.antisymm f.0 e.0 ∙ ap ordering_reverse h)))
+          absurd (none_where f.1 (sym (found_first f fs) ∙ sym (same f.0)
+          ∙ below_all f.0 e es s (o.antisymm f.0 e.0 ∙ ap ordering_reverse h)))
       by Equal h rest = λ i. (exact e.0 f.0 h i, same_Some e.1 f.1 (head h) i) ∷ rest (λ q. tail h q (R q e.0) refl) i

@@ -38,9 +38,11 @@ new_row silo rows newest = by (found_row rows silo) refl
         absurd (omega arith)
 
 -- what is found once it is put in
-pub found_put_in : (silo : Silo) (version : ℕ) (rows : List (Silo × Row)) (q : Silo) (x : Row) → found_row (put_in silo version rows) q ≡ Some x
+pub found_put_in : (silo : Silo) (version : ℕ) (rows : List (Silo × Row)) (q : Silo) (x : Row)
+    → found_row (put_in silo version rows) q ≡ Some x
     → ((q ≡ silo) × (x ≡ joining version)) ⊎ ((is_at (silo_cmp q) silo ≡ false) × (found_row rows q ≡ Some x))
-found_put_in silo version rows q x found = by (is_at (silo_cmp q) silo) refl (sym (lookup-insert_entry silo_cmp_total silo (joining version) q rows) ∙ found)
+found_put_in silo version rows q x found =
+    by (is_at (silo_cmp q) silo) refl (sym (lookup-insert_entry silo_cmp_total silo (joining version) q rows) ∙ found)
   where
     by : (b : Bool) → is_at (silo_cmp q) silo ≡ b → cond b (Some (joining version)) (found_row rows q) ≡ Some x
         → ((q ≡ silo) × (x ≡ joining version)) ⊎ ((is_at (silo_cmp q) silo ≡ false) × (found_row rows q ≡ Some x))
@@ -48,7 +50,8 @@ found_put_in silo version rows q x found = by (is_at (silo_cmp q) silo) refl (sy
     by false at is = inr (at, is)
 
 -- the occupant is not the silo that joins
-pub not_itself : (silo : Silo) (rows : List (Silo × Row)) → is_newest silo rows ≡ true → (old : Silo) → IsOccupant silo rows old → old ≡ silo → ⊥
+pub not_itself : (silo : Silo) (rows : List (Silo × Row)) → is_newest silo rows ≡ true → (old : Silo) → IsOccupant silo rows old
+    → old ≡ silo → ⊥
 not_itself silo rows newest old is same =
     let e : Some is.row ≡ None = sym is.found ∙ ap (λ k. found_row rows k) same ∙ new_row silo rows newest in
     cc
@@ -57,16 +60,19 @@ not_itself silo rows newest old is same =
 pub record IsOlder (silo : Silo) (version : ℕ) (rows : List (Silo × Row)) (q : Silo) (after : Row) : Type 0 where
   pub row : Row
   pub found : found_row rows q ≡ Some row
-  pub is : ((occupant silo rows ≡ Some q) × (row.dead ≡ None) × (after ≡ dying version row)) ⊎ (((occupant silo rows ≡ Some q) → ⊥) × (after ≡ row))
+  pub is : ((occupant silo rows ≡ Some q) × (row.dead ≡ None) × (after ≡ dying version row))
+      ⊎ (((occupant silo rows ≡ Some q) → ⊥) × (after ≡ row))
 
 abbrev pub IsAfterJoin : Silo → ℕ → List (Silo × Row) → Silo → Row → Type 0
 IsAfterJoin silo version rows q after = ((q ≡ silo) × (after ≡ joining version)) ⊎ IsOlder silo version rows q after
 
-pub found_after : (silo : Silo) (version : ℕ) (rows : List (Silo × Row)) → IsStrictlySortedBy silo_cmp (keys_of rows) → is_newest silo rows ≡ true
+pub found_after : (silo : Silo) (version : ℕ) (rows : List (Silo × Row)) → IsStrictlySortedBy silo_cmp (keys_of rows)
+    → is_newest silo rows ≡ true
     → (q : Silo) (after : Row) → found_row (joined_rows silo version rows) q ≡ Some after → IsAfterJoin silo version rows q after
 found_after silo version rows s newest q after found = by (occupant silo rows) refl found
   where
-    old_case : (old : Silo) → occupant silo rows ≡ Some old → (f : IsFoundChanged (dying version) old (put_in silo version rows) q after) → IsAfterJoin silo version rows q after
+    old_case : (old : Silo) → occupant silo rows ≡ Some old → (f : IsFoundChanged (dying version) old (put_in silo version rows) q after)
+        → IsAfterJoin silo version rows q after
     old_case old h f = elim (found_put_in silo version rows q f.row f.found) [
       | inl e ↦ elim f.is [
         | inl k ↦ absurd (not_itself silo rows newest old (occupant_is silo rows s old h) (k.0 ∙ e.0))
@@ -76,7 +82,12 @@ found_after silo version rows s newest q after found = by (occupant silo rows) r
         | inl k ↦
             let is = occupant_is silo rows s old h in
             let same : is.row ≡ f.row = same_Some is.row f.row (sym is.found ∙ ap (λ j. found_row rows j) k.0 ∙ e.1) in
-            inr (record { row = f.row; found = e.1; is = inl (h ∙ ap (λ j. Some j) k.0, ap (λ (x : Row). x.dead) (sym same) ∙ is.not_dead, k.1) })
+            inr (record {
+              row = f.row;
+              found = e.1;
+              is = inl
+                  (h ∙ ap (λ j. Some j) k.0, ap (λ (x : Row). x.dead) (sym same) ∙ is.not_dead, k.1);
+            })
         | inr k ↦
             inr (record { row = f.row; found = e.1; is = inr (λ occupies. apart old occupies h k.0, k.1) })
       ]
@@ -88,7 +99,8 @@ found_after silo version rows s newest q after found = by (occupant silo rows) r
             let yes : is_at (silo_cmp old) q ≡ true = ap (λ j. is_at (silo_cmp old) j) (sym same) ∙ ap is_eq (tied_itself silo_cmp_total old) in
             cc
 
-    none_case : occupant silo rows ≡ None → (((q ≡ silo) × (after ≡ joining version)) ⊎ ((is_at (silo_cmp q) silo ≡ false) × (found_row rows q ≡ Some after)))
+    none_case : occupant silo rows ≡ None → (((q ≡ silo) × (after ≡ joining version))
+        ⊎ ((is_at (silo_cmp q) silo ≡ false) × (found_row rows q ≡ Some after)))
         → IsAfterJoin silo version rows q after
     none_case h f = elim f [
       | inl e ↦ inl e
@@ -98,13 +110,15 @@ found_after silo version rows s newest q after found = by (occupant silo rows) r
         nothing : (q : Silo) → occupant silo rows ≡ Some q → occupant silo rows ≡ None → ⊥
         nothing q a b = let e : Some q ≡ None = sym a ∙ b in cc
 
-    by : (o : Option Silo) → occupant silo rows ≡ o → found_row (without o version (put_in silo version rows)) q ≡ Some after → IsAfterJoin silo version rows q after
+    by : (o : Option Silo) → occupant silo rows ≡ o → found_row (without o version (put_in silo version rows)) q ≡ Some after
+        → IsAfterJoin silo version rows q after
     by None h found = none_case h (found_put_in silo version rows q after found)
     by (Some old) h found = old_case old h (found_changed (dying version) old (put_in silo version rows) q after found)
 
 -- a row that joins in a version, in time
 in_time_joining : (version : ℕ) → 0 < version → IsInTime version (joining version)
-in_time_joining version above = record { joined_above = above; joined_by = omega arith; left_after = λ made is. cc; dead_after = λ made is. cc }
+in_time_joining version above =
+    record { joined_above = above; joined_by = omega arith; left_after = λ made is. cc; dead_after = λ made is. cc }
 
 -- and one that dies
 pub in_time_dying : (version : ℕ) (row : Row) → IsInTime version row → IsInTime (version + 1) (dying (version + 1) row)
@@ -136,7 +150,8 @@ sorted-joined silo version rows s (Some old) =
     subst (λ ks. IsStrictlySortedBy silo_cmp ks) (sym (keys-changed silo_cmp_total (dying version) old (put_in silo version rows)))
     (sorted-insert_entry silo_cmp_total silo (joining version) rows s)
 
-sum-put_in : (silo : Silo) (version : ℕ) (rows : List (Silo × Row)) → IsStrictlySortedBy silo_cmp (keys_of rows) → is_newest silo rows ≡ true
+sum-put_in : (silo : Silo) (version : ℕ) (rows : List (Silo × Row)) → IsStrictlySortedBy silo_cmp (keys_of rows)
+    → is_newest silo rows ≡ true
     → sum_by changes_of (values_of (put_in silo version rows)) ≡ sum_by changes_of (values_of rows) + 1
 sum-put_in silo version rows s newest =
     let e = sum_by-insert_entry changes_of silo_cmp_total rows silo (joining version) s in
@@ -144,7 +159,8 @@ sum-put_in silo version rows s newest =
     omega (arith, e, none)
 
 -- the occupant keeps its row when the other silo is put in
-pub found_occupant : (silo : Silo) (version : ℕ) (rows : List (Silo × Row)) → is_newest silo rows ≡ true → (old : Silo) → (occupies : IsOccupant silo rows old)
+pub found_occupant : (silo : Silo) (version : ℕ) (rows : List (Silo × Row)) → is_newest silo rows ≡ true → (old : Silo)
+    → (occupies : IsOccupant silo rows old)
     → found_row (put_in silo version rows) old ≡ Some occupies.row
 found_occupant silo version rows newest old occupies =
     lookup-insert_entry silo_cmp_total silo (joining version) old rows ∙ other (is_at (silo_cmp old) silo) refl ∙ occupies.found
@@ -154,7 +170,8 @@ found_occupant silo version rows newest old occupies =
     other false at = refl
 
 -- one change more at least
-counted-joined : (silo : Silo) (version : ℕ) (rows : List (Silo × Row)) → IsStrictlySortedBy silo_cmp (keys_of rows) → is_newest silo rows ≡ true
+counted-joined : (silo : Silo) (version : ℕ) (rows : List (Silo × Row)) → IsStrictlySortedBy silo_cmp (keys_of rows)
+    → is_newest silo rows ≡ true
     → (o : Option Silo) → occupant silo rows ≡ o
     → sum_by changes_of (values_of rows) + 1 ≤ sum_by changes_of (values_of (without o version (put_in silo version rows)))
 counted-joined silo version rows s newest None is = omega (arith, sum-put_in silo version rows s newest)
@@ -164,13 +181,15 @@ counted-joined silo version rows s newest (Some old) is =
     omega (arith, e, sum-put_in silo version rows s newest)
 
 -- after a join every row is in time
-in_time-joined : (views : ViewsValue) → IsViews views → (silo q : Silo) (after : Row) → IsAfterJoin silo (views.version + 1) views.rows q after
+in_time-joined : (views : ViewsValue) → IsViews views → (silo q : Silo) (after : Row)
+    → IsAfterJoin silo (views.version + 1) views.rows q after
     → IsInTime (views.version + 1) after
 in_time-joined views whole silo q after is = elim is [
   | inl e ↦ subst (λ x. IsInTime (views.version + 1) x) (sym e.1) (in_time_joining (views.version + 1) (omega arith))
   | inr f ↦ elim f.is [
     | inl e ↦ subst (λ x. IsInTime (views.version + 1) x) (sym e.2) (in_time_dying views.version f.row (whole.in_time q f.row f.found))
-    | inr e ↦ subst (λ x. IsInTime (views.version + 1) x) (sym e.1) (in_time_later views.version (views.version + 1) f.row (omega arith) (whole.in_time q f.row f.found))
+    | inr e ↦ subst (λ x. IsInTime (views.version + 1) x) (sym e.1)
+        (in_time_later views.version (views.version + 1) f.row (omega arith) (whole.in_time q f.row f.found))
   ]
 ]
 
@@ -185,7 +204,8 @@ older_dead-joined views whole silo newest a b ra rb of_a of_b shares lower = eli
   ]
   | inr e ↦ elim of_b [
     | inl f ↦ ap (λ (x : Row). has_come ra.dead x.joined) f.1 ∙ dies e f.0
-    | inr f ↦ ap (λ n. has_come ra.dead n) (joined_same f) ∙ stays e f.row.joined (whole.older_dead a b e.row f.row e.found f.found shares lower)
+    | inr f ↦ ap (λ n. has_come ra.dead n) (joined_same f)
+        ∙ stays e f.row.joined (whole.older_dead a b e.row f.row e.found f.found shares lower)
   ]
 ]
   where
@@ -216,9 +236,12 @@ older_dead-joined views whole silo newest a b ra rb of_a of_b shares lower = eli
       | inr k ↦ ap (λ (x : Row). has_come x.dead (views.version + 1)) k.1 ∙ before e k.0 e.row.dead refl
     ]
       where
-        before : (e : IsOlder silo (views.version + 1) views.rows a ra) → (occupant silo views.rows ≡ Some a → ⊥) → (o : Option ℕ) → e.row.dead ≡ o
+        before : (e : IsOlder silo (views.version + 1) views.rows a ra) → (occupant silo views.rows ≡ Some a → ⊥) → (o : Option ℕ)
+            → e.row.dead ≡ o
             → has_come e.row.dead (views.version + 1) ≡ true
-        before e not None none = absurd (not (occupant_some views.rows whole.in_order whole.older_dead silo a e.row e.found (ap (λ s. shares_endpoint s a) (sym p) ∙ (Decides-shares b a).1 shares) none))
+        before e not None none =
+            absurd (not (occupant_some views.rows whole.in_order whole.older_dead silo a e.row e.found
+            (ap (λ s. shares_endpoint s a) (sym p) ∙ (Decides-shares b a).1 shares) none))
         before e not (Some made) is =
             let k : made ≤ views.version = ((whole.in_time a e.row e.found).dead_after made is).1 in
             come e.row.dead (views.version + 1) made is (omega arith)
@@ -233,7 +256,9 @@ whole-joined views whole silo newest room = record {
       let k : length (joined_rows silo (views.version + 1) views.rows) ≡ length views.rows + 1 = length-joined silo (views.version + 1) views.rows newest (occupant silo views.rows) in
       omega arith;
   in_order = sorted-joined silo (views.version + 1) views.rows whole.in_order (occupant silo views.rows);
-  in_time = λ q after at. in_time-joined views whole silo q after (found_after silo (views.version + 1) views.rows whole.in_order newest q after at);
+  in_time =
+      λ q after at. in_time-joined views whole silo q after
+      (found_after silo (views.version + 1) views.rows whole.in_order newest q after at);
   older_dead = λ a b ra rb at_a at_b. older_dead-joined views whole silo newest a b ra rb
       (found_after silo (views.version + 1) views.rows whole.in_order newest a ra at_a)
       (found_after silo (views.version + 1) views.rows whole.in_order newest b rb at_b);

@@ -43,7 +43,8 @@ pub record IsLeave (views : ViewsValue) (silo : Silo) (status : Option Status) (
   pub active : status ≡ Some Active
   pub is : next ≡ next_views views (changed (leaving (views.version + 1)) silo views.rows)
 
-pub leave_is : (views : ViewsValue) (silo : Silo) (next : ViewsValue) (status : Option Status) → leave_from status views silo ≡ Ok next → IsLeave views silo status next
+pub leave_is : (views : ViewsValue) (silo : Silo) (next : ViewsValue) (status : Option Status) → leave_from status views silo ≡ Ok next
+    → IsLeave views silo status next
 leave_is views silo next None h = cc
 leave_is views silo next (Some Active) h = record { active = refl; is = cc }
 leave_is views silo next (Some Leaving) h = cc
@@ -56,7 +57,8 @@ pub record IsDeath (views : ViewsValue) (silo : Silo) (status : Option Status) (
   pub not_dead : Some was ≢ Some Dead
   pub is : next ≡ next_views views (changed (dying (views.version + 1)) silo views.rows)
 
-pub death_is : (views : ViewsValue) (silo : Silo) (next : ViewsValue) (status : Option Status) → die_from status views silo ≡ Ok next → IsDeath views silo status next
+pub death_is : (views : ViewsValue) (silo : Silo) (next : ViewsValue) (status : Option Status) → die_from status views silo ≡ Ok next
+    → IsDeath views silo status next
 death_is views silo next None h = cc
 death_is views silo next (Some Active) h = record { was = Active; there = refl; not_dead = λ e. cc; is = cc }
 death_is views silo next (Some Leaving) h = record { was = Leaving; there = refl; not_dead = λ e. cc; is = cc }
@@ -68,21 +70,28 @@ pub record HasRow (views : ViewsValue) (silo : Silo) (status : Status) : Type 0 
   pub found : row_of views silo ≡ Some row
   pub says : status_in views.version row ≡ Some status
 
-pub has_row : (views : ViewsValue) → IsViews views → (silo : Silo) (status : Status) → status_at views views.version silo ≡ Some status → HasRow views silo status
+pub has_row : (views : ViewsValue) → IsViews views → (silo : Silo) (status : Status) → status_at views views.version silo ≡ Some status
+    → HasRow views silo status
 has_row views whole silo status is =
-    option_and_then_some (status_in views.version) (row_of views silo) status (sym (status_at-made views whole.in_order views.version silo (omega arith)) ∙ is)
+    option_and_then_some (status_in views.version) (row_of views silo) status
+    (sym (status_at-made views whole.in_order views.version silo (omega arith)) ∙ is)
     (λ row found says. record { row = row; found = found; says = says })
 
 -- the row of an Active silo is not left and not dead
-pub active_row : (version : ℕ) (row : Row) → IsInTime version row → status_in version row ≡ Some Active → (row.dead ≡ None) × (row.left ≡ None)
+pub active_row : (version : ℕ) (row : Row) → IsInTime version row → status_in version row ≡ Some Active
+    → (row.dead ≡ None) × (row.left ≡ None)
 active_row version row in' says =
-    let parts = active_is (has_come row.dead version) (has_come row.left version) _ says in
-    (not_made row.dead version (λ made is. (in'.dead_after made is).1) parts.0, not_made row.left version (λ made is. (in'.left_after made is).1) parts.1)
+    let parts = active_is (has_come row.dead version) (has_come row.left version) _ says in (
+      not_made row.dead version (λ made is. (in'.dead_after made is).1) parts.0,
+      not_made row.left version
+          (λ made is. (in'.left_after made is).1) parts.1,
+    )
 
 -- the row of a silo that isn't Dead is not dead
 pub occupant_row : (version : ℕ) (row : Row) → IsInTime version row → status_in version row ≢ Some Dead → row.dead ≡ None
 occupant_row version row in' says =
-    not_made row.dead version (λ made is. (in'.dead_after made is).1) (not_dead_is (has_come row.dead version) (has_come row.left version) _ says)
+    not_made row.dead version (λ made is. (in'.dead_after made is).1)
+    (not_dead_is (has_come row.dead version) (has_come row.left version) _ says)
 
 leaving_ok : (version : ℕ) (row : Row) → IsInTime version row → row.left ≡ None → IsChange (version + 1) (leaving (version + 1)) row
 leaving_ok version row in' none = record {
@@ -111,17 +120,21 @@ dying_ok version row in' none = record {
     never : (made : ℕ) → has_come row.dead made ≡ true → ⊥
     never made come = let no : has_come row.dead made ≡ false = ap (λ c. has_come c made) none in cc
 
-pub whole-leave : (views : ViewsValue) → IsViews views → (silo : Silo) (row : Row) → row_of views silo ≡ Some row → status_in views.version row ≡ Some Active
+pub whole-leave : (views : ViewsValue) → IsViews views → (silo : Silo) (row : Row) → row_of views silo ≡ Some row
+    → status_in views.version row ≡ Some Active
     → IsViews (next_views views (changed (leaving (views.version + 1)) silo views.rows))
 whole-leave views whole silo row found says =
     let in' = whole.in_time silo row found in
-    whole-changed views whole silo row found (leaving (views.version + 1)) (leaving_ok views.version row in' (active_row views.version row in' says).1)
+    whole-changed views whole silo row found (leaving (views.version + 1))
+    (leaving_ok views.version row in' (active_row views.version row in' says).1)
 
-pub whole-death : (views : ViewsValue) → IsViews views → (silo : Silo) (row : Row) → row_of views silo ≡ Some row → status_in views.version row ≢ Some Dead
+pub whole-death : (views : ViewsValue) → IsViews views → (silo : Silo) (row : Row) → row_of views silo ≡ Some row
+    → status_in views.version row ≢ Some Dead
     → IsViews (next_views views (changed (dying (views.version + 1)) silo views.rows))
 whole-death views whole silo row found says =
     let in' = whole.in_time silo row found in
-    whole-changed views whole silo row found (dying (views.version + 1)) (dying_ok views.version row in' (occupant_row views.version row in' says))
+    whole-changed views whole silo row found (dying (views.version + 1))
+    (dying_ok views.version row in' (occupant_row views.version row in' says))
 
 -- what all views keep they keep after every accepted change
 pub whole-after : (views : ViewsValue) → IsViews views → (change : Change) (next : ViewsValue) → after views change ≡ Ok next → IsViews next
@@ -153,11 +166,14 @@ small views whole =
     omega (arith, sum_most views.rows)
 
 -- what all views keep they keep after an Active silo begins to leave
-pub whole-leaving : (views : ViewsValue) → IsViews views → (silo : Silo) → status_at views views.version silo ≡ Some Active → IsViews (with_leave views silo)
-whole-leaving views whole silo active = whole-after views whole (Leave silo) (with_leave views silo) (ap (λ o. leave_from o views silo) active)
+pub whole-leaving : (views : ViewsValue) → IsViews views → (silo : Silo) → status_at views views.version silo ≡ Some Active
+    → IsViews (with_leave views silo)
+whole-leaving views whole silo active =
+    whole-after views whole (Leave silo) (with_leave views silo) (ap (λ o. leave_from o views silo) active)
 
 -- and after a silo that is there, and isn't Dead, dies
-pub whole-dying : (views : ViewsValue) → IsViews views → (silo : Silo) → IsSome (status_at views views.version silo) → status_at views views.version silo ≢ Some Dead
+pub whole-dying : (views : ViewsValue) → IsViews views → (silo : Silo) → IsSome (status_at views views.version silo)
+    → status_at views views.version silo ≢ Some Dead
     → IsViews (with_death views silo)
 whole-dying views whole silo there not_dead =
     whole-after views whole (Die silo) (with_death views silo) (by (status_at views views.version silo) there not_dead)

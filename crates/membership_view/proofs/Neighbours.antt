@@ -26,7 +26,8 @@ pub newest_none : (silo : Silo) (rows : List (Silo × Row)) → IsStrictlySorted
     → ((q : Silo) → is_gt (silo_cmp silo q) ≡ false → found_row rows q ≡ None) → is_newest silo rows ≡ true
 newest_none silo rows s none = newest_from silo rows s lower
   where
-    lower : (other : Silo) (row : Row) → found_row rows other ≡ Some row → shares_endpoint silo other ≡ true → other.generation < silo.generation
+    lower : (other : Silo) (row : Row) → found_row rows other ≡ Some row → shares_endpoint silo other ≡ true
+        → other.generation < silo.generation
     lower other row found shares = elim (cases_lt other.generation silo.generation) [
       | inl h ↦ h
       | inr h ↦
@@ -48,7 +49,8 @@ newest_next silo rows s next row found inside first = by (shares_endpoint silo n
         let f : is_gt (nat_cmp silo.generation next.generation) ≡ false = ap is_gt (sym (by_generation silo next shares)) ∙ inside in
         cc
 
-    lower : shares_endpoint silo next ≡ false → (other : Silo) (row : Row) → found_row rows other ≡ Some row → shares_endpoint silo other ≡ true → other.generation < silo.generation
+    lower : shares_endpoint silo next ≡ false → (other : Silo) (row : Row) → found_row rows other ≡ Some row
+        → shares_endpoint silo other ≡ true → other.generation < silo.generation
     lower apart other row found shares = elim (cases_lt other.generation silo.generation) [
       | inl h ↦ h
       | inr h ↦
@@ -69,7 +71,8 @@ upto_from Equal h = refl
 upto_from Greater h = refl
 
 -- an endpoint's occupant is before a newer silo of that endpoint
-occupant_before : (silo : Silo) (rows : List (Silo × Row)) → is_newest silo rows ≡ true → (old : Silo) → IsOccupant silo rows old → silo_cmp old silo ≡ Less
+occupant_before : (silo : Silo) (rows : List (Silo × Row)) → is_newest silo rows ≡ true → (old : Silo) → IsOccupant silo rows old
+    → silo_cmp old silo ≡ Less
 occupant_before silo rows newest old is =
     by_generation old silo (shares_back silo old is.shares)
     ∙ less_is old.generation silo.generation (lower_generation silo rows newest old is.row is.found is.shares)
@@ -87,7 +90,8 @@ occupant_first silo rows s newest none = by (occupant silo rows) refl
     by (Some old) h = absurd (never old (occupant_is silo rows s old h))
 
 -- what the last row before the newest silo tells
-pub occupant_last : (silo : Silo) (rows : List (Silo × Row)) → IsStrictlySortedBy silo_cmp (keys_of rows) → is_newest silo rows ≡ true → OlderAreDead rows
+pub occupant_last : (silo : Silo) (rows : List (Silo × Row)) → IsStrictlySortedBy silo_cmp (keys_of rows) → is_newest silo rows ≡ true
+    → OlderAreDead rows
     → (last : Silo) (row : Row) → found_row rows last ≡ Some row → silo_cmp last silo ≡ Less
     → ((q : Silo) → silo_cmp q silo ≡ Less → IsSome (found_row rows q) → is_lt (silo_cmp last q) ≡ false)
     → (if shares_endpoint silo last && is_none row.dead then Some last else None) ≡ occupant silo rows

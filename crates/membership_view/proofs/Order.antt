@@ -66,7 +66,8 @@ endpoint_upto : (a b : Silo) → is_gt (silo_cmp a b) ≡ false → is_gt (endpo
 endpoint_upto a b h = first_upto (endpoint_cmp a b) (nat_cmp a.generation b.generation) (sym (ap is_gt (by_endpoint a b)) ∙ h)
 
 -- what is between two silos of one endpoint is of that endpoint
-pub shares_between : (a b c : Silo) → is_gt (silo_cmp a b) ≡ false → is_gt (silo_cmp b c) ≡ false → shares_endpoint a c ≡ true → shares_endpoint a b ≡ true
+pub shares_between : (a b c : Silo) → is_gt (silo_cmp a b) ≡ false → is_gt (silo_cmp b c) ≡ false → shares_endpoint a c ≡ true
+    → shares_endpoint a b ≡ true
 shares_between a b c ab bc ac =
     let back : endpoint_cmp b a ≡ endpoint_cmp b c = alike_right endpoint_total a c b (tied_endpoint a c ac) in
     let turned : endpoint_cmp b a ≡ ordering_reverse (endpoint_cmp a b) = endpoint_total.antisymm b a in

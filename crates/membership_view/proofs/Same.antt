@@ -39,13 +39,15 @@ same_row a b joined left dead = λ i. row_with (joined i) (left i) (dead i)
 
 pub Decides-row : (a b : Row) → Decides (row.TheImpl.ghosts.eq a b) (a ≡ b)
 Decides-row a b =
-    Decides-like _ (λ e. same_row a b e.0 e.1.0 e.1.1) (λ e. (ap (λ (r : Row). r.joined) e, (ap (λ (r : Row). r.left) e, ap (λ (r : Row). r.dead) e)))
+    Decides-like _ (λ e. same_row a b e.0 e.1.0 e.1.1)
+    (λ e. (ap (λ (r : Row). r.joined) e, (ap (λ (r : Row). r.left) e, ap (λ (r : Row). r.dead) e)))
     (Decides-and _ _ (Decides-eqb a.joined b.joined) (Decides-and _ _ (Decides-made a.left b.left) (Decides-made a.dead b.dead)))
 
 -- `==` of addresses too
 pub Decides-address : (a b : Silo) → Decides (silo.TheImpl.ghosts.eq a b) (a ≡ b)
 Decides-address a b =
-    Decides-like _ (λ e. same_silo a b e.0 e.1.0 e.1.1) (λ e. (ap (λ (s : Silo). s.ip) e, (ap (λ (s : Silo). s.port) e, ap (λ (s : Silo). s.generation) e)))
+    Decides-like _ (λ e. same_silo a b e.0 e.1.0 e.1.1)
+    (λ e. (ap (λ (s : Silo). s.ip) e, (ap (λ (s : Silo). s.port) e, ap (λ (s : Silo). s.generation) e)))
     (Decides-and _ _ (bytes_eq-Decides a.ip b.ip) (Decides-and _ _ (Decides-eqb a.port b.port) (Decides-eqb a.generation b.generation)))
 
 -- the same of the rows of views

@@ -27,15 +27,18 @@ newer_from true m n h = lt-ltb m n (h refl)
 newer_from false m n h = refl
 
 -- the newest of an endpoint has a higher generation than every silo of it that has a row
-pub lower_generation : (silo : Silo) (rows : List (Silo × Row)) → is_newest silo rows ≡ true → (other : Silo) (row : Row) → found_row rows other ≡ Some row
+pub lower_generation : (silo : Silo) (rows : List (Silo × Row)) → is_newest silo rows ≡ true → (other : Silo) (row : Row)
+    → found_row rows other ≡ Some row
     → shares_endpoint silo other ≡ true → other.generation < silo.generation
 lower_generation silo rows newest other row found shares =
     newer (shares_endpoint silo other) other.generation silo.generation
-    (all_found silo_cmp_total (λ k _. not (shares_endpoint silo k) || nat_lt k.generation silo.generation) silo_cmp_exact rows newest other row found) shares
+    (all_found silo_cmp_total (λ k _. not (shares_endpoint silo k) || nat_lt k.generation silo.generation) silo_cmp_exact rows newest other
+    row found) shares
 
 -- and the way back
 pub newest_from : (silo : Silo) (rows : List (Silo × Row)) → IsStrictlySortedBy silo_cmp (keys_of rows)
-    → ((other : Silo) (row : Row) → found_row rows other ≡ Some row → shares_endpoint silo other ≡ true → other.generation < silo.generation)
+    → ((other : Silo) (row : Row) → found_row rows other ≡ Some row → shares_endpoint silo other ≡ true
+    → other.generation < silo.generation)
     → is_newest silo rows ≡ true
 newest_from silo rows s each =
     all_from_found silo_cmp_total (λ k _. not (shares_endpoint silo k) || nat_lt k.generation silo.generation) rows s
@@ -52,10 +55,12 @@ pub record IsOccupant (silo : Silo) (rows : List (Silo × Row)) (old : Silo) : T
   pub shares : shares_endpoint silo old ≡ true
   pub not_dead : row.dead ≡ None
 
-pub occupant_is : (silo : Silo) (rows : List (Silo × Row)) → IsStrictlySortedBy silo_cmp (keys_of rows) → (old : Silo) → occupant silo rows ≡ Some old → IsOccupant silo rows old
+pub occupant_is : (silo : Silo) (rows : List (Silo × Row)) → IsStrictlySortedBy silo_cmp (keys_of rows) → (old : Silo)
+    → occupant silo rows ≡ Some old → IsOccupant silo rows old
 occupant_is silo rows s old is = by (find (λ e. shares_endpoint silo e.0 && is_none e.1.dead) rows) refl is
   where
-    by : (o : Option (Silo × Row)) → find (λ e. shares_endpoint silo e.0 && is_none e.1.dead) rows ≡ o → option_map (λ e. e.0) o ≡ Some old → IsOccupant silo rows old
+    by : (o : Option (Silo × Row)) → find (λ e. shares_endpoint silo e.0 && is_none e.1.dead) rows ≡ o → option_map (λ e. e.0) o ≡ Some old
+        → IsOccupant silo rows old
     by None h is = cc
     by (Some e) h is =
         let same : e.0 ≡ old = cc in
@@ -69,13 +74,15 @@ occupant_is silo rows s old is = by (find (λ e. shares_endpoint silo e.0 && is_
         }
 
 -- of two silos of one endpoint that are not Dead each is the other
-pub one_occupant : (rows : List (Silo × Row)) → OlderAreDead rows → (a b : Silo) (row next : Row) → found_row rows a ≡ Some row → found_row rows b ≡ Some next
+pub one_occupant : (rows : List (Silo × Row)) → OlderAreDead rows → (a b : Silo) (row next : Row) → found_row rows a ≡ Some row
+    → found_row rows b ≡ Some next
     → shares_endpoint a b ≡ true → row.dead ≡ None → next.dead ≡ None → a ≡ b
 one_occupant rows older_dead a b row next at_a at_b shares a_lives b_lives =
     elim (cases_order a.generation b.generation) [
       | inl same ↦ same_generation a b shares same
       | inr k ↦ elim k [
-        | inl lower ↦ absurd (no row next.joined a_lives (older_dead a b row next at_a at_b ((Decides-shares b a).0 (shares_back a b shares)) lower))
+        | inl lower ↦ absurd (no row next.joined a_lives
+            (older_dead a b row next at_a at_b ((Decides-shares b a).0 (shares_back a b shares)) lower))
         | inr higher ↦ absurd (no next row.joined b_lives (older_dead b a next row at_b at_a ((Decides-shares a b).0 shares) higher))
       ]
     ]
@@ -84,7 +91,8 @@ one_occupant rows older_dead a b row next at_a at_b shares a_lives b_lives =
     no row version none come = let e : has_come row.dead version ≡ false = ap (λ c. has_come c version) none in cc
 
 -- without an occupant, every silo of the endpoint is Dead
-pub occupant_none : (rows : List (Silo × Row)) (silo : Silo) → occupant silo rows ≡ None → (q : Silo) (row : Row) → found_row rows q ≡ Some row
+pub occupant_none : (rows : List (Silo × Row)) (silo : Silo) → occupant silo rows ≡ None → (q : Silo) (row : Row)
+    → found_row rows q ≡ Some row
     → (shares_endpoint silo q && is_none row.dead) ≡ false
 occupant_none rows silo none q row found =
     find_none silo_cmp_total (λ k x. shares_endpoint silo k && is_none x.dead) silo_cmp_exact rows
@@ -95,7 +103,8 @@ occupant_none rows silo none q row found =
     nothing (Some e) h = cc
 
 -- a silo of the endpoint that is not Dead is the occupant
-pub occupant_some : (rows : List (Silo × Row)) → IsStrictlySortedBy silo_cmp (keys_of rows) → OlderAreDead rows → (silo q : Silo) (row : Row)
+pub occupant_some : (rows : List (Silo × Row)) → IsStrictlySortedBy silo_cmp (keys_of rows) → OlderAreDead rows
+    → (silo q : Silo) (row : Row)
     → found_row rows q ≡ Some row → shares_endpoint silo q ≡ true → row.dead ≡ None → occupant silo rows ≡ Some q
 occupant_some rows s older_dead silo q row found shares not_dead = by (occupant silo rows) refl
   where
@@ -109,4 +118,5 @@ occupant_some rows s older_dead silo q row found shares not_dead = by (occupant 
     by None h = absurd (at_none h)
     by (Some old) h =
         let is = occupant_is silo rows s old h in
-        h ∙ ap (λ k. Some k) (one_occupant rows older_dead old q is.row row is.found found (shares_along old silo q (shares_back silo old is.shares) shares) is.not_dead not_dead)
+        h ∙ ap (λ k. Some k) (one_occupant rows older_dead old q is.row row is.found found
+        (shares_along old silo q (shares_back silo old is.shares) shares) is.not_dead not_dead)

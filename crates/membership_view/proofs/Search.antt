@@ -17,7 +17,8 @@ use Rattle.silo_address.specs.Silo.{Silo, silo_cmp}
 use Rattle.silo_address.proofs.Order.{silo_cmp_exact, silo_cmp_total}
 
 -- where the search hits
-pub lookup_hit : {Y : Type 0} (es : List (Silo × Y)) → IsStrictlySortedBy silo_cmp (keys_of es) → (silo : Silo) (index : ℕ) (e : Silo × Y) → index < length es
+pub lookup_hit : {Y : Type 0} (es : List (Silo × Y)) → IsStrictlySortedBy silo_cmp (keys_of es) → (silo : Silo) (index : ℕ) (e : Silo × Y)
+    → index < length es
     → HoldsAt (λ y. silo_cmp y.0 silo ≡ Equal) es index → e ≡ get_or es index e → lookup (is_at (silo_cmp silo)) es ≡ Some e.1
 lookup_hit es s silo index e inside hit read =
     let same : e.0 ≡ silo = silo_cmp_exact e.0 silo (ap (λ y. silo_cmp y.0 silo) read ∙ hit e) in
@@ -32,10 +33,15 @@ rising silo a b below = by (silo_cmp b silo) refl (silo_cmp a silo) refl
     by r h Less k = omega arith
     by Greater h Equal k = omega arith
     by Greater h Greater k = omega arith
-    by Equal h t k = let e : t ≡ Less = sym k ∙ sym (alike_right silo_cmp_total b silo a h) ∙ below in subst (λ o. ordering_index o ≤ ordering_index Equal) (sym e) (omega arith)
-    by Less h t k = let e : t ≡ Less = sym k ∙ silo_cmp_total.trans a b silo below h in subst (λ o. ordering_index o ≤ ordering_index Less) (sym e) (omega arith)
+    by Equal h t k =
+        let e : t ≡ Less = sym k ∙ sym (alike_right silo_cmp_total b silo a h) ∙ below in
+        subst (λ o. ordering_index o ≤ ordering_index Equal) (sym e) (omega arith)
+    by Less h t k =
+        let e : t ≡ Less = sym k ∙ silo_cmp_total.trans a b silo below h in
+        subst (λ o. ordering_index o ≤ ordering_index Less) (sym e) (omega arith)
 
-rises : {Y : Type 0} (es : List (Silo × Y)) → IsStrictlySortedBy silo_cmp (keys_of es) → (silo : Silo) → IsNonDecreasingBy (λ y. ordering_index (silo_cmp y.0 silo)) es
+rises : {Y : Type 0} (es : List (Silo × Y)) → IsStrictlySortedBy silo_cmp (keys_of es) → (silo : Silo)
+    → IsNonDecreasingBy (λ y. ordering_index (silo_cmp y.0 silo)) es
 rises es s silo i j d upto inside = elim (cases_order i j) [
   | inl same ↦ let e = ap (λ k. ordering_index (silo_cmp (get_or es k d).0 silo)) same in omega (arith, e)
   | inr k ↦ elim k [
@@ -55,11 +61,14 @@ turned a b r h = silo_cmp_total.antisymm a b ∙ ap ordering_reverse h
 
 -- where it misses
 pub lookup_miss : {Y : Type 0} (es : List (Silo × Y)) → IsStrictlySortedBy silo_cmp (keys_of es) → (silo : Silo) (index : ℕ)
-    → (IsNonDecreasingBy (λ y. ordering_index (silo_cmp y.0 silo)) es → IsPartitionPoint (λ y. silo_cmp y.0 silo ≡ Less) (λ y. silo_cmp y.0 silo ≡ Greater) es index)
+    → (IsNonDecreasingBy (λ y. ordering_index (silo_cmp y.0 silo)) es
+    → IsPartitionPoint (λ y. silo_cmp y.0 silo ≡ Less) (λ y. silo_cmp y.0 silo ≡ Greater) es index)
     → lookup (is_at (silo_cmp silo)) es ≡ None
 lookup_miss es s silo index parts =
     let point = parts (rises es s silo) in
     lookup_at_gap silo_cmp_total silo es index s
-    (λ j e below at. turned silo e.0 Less (ap (λ y. silo_cmp y.0 silo) (sym (get_or_from_slice_get es j e e at)) ∙ point.0 j e (omega arith) below))
+    (λ j e below at. turned silo e.0 Less (ap (λ y. silo_cmp y.0 silo) (sym (get_or_from_slice_get es j e e at))
+    ∙ point.0 j e (omega arith) below))
     (λ e at. let inside : index < length es = slice_get_within es index e at in
-    turned silo e.0 Greater (ap (λ y. silo_cmp y.0 silo) (sym (get_or_from_slice_get es index e e at)) ∙ point.1 index e (omega arith) inside))
+    turned silo e.0 Greater (ap (λ y. silo_cmp y.0 silo) (sym (get_or_from_slice_get es index e e at))
+    ∙ point.1 index e (omega arith) inside))

@@ -16,7 +16,11 @@ use Rattle.membership_view.proofs.SameEndpoint.{lower_generation, newest_from, o
 use Rattle.membership_view.proofs.Kept.{occupant_row}
 
 pub newest_is : NewestIs
-newest_is views whole silo = (λ newest other same there. lower newest other same (row_of views other) refl there, λ each. newest_from silo views.rows whole.in_order (λ q row found shares. each q ((Decides-shares silo q).0 shares) (ap (λ o. is_some (option_map (λ (r : Row). r.joined) o)) found)))
+newest_is views whole silo = (
+  λ newest other same there. lower newest other same (row_of views other) refl there,
+  λ each. newest_from silo views.rows whole.in_order
+      (λ q row found shares. each q ((Decides-shares silo q).0 shares) (ap (λ o. is_some (option_map (λ (r : Row). r.joined) o)) found)),
+)
   where
     lower : is_newest silo views.rows ≡ true → (other : Silo) → IsSameEndpoint silo other → (o : Option Row) → row_of views other ≡ o
         → IsSome (option_map (λ (r : Row). r.joined) o) → other.generation < silo.generation
@@ -24,7 +28,8 @@ newest_is views whole silo = (λ newest other same there. lower newest other sam
     lower newest other same (Some row) is there = lower_generation silo views.rows newest other row is ((Decides-shares silo other).1 same)
 
 -- a silo whose row is not dead is there and isn't Dead in the current view
-live_now : (views : ViewsValue) → IsViews views → (silo : Silo) (row : Row) → row_of views silo ≡ Some row → row.dead ≡ None → IsLiveIn views views.version silo
+live_now : (views : ViewsValue) → IsViews views → (silo : Silo) (row : Row) → row_of views silo ≡ Some row → row.dead ≡ None
+    → IsLiveIn views views.version silo
 live_now views whole silo row found none =
     let says : status_at views views.version silo ≡ status_in views.version row =
     status_at-made views whole.in_order views.version silo (omega arith) ∙ ap (λ o. option_and_then (status_in views.version) o) found in (
@@ -40,7 +45,8 @@ live_now views whole silo row found none =
     never : (row : Row) (version : ℕ) → row.dead ≡ None → status_in version row ≡ Some Dead → ⊥
     never row version none h =
         never_by (has_come row.left version) (nat_le row.joined version)
-        (sym (ap (λ c. if has_come c version then Some Dead else (if has_come row.left version then Some Leaving else (if nat_le row.joined version then Some Active else None))) none) ∙ h)
+        (sym (ap (λ c. if has_come c version then Some Dead else
+        (if has_come row.left version then Some Leaving else (if nat_le row.joined version then Some Active else None))) none) ∙ h)
 
 pub occupant_law : OccupantIs
 occupant_law views whole silo old = (there, back)

@@ -14,7 +14,8 @@ has_come_later None m n h come = cc
 has_come_later (Some made) m n h come = let k : made ≤ m = leb-true made m come in le-leb made n (omega arith)
 
 -- a change that has not been made by a version, and can't have been made later, has not been made
-pub not_made : (change : Option ℕ) (version : ℕ) → ((made : ℕ) → change ≡ Some made → made ≤ version) → has_come change version ≡ false → change ≡ None
+pub not_made : (change : Option ℕ) (version : ℕ) → ((made : ℕ) → change ≡ Some made → made ≤ version) → has_come change version ≡ false
+    → change ≡ None
 not_made None version by_then not_come = refl
 not_made (Some made) version by_then not_come =
     let k : made ≤ version = by_then made refl in
@@ -81,11 +82,15 @@ there_later row m n h is =
     ])
 
 -- the changes of a row keep what it was in every earlier version
-pub status_before_leaving : (version made : ℕ) (row : Row) → version < made → has_come row.left version ≡ false → status_in version (leaving made row) ≡ status_in version row
-status_before_leaving version made row h not = ap (λ b. by_come (has_come row.dead version) b (nat_le row.joined version)) (lt-leb made version h ∙ sym not)
+pub status_before_leaving : (version made : ℕ) (row : Row) → version < made → has_come row.left version ≡ false
+    → status_in version (leaving made row) ≡ status_in version row
+status_before_leaving version made row h not =
+    ap (λ b. by_come (has_come row.dead version) b (nat_le row.joined version)) (lt-leb made version h ∙ sym not)
 
-pub status_before_dying : (version made : ℕ) (row : Row) → version < made → has_come row.dead version ≡ false → status_in version (dying made row) ≡ status_in version row
-status_before_dying version made row h not = ap (λ b. by_come b (has_come row.left version) (nat_le row.joined version)) (lt-leb made version h ∙ sym not)
+pub status_before_dying : (version made : ℕ) (row : Row) → version < made → has_come row.dead version ≡ false
+    → status_in version (dying made row) ≡ status_in version row
+status_before_dying version made row h not =
+    ap (λ b. by_come b (has_come row.left version) (nat_le row.joined version)) (lt-leb made version h ∙ sym not)
 
 -- how many changes a row has seen rises with each
 pub changes_leaving : (made : ℕ) (row : Row) → row.left ≡ None → changes_of (leaving made row) ≡ changes_of row + 1
@@ -95,44 +100,56 @@ pub changes_dying : (made : ℕ) (row : Row) → row.dead ≡ None → changes_o
 changes_dying made row none = let e : is_some row.dead ≡ false = ap is_some none in grind arith
 
 -- a change that came came after the silo joined
-since : (change : Option ℕ) (joined version : ℕ) → ((made : ℕ) → change ≡ Some made → joined < made) → has_come change version ≡ true → joined ≤ version
+since : (change : Option ℕ) (joined version : ℕ) → ((made : ℕ) → change ≡ Some made → joined < made) → has_come change version ≡ true
+    → joined ≤ version
 since None joined version after come = cc
-since (Some made) joined version after come = let h : made ≤ version = leb-true made version come in let k : joined < made = after made refl in omega arith
+since (Some made) joined version after come =
+    let h : made ≤ version = leb-true made version come in let k : joined < made = after made refl in omega arith
 
 -- a row says something of a version from the joining of its silo on
 pub joined_since : (now version : ℕ) (row : Row) → IsInTime now row → IsSome (status_in version row) → row.joined ≤ version
-joined_since now version row in' there = elim (there_is (has_come row.dead version) (has_come row.left version) (nat_le row.joined version) there) [
-  | inl e ↦ since row.dead row.joined version (λ made is. (in'.dead_after made is).0) e
-  | inr k ↦ elim k [
-    | inl e ↦ since row.left row.joined version (λ made is. (in'.left_after made is).0) e
-    | inr e ↦ leb-true row.joined version e
-  ]
-]
+joined_since now version row in' there =
+    elim (there_is (has_come row.dead version) (has_come row.left version) (nat_le row.joined version) there) [
+      | inl e ↦ since row.dead row.joined version (λ made is. (in'.dead_after made is).0) e
+      | inr k ↦ elim k [
+        | inl e ↦ since row.left row.joined version (λ made is. (in'.left_after made is).0) e
+        | inr e ↦ leb-true row.joined version e
+      ]
+    ]
 
 pub there_from : (version : ℕ) (row : Row) → row.joined ≤ version → IsSome (status_in version row)
-there_from version row h = there_by (has_come row.dead version) (has_come row.left version) (nat_le row.joined version) (inr (inr (le-leb row.joined version h)))
+there_from version row h =
+    there_by (has_come row.dead version) (has_come row.left version) (nat_le row.joined version) (inr (inr (le-leb row.joined version h)))
 
 -- and nothing before
 pub nothing_before : (now version : ℕ) (row : Row) → IsInTime now row → version < row.joined → status_in version row ≡ None
 nothing_before now version row in' h =
-    ap (λ b. by_come b (has_come row.left version) (nat_le row.joined version)) (not_come row.dead version (λ made is. let k = (in'.dead_after made is).0 in omega arith))
-    ∙ ap (λ b. by_come false b (nat_le row.joined version)) (not_come row.left version (λ made is. let k = (in'.left_after made is).0 in omega arith))
+    ap (λ b. by_come b (has_come row.left version) (nat_le row.joined version))
+    (not_come row.dead version (λ made is. let k = (in'.dead_after made is).0 in omega arith))
+    ∙ ap (λ b. by_come false b (nat_le row.joined version))
+    (not_come row.left version (λ made is. let k = (in'.left_after made is).0 in omega arith))
     ∙ ap (λ b. by_come false false b) (lt-leb row.joined version h)
 
-come_same : (change : Option ℕ) (version : ℕ) → ((made : ℕ) → change ≡ Some made → made ≤ version) → has_come change (version + 1) ≡ has_come change version
+come_same : (change : Option ℕ) (version : ℕ) → ((made : ℕ) → change ≡ Some made → made ≤ version)
+    → has_come change (version + 1) ≡ has_come change version
 come_same None version by_then = refl
-come_same (Some made) version by_then = let h : made ≤ version = by_then made refl in le-leb made (version + 1) (omega arith) ∙ sym (le-leb made version h)
+come_same (Some made) version by_then =
+    let h : made ≤ version = by_then made refl in le-leb made (version + 1) (omega arith) ∙ sym (le-leb made version h)
 
 -- a row that no change touches says the same of the next version
 pub status_next : (version : ℕ) (row : Row) → IsInTime version row → status_in (version + 1) row ≡ status_in version row
 status_next version row in' =
-    ap (λ b. by_come b (has_come row.left (version + 1)) (nat_le row.joined (version + 1))) (come_same row.dead version (λ made is. (in'.dead_after made is).1))
-    ∙ ap (λ b. by_come (has_come row.dead version) b (nat_le row.joined (version + 1))) (come_same row.left version (λ made is. (in'.left_after made is).1))
-    ∙ ap (λ b. by_come (has_come row.dead version) (has_come row.left version) b) (come_same (Some row.joined) version (λ made is. here made (same_Some row.joined made is)))
+    ap (λ b. by_come b (has_come row.left (version + 1)) (nat_le row.joined (version + 1)))
+    (come_same row.dead version (λ made is. (in'.dead_after made is).1))
+    ∙ ap (λ b. by_come (has_come row.dead version) b (nat_le row.joined (version + 1)))
+    (come_same row.left version (λ made is. (in'.left_after made is).1))
+    ∙ ap (λ b. by_come (has_come row.dead version) (has_come row.left version) b)
+    (come_same (Some row.joined) version (λ made is. here made (same_Some row.joined made is)))
   where
     here : (made : ℕ) → row.joined ≡ made → made ≤ version
     here made is = let k : row.joined ≤ version = in'.joined_by in omega arith
 
 -- a row with a death that came is Dead
 pub dead_by : (version made : ℕ) (row : Row) → row.dead ≡ Some made → made ≤ version → status_in version row ≡ Some Dead
-dead_by version made row is h = ap (λ b. by_come b (has_come row.left version) (nat_le row.joined version)) (come row.dead version made is h)
+dead_by version made row is h =
+    ap (λ b. by_come b (has_come row.left version) (nat_le row.joined version)) (come row.dead version made is h)

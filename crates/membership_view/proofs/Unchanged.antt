@@ -75,7 +75,8 @@ views_stay views change next accepts version h =
     let is = is_next views change next accepts in
     let kept : IsViews (next_views views is.rows) = subst (λ v. IsViews v) is.is (views_are_kept views change next accepts) in
     ap (λ v. view_at v version) is.is
-    ∙ view_at-same views is.rows version h (rows_in-same version is.rows views.rows kept.in_order accepts.whole.in_order (is.same version h))
+    ∙ view_at-same views is.rows version h (rows_in-same version is.rows views.rows kept.in_order accepts.whole.in_order
+    (is.same version h))
 
 -- by the row: what holds of a row's statuses from version to version holds of the views
 by_row : (views : ViewsValue) → IsViews views → (silo : Silo) (version : ℕ) → version ≤ views.version
@@ -107,15 +108,25 @@ record IsThere (views : ViewsValue) (version : ℕ) (silo : Silo) : Type 0 where
   made : version ≤ views.version
   says : status_at views version silo ≡ status_in version row
 
-is_there : (views : ViewsValue) → IsViews views → (version : ℕ) (silo : Silo) → IsSome (status_at views version silo) → IsThere views version silo
-is_there views whole version silo there = by (nat_le version views.version) refl (subst (λ o. IsSome o) (status_at-row views whole.in_order version silo) there)
+is_there : (views : ViewsValue) → IsViews views → (version : ℕ) (silo : Silo) → IsSome (status_at views version silo)
+    → IsThere views version silo
+is_there views whole version silo there =
+    by (nat_le version views.version) refl (subst (λ o. IsSome o) (status_at-row views whole.in_order version silo) there)
   where
-    row_is : version ≤ views.version → (o : Option Row) → row_of views silo ≡ o → IsSome (option_and_then (status_in version) o) → IsThere views version silo
+    row_is : version ≤ views.version → (o : Option Row) → row_of views silo ≡ o → IsSome (option_and_then (status_in version) o)
+        → IsThere views version silo
     row_is h None is there = cc
     row_is h (Some row) is there =
-        record { row = row; found = is; made = h; says = by_row views whole silo version h ∙ ap (λ o. option_and_then (status_in version) o) is }
+        record {
+          row = row;
+          found = is;
+          made = h;
+          says = by_row views whole silo version h
+              ∙ ap (λ o. option_and_then (status_in version) o) is;
+        }
 
-    by : (b : Bool) → nat_le version views.version ≡ b → IsSome (if b then option_and_then (status_in version) (row_of views silo) else None) → IsThere views version silo
+    by : (b : Bool) → nat_le version views.version ≡ b
+        → IsSome (if b then option_and_then (status_in version) (row_of views silo) else None) → IsThere views version silo
     by true h there = row_is (leb-true version views.version h) (row_of views silo) refl there
     by false h there = cc
 
@@ -129,9 +140,11 @@ joined_from views whole silo joined at version made = (λ there. after there, λ
         let k : is.row.joined ≤ version = joined_since views.version version is.row (whole.in_time silo is.row is.found) (subst (λ o. IsSome o) is.says there) in
         omega arith
 
-    there_by_row : joined ≤ version → (o : Option Row) → row_of views silo ≡ o → option_map (λ (r : Row). r.joined) o ≡ Some joined → IsSome (option_and_then (status_in version) o)
+    there_by_row : joined ≤ version → (o : Option Row) → row_of views silo ≡ o → option_map (λ (r : Row). r.joined) o ≡ Some joined
+        → IsSome (option_and_then (status_in version) o)
     there_by_row h None is at = cc
-    there_by_row h (Some row) is at = let same : row.joined ≡ joined = same_Some row.joined joined at in there_from version row (omega arith)
+    there_by_row h (Some row) is at =
+        let same : row.joined ≡ joined = same_Some row.joined joined at in there_from version row (omega arith)
 
     from : joined ≤ version → IsSome (status_at views version silo)
     from h = subst (λ o. IsSome o) (sym (by_row views whole silo version made)) (there_by_row h (row_of views silo) refl at)
@@ -157,12 +170,16 @@ one_is_live views whole version a b same a_lives b_lives =
       ]
     ]
   where
-    dead : (older newer : Silo) → (of_older : IsThere views version older) → (of_newer : IsThere views version newer) → IsSameEndpoint newer older
+    dead : (older newer : Silo) → (of_older : IsThere views version older) → (of_newer : IsThere views version newer)
+        → IsSameEndpoint newer older
         → older.generation < newer.generation → IsSome (status_at views version newer) → status_at views version older ≡ Some Dead
     dead older newer of_older of_newer same lower there =
         let joined : of_newer.row.joined ≤ version =
-        joined_since views.version version of_newer.row (whole.in_time newer of_newer.row of_newer.found) (subst (λ o. IsSome o) of_newer.says there) in
+        joined_since views.version version of_newer.row (whole.in_time newer of_newer.row of_newer.found)
+        (subst (λ o. IsSome o) of_newer.says there) in
         let came : has_come of_older.row.dead version ≡ true =
         has_come_later of_older.row.dead of_newer.row.joined version joined
         (whole.older_dead older newer of_older.row of_newer.row of_older.found of_newer.found same lower) in
-        of_older.says ∙ ap (λ d. if d then Some Dead else (if has_come of_older.row.left version then Some Leaving else (if nat_le of_older.row.joined version then Some Active else None))) came
+        of_older.says ∙ ap (λ d. if d then Some Dead else
+        (if has_come of_older.row.left version then Some Leaving else
+        (if nat_le of_older.row.joined version then Some Active else None))) came

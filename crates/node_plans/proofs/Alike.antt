@@ -2,17 +2,14 @@
 use Rattle.std.proofs.Common.{◌≡◌, refl, sym, ap, ◌∙◌, ℕ, List, [], ◌∷◌, ◌++◌}
 use Rattle.std.specs.Prelude.{Option, Some, None, flat_map}
 use Rattle.silo_address.specs.Silo.{Silo}
+use Rattle.silo_address.specs.Grain.{Grain}
 use Rattle.ring_range.specs.Range.{Range}
 use Rattle.directory_rules.specs.declared.Act.{Act}
 use Rattle.directory_rules.specs.declared.PieceState.{PieceState}
 use Rattle.directory_rules.specs.declared.PieceState.TheVariants.{Settled, Awaiting, Recovering}
-use Rattle.directory_rules.specs.Cache.{Cache}
-use Rattle.directory_rules.specs.Host.{outstanding, renewed}
-use Rattle.directory_rules.specs.Letter.{Request_letter}
-use Rattle.directory_rules.specs.Node.{Node}
-use Rattle.directory_rules.specs.Piece.{Piece, Holding}
+use Rattle.directory_rules.specs.State.{Cache, Request_letter, Node, Piece, Holding, Snapshot}
+use Rattle.directory_rules.specs.Host.{outstanding, renewed, renewed_about}
 use Rattle.directory_rules.specs.Sent.{all_requests, hash_of, letter_if_owned, owner_by, request_letters, request_of, wants_by}
-use Rattle.directory_rules.specs.Snapshot.{Snapshot}
 use Rattle.grain_partition.specs.Seen.{emptied}
 use Rattle.node_plans.specs.Sender.{bare, wants_of}
 
@@ -22,7 +19,8 @@ module _ (node : Node) (holding : Holding) (shelf : List Snapshot) (cache : Cach
   other = record node { holding = holding; shelf = shelf; host = renewed node.host; cache = cache }
 
   owned : (owner : Option Silo) (number : ℕ) (act : Act)
-      → letter_if_owned owner node (Request_letter (request_of node number act)) ≡ letter_if_owned owner other (Request_letter (request_of other number act))
+      → letter_if_owned owner node (Request_letter (request_of node number act)) ≡ letter_if_owned owner other
+      (Request_letter (request_of other number act))
   owned None number act = refl
   owned (Some owner) number act = refl
 
@@ -42,6 +40,21 @@ module _ (node : Node) (holding : Holding) (shelf : List Snapshot) (cache : Cach
   pub same_wanted : (pieces : List (ℕ × Piece)) → wants_of node pieces ≡ wants_of other pieces
   same_wanted pieces = λ i. flat_map (λ e. same_wants e.1.state e.1.range i) pieces
 
+-- with the requests about a grain renewed it sends the same
+module _ (node : Node) (grain : Grain) where
+  abbrev renewed_node : Node
+  renewed_node = record node { host = renewed_about grain node.host }
+
+  owned_about : (owner : Option Silo) (number : ℕ) (act : Act)
+      → letter_if_owned owner node (Request_letter (request_of node number act)) ≡ letter_if_owned owner renewed_node
+      (Request_letter (request_of renewed_node number act))
+  owned_about None number act = refl
+  owned_about (Some owner) number act = refl
+
+  pub same_about : (requests : List (ℕ × Act)) → flat_map (λ e. request_letters node e.0 e.1) requests ≡ flat_map
+      (λ e. request_letters renewed_node e.0 e.1) requests
+  same_about requests = λ i. flat_map (λ e. owned_about (owner_by node (hash_of node e.1)) e.0 e.1 i) requests
+
 -- entries are nothing to it
 pub emptied_want : (node : Node) (pieces : List (ℕ × Piece)) → wants_of node (emptied pieces) ≡ wants_of node pieces
 emptied_want node [] = refl
@@ -49,10 +62,14 @@ emptied_want node (e ∷ es) = ap (λ l. wants_by e.1.state node e.1.range ++ l)
 
 -- a node sends what it sends without its pieces, snapshots and hints
 pub bare_request : (node : Node) (number : ℕ) (act : Act) → request_letters (bare node) number act ≡ request_letters node number act
-bare_request node number act = same_request (bare node) node.holding node.shelf node.cache number act ∙ sym (same_request node node.holding node.shelf node.cache number act)
+bare_request node number act =
+    same_request (bare node) node.holding node.shelf node.cache number act
+    ∙ sym (same_request node node.holding node.shelf node.cache number act)
 
-pub bare_requests : (node : Node) (requests : List (ℕ × Act)) → flat_map (λ e. request_letters (bare node) e.0 e.1) requests ≡ flat_map (λ e. request_letters node e.0 e.1) requests
+pub bare_requests : (node : Node) (requests : List (ℕ × Act))
+    → flat_map (λ e. request_letters (bare node) e.0 e.1) requests ≡ flat_map (λ e. request_letters node e.0 e.1) requests
 bare_requests node requests = λ i. flat_map (λ e. bare_request node e.0 e.1 i) requests
 
 pub bare_wants : (node : Node) (pieces : List (ℕ × Piece)) → wants_of (bare node) pieces ≡ wants_of node pieces
-bare_wants node pieces = same_wanted (bare node) node.holding node.shelf node.cache pieces ∙ sym (same_wanted node node.holding node.shelf node.cache pieces)
+bare_wants node pieces =
+    same_wanted (bare node) node.holding node.shelf node.cache pieces ∙ sym (same_wanted node node.holding node.shelf node.cache pieces)

@@ -13,8 +13,7 @@ use Rattle.directory_rules.specs.declared.Why.{Why}
 use Rattle.directory_rules.specs.declared.Why.TheVariants.{View, OldNumber}
 use Rattle.directory_rules.specs.declared.PieceState.{PieceState}
 use Rattle.directory_rules.specs.declared.PieceState.TheVariants.{Settled, Awaiting, Recovering}
-use Rattle.directory_rules.specs.Piece.{Piece, Holding}
-use Rattle.directory_rules.specs.Recovery.{Recovery}
+use Rattle.directory_rules.specs.State.{Piece, Holding, Recovery}
 use Rattle.directory_rules.specs.Answer.{with_piece, serving_piece, serving_by_piece, serving_by_state, serving_by_number, answered, answered_from, served_by, piece_with, is_numbered, last_served}
 use Rattle.std.proofs.lemmas.Map.Lookups.{exact_unsigned}
 use Rattle.texts.proofs.Orderings.{Equal-from}
@@ -25,14 +24,16 @@ use Rattle.directory_rules.proofs.Tables.{lookup-remove_other}
 use Rattle.node_plans.specs.Node.{HasRecovery, HaveRecoveries}
 
 -- what is found after a value was written is that value, or was found before
-found_or_written : {X : Type 0} (key at : ℕ → Bool) (es : List (ℕ × X)) (w x : X) → lookup key (set_value at es w) ≡ Some x → (x ≡ w) ⊎ (lookup key es ≡ Some x)
+found_or_written : {X : Type 0} (key at : ℕ → Bool) (es : List (ℕ × X)) (w x : X) → lookup key (set_value at es w) ≡ Some x → (x ≡ w)
+    ⊎ (lookup key es ≡ Some x)
 found_or_written key at [] w x = λ found. inr found
 found_or_written key at (e ∷ es) w x =
     on_bool (λ b. lookup key (cond b ((e.0, w) ∷ es) (e ∷ set_value at es w)) ≡ Some x → (x ≡ w) ⊎ (lookup key (e ∷ es) ≡ Some x)) (at e.0)
     (λ t. on_bool (λ b. cond b (Some w) (lookup key es) ≡ Some x → (x ≡ w) ⊎ (cond b (Some e.1) (lookup key es) ≡ Some x)) (key e.0)
     (λ u is. inl (cc (is)))
     (λ u is. inr is))
-    (λ f. on_bool (λ b. cond b (Some e.1) (lookup key (set_value at es w)) ≡ Some x → (x ≡ w) ⊎ (cond b (Some e.1) (lookup key es) ≡ Some x)) (key e.0)
+    (λ f. on_bool (λ b. cond b (Some e.1) (lookup key (set_value at es w)) ≡ Some x → (x ≡ w)
+    ⊎ (cond b (Some e.1) (lookup key es) ≡ Some x)) (key e.0)
     (λ u is. inr is)
     (λ u is. found_or_written key at es w x is))
 
@@ -40,7 +41,8 @@ settled_is_not_recovering : (state : PieceState) → state ≡ Settled → state
 settled_is_not_recovering state settled recovering = cc (settled, recovering)
 
 -- a piece that is written settled needs no recovery
-pub settled_keeps : (piece : Piece) (pieces : List (ℕ × Piece)) (recoveries : List (ℕ × Recovery)) → piece.state ≡ Settled → HaveRecoveries pieces recoveries → HaveRecoveries (with_piece piece pieces) recoveries
+pub settled_keeps : (piece : Piece) (pieces : List (ℕ × Piece)) (recoveries : List (ℕ × Recovery)) → piece.state ≡ Settled
+    → HaveRecoveries pieces recoveries → HaveRecoveries (with_piece piece pieces) recoveries
 settled_keeps piece pieces recoveries settled have start other found recovering =
     elim (found_or_written (is_at (nat_cmp start)) (is_at (nat_cmp piece.range.start)) pieces piece other found) [
       | inl written ↦ absurd (settled_is_not_recovering piece.state settled (ap (λ (p : Piece). p.state) (sym written) ∙ recovering))
@@ -51,13 +53,16 @@ settled_keeps piece pieces recoveries settled have start other found recovering 
 abbrev ServesSettled : Result Piece Why → Type 0
 ServesSettled serving = (piece : Piece) → serving ≡ Ok piece → piece.state ≡ Settled
 
-by_number : (piece : Piece) (holding : Holding) (request : Request) → piece.state ≡ Settled → ServesSettled (serving_by_number piece holding request)
+by_number : (piece : Piece) (holding : Holding) (request : Request) → piece.state ≡ Settled
+    → ServesSettled (serving_by_number piece holding request)
 by_number piece holding request settled =
-    on_bool (λ b. ServesSettled (cond b (Err (OldNumber (last_served request.sender holding.served))) (Ok piece))) (is_numbered request.act && not (nat_lt (last_served request.sender holding.served) request.number))
+    on_bool (λ b. ServesSettled (cond b (Err (OldNumber (last_served request.sender holding.served))) (Ok piece)))
+    (is_numbered request.act && not (nat_lt (last_served request.sender holding.served) request.number))
     (λ t other is. absurd (cc (is)))
     (λ f other is. cc (is, settled))
 
-by_state : (state : PieceState) (piece : Piece) (holding : Holding) (request : Request) → piece.state ≡ state → ServesSettled (serving_by_state state piece holding request)
+by_state : (state : PieceState) (piece : Piece) (holding : Holding) (request : Request) → piece.state ≡ state
+    → ServesSettled (serving_by_state state piece holding request)
 by_state Settled piece holding request is = by_number piece holding request is
 by_state (Awaiting from) piece holding request is = λ other served. absurd (cc (served))
 by_state Recovering piece holding request is = λ other served. absurd (cc (served))
@@ -68,27 +73,35 @@ by_piece (Some piece) holding request = by_state piece.state piece holding reque
 
 serving_settled : (holding : Holding) (request : Request) → ServesSettled (serving_piece holding request)
 serving_settled holding request =
-    on_bool (λ b. ServesSettled (cond b (serving_by_piece (piece_with request.hash holding.pieces) holding request) (Err (View holding.seen)))) (request.version == holding.seen)
+    on_bool (λ b. ServesSettled (cond b (serving_by_piece (piece_with request.hash holding.pieces) holding request)
+    (Err (View holding.seen)))) (request.version == holding.seen)
     (λ t. by_piece (piece_with request.hash holding.pieces) holding request)
     (λ f other served. absurd (cc (served)))
 
-served_keeps : (act : Act) (piece : Piece) (holding : Holding) (request : Request) (recoveries : List (ℕ × Recovery)) → piece.state ≡ Settled
+served_keeps : (act : Act) (piece : Piece) (holding : Holding) (request : Request) (recoveries : List (ℕ × Recovery))
+    → piece.state ≡ Settled
     → HaveRecoveries holding.pieces recoveries → HaveRecoveries (served_by act piece holding request).holding.pieces recoveries
-served_keeps (Register entry previous) piece holding request recoveries settled have = settled_keeps _ holding.pieces recoveries settled have
+served_keeps (Register entry previous) piece holding request recoveries settled have =
+    settled_keeps _ holding.pieces recoveries settled have
 served_keeps (Deregister entry) piece holding request recoveries settled have = settled_keeps _ holding.pieces recoveries settled have
 served_keeps (Find grain) piece holding request recoveries settled have = have
 
-answer_keeps : (serving : Result Piece Why) (holding : Holding) (request : Request) (recoveries : List (ℕ × Recovery)) → ServesSettled serving
+answer_keeps : (serving : Result Piece Why) (holding : Holding) (request : Request) (recoveries : List (ℕ × Recovery))
+    → ServesSettled serving
     → HaveRecoveries holding.pieces recoveries → HaveRecoveries (answered_from serving holding request).holding.pieces recoveries
-answer_keeps (Ok piece) holding request recoveries settled have = served_keeps request.act piece holding request recoveries (settled piece refl) have
+answer_keeps (Ok piece) holding request recoveries settled have =
+    served_keeps request.act piece holding request recoveries (settled piece refl) have
 answer_keeps (Err why) holding request recoveries settled have = have
 
 -- an answered request leaves the pieces that recover as they are
-pub answered_keeps : (holding : Holding) (request : Request) (recoveries : List (ℕ × Recovery)) → HaveRecoveries holding.pieces recoveries → HaveRecoveries (answered holding request).holding.pieces recoveries
-answered_keeps holding request recoveries have = answer_keeps (serving_piece holding request) holding request recoveries (serving_settled holding request) have
+pub answered_keeps : (holding : Holding) (request : Request) (recoveries : List (ℕ × Recovery)) → HaveRecoveries holding.pieces recoveries
+    → HaveRecoveries (answered holding request).holding.pieces recoveries
+answered_keeps holding request recoveries have =
+    answer_keeps (serving_piece holding request) holding request recoveries (serving_settled holding request) have
 
 -- what was written is found there
-pub written_is_found : {X : Type 0} (at : ℕ → Bool) (es : List (ℕ × X)) (w x : X) → lookup at es ≡ Some x → lookup at (set_value at es w) ≡ Some w
+pub written_is_found : {X : Type 0} (at : ℕ → Bool) (es : List (ℕ × X)) (w x : X) → lookup at es ≡ Some x
+    → lookup at (set_value at es w) ≡ Some w
 written_is_found at [] w x = λ found. absurd (cc (found))
 written_is_found at (e ∷ es) w x =
     on_bool (λ b. cond b (Some e.1) (lookup at es) ≡ Some x → lookup at (cond b ((e.0, w) ∷ es) (e ∷ set_value at es w)) ≡ Some w) (at e.0)
@@ -96,7 +109,8 @@ written_is_found at (e ∷ es) w x =
     (λ f found. ap (λ b. cond b (Some e.1) (lookup at (set_value at es w))) f ∙ written_is_found at es w x found)
 
 -- and elsewhere what was found before
-pub other_than_written : {X : Type 0} (at key : ℕ → Bool) (es : List (ℕ × X)) (w : X) → ((j : ℕ) → at j ≡ true → key j ≡ false) → lookup key (set_value at es w) ≡ lookup key es
+pub other_than_written : {X : Type 0} (at key : ℕ → Bool) (es : List (ℕ × X)) (w : X) → ((j : ℕ) → at j ≡ true → key j ≡ false)
+    → lookup key (set_value at es w) ≡ lookup key es
 other_than_written at key [] w apart = refl
 other_than_written at key (e ∷ es) w apart =
     on_bool (λ b. lookup key (cond b ((e.0, w) ∷ es) (e ∷ set_value at es w)) ≡ lookup key (e ∷ es)) (at e.0)
@@ -104,7 +118,8 @@ other_than_written at key (e ∷ es) w apart =
     (λ f. ap (λ l. cond (key e.0) (Some e.1) l) (other_than_written at key es w apart))
 
 -- a piece that recovers after another was written settled recovered before
-recovered_before : (piece : Piece) (pieces : List (ℕ × Piece)) (start : ℕ) (other : Piece) → piece.state ≡ Settled → lookup (is_at (nat_cmp start)) (with_piece piece pieces) ≡ Some other
+recovered_before : (piece : Piece) (pieces : List (ℕ × Piece)) (start : ℕ) (other : Piece) → piece.state ≡ Settled
+    → lookup (is_at (nat_cmp start)) (with_piece piece pieces) ≡ Some other
     → other.state ≡ Recovering → lookup (is_at (nat_cmp start)) pieces ≡ Some other
 recovered_before piece pieces start other settled found recovering =
     elim (found_or_written (is_at (nat_cmp start)) (is_at (nat_cmp piece.range.start)) pieces piece other found) [
@@ -113,7 +128,8 @@ recovered_before piece pieces start other settled found recovering =
     ]
 
 -- and it doesn't begin where that one begins
-not_at_its_start : (piece : Piece) (pieces : List (ℕ × Piece)) (start : ℕ) (other : Piece) → piece.state ≡ Settled → lookup (is_at (nat_cmp start)) (with_piece piece pieces) ≡ Some other
+not_at_its_start : (piece : Piece) (pieces : List (ℕ × Piece)) (start : ℕ) (other : Piece) → piece.state ≡ Settled
+    → lookup (is_at (nat_cmp start)) (with_piece piece pieces) ≡ Some other
     → other.state ≡ Recovering → is_at (nat_cmp piece.range.start) start ≡ true → ⊥
 not_at_its_start piece pieces start other settled found recovering t =
     let same : piece.range.start ≡ start = exact_unsigned piece.range.start start (Equal-from (nat_cmp piece.range.start start) t) in
@@ -126,20 +142,25 @@ pub apart_from : (k start j : ℕ) → is_at (nat_cmp k) start ≡ false → is_
 apart_from k start j f at = apart_in_order nat_cmp exact_unsigned start j (λ same. absurd (cc (ap (λ s. is_at (nat_cmp k) s) same, at, f)))
 
 -- a piece that is written settled needs no recovery any more
-pub settled_removes : (piece : Piece) (pieces : List (ℕ × Piece)) (recoveries : List (ℕ × Recovery)) → piece.state ≡ Settled → HaveRecoveries pieces recoveries
+pub settled_removes : (piece : Piece) (pieces : List (ℕ × Piece)) (recoveries : List (ℕ × Recovery)) → piece.state ≡ Settled
+    → HaveRecoveries pieces recoveries
     → HaveRecoveries (with_piece piece pieces) (remove_entry (is_at (nat_cmp piece.range.start)) recoveries)
 settled_removes piece pieces recoveries settled have start other found recovering =
     let had = have start other (recovered_before piece pieces start other settled found recovering) recovering in
-    on_bool (λ b. HasRecovery (remove_entry (is_at (nat_cmp piece.range.start)) recoveries) start other) (is_at (nat_cmp piece.range.start) start)
+    on_bool (λ b. HasRecovery (remove_entry (is_at (nat_cmp piece.range.start)) recoveries) start other)
+    (is_at (nat_cmp piece.range.start) start)
     (λ t. absurd (not_at_its_start piece pieces start other settled found recovering t))
     (λ f. record {
       recovery = had.recovery;
-      there = lookup-remove_other (is_at (nat_cmp piece.range.start)) (is_at (nat_cmp start)) (λ j at. apart_from piece.range.start start j f at) recoveries ∙ had.there;
+      there =
+          lookup-remove_other (is_at (nat_cmp piece.range.start)) (is_at (nat_cmp start))
+          (λ j at. apart_from piece.range.start start j f at) recoveries ∙ had.there;
       its_range = had.its_range;
     })
 
 -- what stands where a piece was written is that piece
-written_there : (piece : Piece) (pieces : List (ℕ × Piece)) (start : ℕ) (other : Piece) → piece.range.start ≡ start → lookup (is_at (nat_cmp start)) (with_piece piece pieces) ≡ Some other → other ≡ piece
+written_there : (piece : Piece) (pieces : List (ℕ × Piece)) (start : ℕ) (other : Piece) → piece.range.start ≡ start
+    → lookup (is_at (nat_cmp start)) (with_piece piece pieces) ≡ Some other → other ≡ piece
 written_there piece pieces start other same found =
     elim (found_or_written (is_at (nat_cmp start)) (is_at (nat_cmp piece.range.start)) pieces piece other found) [
       | inl written ↦ written
@@ -150,7 +171,8 @@ written_there piece pieces start other same found =
     ]
 
 -- a piece that is written with its recovery has it
-pub recovering_puts : (piece : Piece) (recovery : Recovery) (pieces : List (ℕ × Piece)) (recoveries : List (ℕ × Recovery)) → recovery.range ≡ piece.range → HaveRecoveries pieces recoveries
+pub recovering_puts : (piece : Piece) (recovery : Recovery) (pieces : List (ℕ × Piece)) (recoveries : List (ℕ × Recovery))
+    → recovery.range ≡ piece.range → HaveRecoveries pieces recoveries
     → HaveRecoveries (with_piece piece pieces) (insert_entry nat_cmp recoveries piece.range.start recovery)
 recovering_puts piece recovery pieces recoveries range have start other found recovering =
     let key = piece.range.start in
@@ -160,14 +182,18 @@ recovering_puts piece recovery pieces recoveries range have start other found re
     let same : key ≡ start = exact_unsigned key start (Equal-from (nat_cmp key start) t) in
     record {
       recovery = recovery;
-      there = put ∙ ap (λ s. cond (is_at (nat_cmp start) s) (Some recovery) (lookup (is_at (nat_cmp start)) recoveries)) same ∙ ap (λ r. cond (is_eq r) (Some recovery) (lookup (is_at (nat_cmp start)) recoveries)) (tied_itself nat_cmp_total start);
+      there =
+          put ∙ ap (λ s. cond (is_at (nat_cmp start) s) (Some recovery) (lookup (is_at (nat_cmp start)) recoveries)) same
+          ∙ ap (λ r. cond (is_eq r) (Some recovery) (lookup (is_at (nat_cmp start)) recoveries)) (tied_itself nat_cmp_total start);
       its_range = range ∙ ap (λ (p : Piece). p.range) (sym (written_there piece pieces start other same found));
     })
     (λ f.
     let had = have start other (sym (other_than_written (is_at (nat_cmp key)) (is_at (nat_cmp start)) pieces piece (λ j at. apart_from key start j f at)) ∙ found) recovering in
     record {
       recovery = had.recovery;
-      there = put ∙ ap (λ b. cond b (Some recovery) (lookup (is_at (nat_cmp start)) recoveries)) (apart_from key start key f (ap is_eq (tied_itself nat_cmp_total key))) ∙ had.there;
+      there =
+          put ∙ ap (λ b. cond b (Some recovery) (lookup (is_at (nat_cmp start)) recoveries))
+          (apart_from key start key f (ap is_eq (tied_itself nat_cmp_total key))) ∙ had.there;
       its_range = had.its_range;
     })
 

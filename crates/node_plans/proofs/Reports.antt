@@ -8,13 +8,11 @@ use Rattle.ring_range.specs.Range.{Range}
 use Rattle.ring_range.proofs.Same.{Decides-range}
 use Rattle.directory_rules.specs.declared.PieceState.{PieceState}
 use Rattle.directory_rules.specs.declared.PieceState.TheVariants.{Settled, Awaiting, Recovering}
-use Rattle.directory_rules.specs.Piece.{Piece}
+use Rattle.directory_rules.specs.State.{Piece, Letter, Recovery, Report, Node}
 use Rattle.directory_rules.specs.declared.Effect.TheVariants.{Ignored}
-use Rattle.directory_rules.specs.Letter.{Letter}
-use Rattle.directory_rules.specs.Recovery.{Recovery, Report, Recovered, Awaits_more, Has_union, Rejects, recovered, with_report}
+use Rattle.directory_rules.specs.Recovery.{Recovered, Awaits_more, Has_union, Rejects, recovered, with_report}
 use Rattle.directory_rules.specs.Sent.{recovery_of}
 use Rattle.directory_rules.specs.Step.{silently}
-use Rattle.directory_rules.specs.Node.{Node}
 use Rattle.directory_rules.specs.Transfer.{has_range, is_recovering, is_report_awaited, piece_at, recovered_by, reported}
 use Rattle.std.proofs.lemmas.Map.Lookups.{exact_unsigned}
 use Rattle.std.proofs.lemmas.Bool.{and_parts}
@@ -36,7 +34,8 @@ pub record RecoversPiece (node : Node) (range : Range) : Type 0 where
   pub its_range : piece.range ≡ range
   pub state : piece.state ≡ Recovering
 
-found_piece : (node : Node) (range : Range) (found : Option Piece) → piece_at node range ≡ found → has_range is_recovering range found ≡ true → RecoversPiece node range
+found_piece : (node : Node) (range : Range) (found : Option Piece) → piece_at node range ≡ found
+    → has_range is_recovering range found ≡ true → RecoversPiece node range
 found_piece node range None at is = absurd (cc (is))
 found_piece node range (Some piece) at is = record {
   piece = piece;
@@ -49,15 +48,19 @@ range_recovers : (node : Node) (range : Range) → has_range is_recovering range
 range_recovers node range is = found_piece node range (piece_at node range) refl is
 
 -- so it does in a node that is the same one
-pub recovers_in : (one other : Node) (range : Range) → one ≡ other → has_range is_recovering range (piece_at other range) ≡ true → RecoversPiece one range
-recovers_in one other range same is = range_recovers one range (ap (λ (n : Node). has_range is_recovering range (piece_at n range)) same ∙ is)
+pub recovers_in : (one other : Node) (range : Range) → one ≡ other → has_range is_recovering range (piece_at other range) ≡ true
+    → RecoversPiece one range
+recovers_in one other range same is =
+    range_recovers one range (ap (λ (n : Node). has_range is_recovering range (piece_at n range)) same ∙ is)
 
 -- and its recovery
-pub its_recovery : (node : Node) (range : Range) → IsNode node → (piece : RecoversPiece node range) → HasRecovery node.recoveries range.start piece.piece
+pub its_recovery : (node : Node) (range : Range) → IsNode node → (piece : RecoversPiece node range)
+    → HasRecovery node.recoveries range.start piece.piece
 its_recovery node range is piece = is.recovers range.start piece.piece piece.there piece.state
 
 -- the recoveries, one of them with a report, still serve the pieces
-pub taken_keeps : (pieces : List (ℕ × Piece)) (recoveries : List (ℕ × Recovery)) (recovery : Recovery) (report : Report) → lookup (is_at (nat_cmp report.range.start)) recoveries ≡ Some recovery
+pub taken_keeps : (pieces : List (ℕ × Piece)) (recoveries : List (ℕ × Recovery)) (recovery : Recovery) (report : Report)
+    → lookup (is_at (nat_cmp report.range.start)) recoveries ≡ Some recovery
     → HaveRecoveries pieces recoveries → HaveRecoveries pieces (with_taken recovery report recoveries)
 taken_keeps pieces recoveries recovery report there have start piece found recovering =
     let had = have start piece found recovering in
@@ -67,12 +70,16 @@ taken_keeps pieces recoveries recovery report there have start piece found recov
     let one : had.recovery ≡ recovery = cc (had.there, ap (λ s. lookup (is_at (nat_cmp s)) recoveries) (sym same) ∙ there) in
     record {
       recovery = with_report recovery report;
-      there = ap (λ s. lookup (is_at (nat_cmp s)) (with_taken recovery report recoveries)) (sym same) ∙ written_is_found (is_at (nat_cmp report.range.start)) recoveries (with_report recovery report) recovery there;
+      there =
+          ap (λ s. lookup (is_at (nat_cmp s)) (with_taken recovery report recoveries)) (sym same)
+          ∙ written_is_found (is_at (nat_cmp report.range.start)) recoveries (with_report recovery report) recovery there;
       its_range = ap (λ (r : Recovery). r.range) (sym one) ∙ had.its_range;
     })
     (λ f. record {
       recovery = had.recovery;
-      there = other_than_written (is_at (nat_cmp report.range.start)) (is_at (nat_cmp start)) recoveries (with_report recovery report) (λ j at. apart_from report.range.start start j f at) ∙ had.there;
+      there =
+          other_than_written (is_at (nat_cmp report.range.start)) (is_at (nat_cmp start)) recoveries (with_report recovery report)
+          (λ j at. apart_from report.range.start start j f at) ∙ had.there;
       its_range = had.its_range;
     })
 
@@ -85,6 +92,7 @@ by_outcome (Rejects number) range node = refl
 
 pub answered_by_none : (node : Node) (letter : Letter) (report : Report) → length (reported node letter report).letters ≡ 0
 answered_by_none node letter report =
-    on_bool (λ b. length (cond b (recovered_by (recovered (recovery_of node report.range) report) report.range node) (silently node Ignored)).letters ≡ 0) (is_report_awaited node letter report)
+    on_bool (λ b. length (cond b (recovered_by (recovered (recovery_of node report.range) report) report.range node)
+    (silently node Ignored)).letters ≡ 0) (is_report_awaited node letter report)
     (λ t. by_outcome (recovered (recovery_of node report.range) report) report.range node)
     (λ f. refl)

@@ -12,4 +12,5 @@ rising_is_table entries rises = record { in_order = rising_sorted entries rises;
 
 -- entries that rise, put into nothing, are the table of them
 pub rising_put : (entries : List Entry) → rise_by_grain entries ≡ true → fold with_entry [] entries ≡ table_of entries
-rising_put entries rises = ap (λ l. fold with_entry [] l) (sym (entries_again entries)) ∙ put_in_nothing (table_of entries) (rising_is_table entries rises)
+rising_put entries rises =
+    ap (λ l. fold with_entry [] l) (sym (entries_again entries)) ∙ put_in_nothing (table_of entries) (rising_is_table entries rises)

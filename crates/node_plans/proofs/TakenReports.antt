@@ -6,7 +6,8 @@ use Rattle.std.specs.Map.{set_value}
 use Rattle.std.specs.BTreeMap.{is_at}
 use Rattle.std.proofs.lemmas.Bool.{false_from_ne_true}
 use Rattle.silo_address.specs.Silo.{Silo}
-use Rattle.directory_rules.specs.Recovery.{Recovery, Report, Recovered, Awaits_more, Has_union, Rejects, awaits_still, recovered, with_report}
+use Rattle.directory_rules.specs.State.{Recovery, Report}
+use Rattle.directory_rules.specs.Recovery.{Recovered, Awaits_more, Has_union, Rejects, awaits_still, recovered, with_report}
 use Rattle.range_recovery.specs.declared.RecoveryProgress.{RecoveryProgress}
 use Rattle.range_recovery.specs.declared.RecoveryProgress.TheVariants.{Complete}
 use Rattle.range_recovery.specs.Progress.{progress_of}
@@ -17,8 +18,10 @@ with_taken recovery report recoveries = set_value (is_at (nat_cmp report.range.s
 
 -- what came of a report: it is taken, and with the last one the recovery is complete; a report that is refused changes nothing
 abbrev pub IsTaken : Recovered → Recovery → Report → (old new : List (ℕ × Recovery)) → (complete : Bool) → Type 0
-IsTaken (Awaits_more more) recovery report old new complete = (complete ≡ false) × ((more ≡ with_report recovery report) × (new ≡ with_taken recovery report old))
-IsTaken (Has_union table) recovery report old new complete = (complete ≡ true) × ((table ≡ (with_report recovery report).gathered) × (new ≡ with_taken recovery report old))
+IsTaken (Awaits_more more) recovery report old new complete =
+    (complete ≡ false) × ((more ≡ with_report recovery report) × (new ≡ with_taken recovery report old))
+IsTaken (Has_union table) recovery report old new complete =
+    (complete ≡ true) × ((table ≡ (with_report recovery report).gathered) × (new ≡ with_taken recovery report old))
 IsTaken (Rejects number) recovery report old new complete = (complete ≡ false) × (new ≡ old)
 
 -- what the recovery with a report comes to
@@ -31,7 +34,8 @@ still : (awaiting : List Silo) (recovery : Recovery) → IsOf recovery (awaits_s
 still [] recovery = refl
 still (silo ∷ silos) recovery = refl
 
-not_refused : (a b c : Bool) (recovery : Recovery) (outcome : Recovered) → IsOf recovery outcome → IsOf recovery (cond a (Rejects 751) (cond b (Rejects 752) (cond c (Rejects 753) outcome)))
+not_refused : (a b c : Bool) (recovery : Recovery) (outcome : Recovered) → IsOf recovery outcome
+    → IsOf recovery (cond a (Rejects 751) (cond b (Rejects 752) (cond c (Rejects 753) outcome)))
 not_refused true b c recovery outcome is = tt
 not_refused false true c recovery outcome is = tt
 not_refused false false true recovery outcome is = tt
@@ -43,22 +47,32 @@ recovered_is recovery report =
     (still (with_report recovery report).awaiting (with_report recovery report))
 
 -- whether it is complete now, and the recoveries after it, tell all that came of it
-taken_by : (outcome : Recovered) (recovery : Recovery) (report : Report) (old new : List (ℕ × Recovery)) (complete : Bool) → IsOf (with_report recovery report) outcome
-    → (complete ≡ true) ↔ (progress_of outcome ≡ Ok Complete) → new ≡ cond (is_ok (progress_of outcome)) (with_taken recovery report old) old → IsTaken outcome recovery report old new complete
-taken_by (Awaits_more more) recovery report old new complete is whole new_is = (false_from_ne_true complete (λ t. cc (whole.0 t)), (is, new_is))
+taken_by : (outcome : Recovered) (recovery : Recovery) (report : Report) (old new : List (ℕ × Recovery)) (complete : Bool)
+    → IsOf (with_report recovery report) outcome
+    → (complete ≡ true) ↔ (progress_of outcome ≡ Ok Complete)
+    → new ≡ cond (is_ok (progress_of outcome)) (with_taken recovery report old) old → IsTaken outcome recovery report old new complete
+taken_by (Awaits_more more) recovery report old new complete is whole new_is =
+    (false_from_ne_true complete (λ t. cc (whole.0 t)), (is, new_is))
 taken_by (Has_union table) recovery report old new complete is whole new_is = (whole.1 refl, (is, new_is))
 taken_by (Rejects number) recovery report old new complete is whole new_is = (false_from_ne_true complete (λ t. cc (whole.0 t)), new_is)
 
-pub taken_is : (recovery : Recovery) (report : Report) (old new : List (ℕ × Recovery)) (complete : Bool) → (complete ≡ true) ↔ (progress_of (recovered recovery report) ≡ Ok Complete)
-    → new ≡ cond (is_ok (progress_of (recovered recovery report))) (with_taken recovery report old) old → IsTaken (recovered recovery report) recovery report old new complete
-taken_is recovery report old new complete whole new_is = taken_by (recovered recovery report) recovery report old new complete (recovered_is recovery report) whole new_is
+pub taken_is : (recovery : Recovery) (report : Report) (old new : List (ℕ × Recovery)) (complete : Bool)
+    → (complete ≡ true) ↔ (progress_of (recovered recovery report) ≡ Ok Complete)
+    → new ≡ cond (is_ok (progress_of (recovered recovery report))) (with_taken recovery report old) old
+    → IsTaken (recovered recovery report) recovery report old new complete
+taken_is recovery report old new complete whole new_is =
+    taken_by (recovered recovery report) recovery report old new complete (recovered_is recovery report) whole new_is
 
 -- a refused report completes nothing, and leaves the recoveries as they were
 by_refusal : (progress : Result RecoveryProgress ℕ) (taken old new : List (ℕ × Recovery)) (number : ℕ) → progress ≡ Err number → new ≡ old
     → ((false ≡ true) ↔ (progress ≡ Ok Complete)) × (new ≡ cond (is_ok progress) taken old)
-by_refusal progress taken old new number is same = ((λ t. cc (t), λ o. cc (is, o)), same ∙ sym (ap (λ (p : Result RecoveryProgress ℕ). cond (is_ok p) taken old) is))
+by_refusal progress taken old new number is same =
+    ((λ t. cc (t), λ o. cc (is, o)), same ∙ sym (ap (λ (p : Result RecoveryProgress ℕ). cond (is_ok p) taken old) is))
 
-pub refused_is : (recovery its : Recovery) (report : Report) (old new : List (ℕ × Recovery)) (number : ℕ) → recovered its report ≡ Rejects number → recovery ≡ its → new ≡ old
-    → ((false ≡ true) ↔ (progress_of (recovered recovery report) ≡ Ok Complete)) × (new ≡ cond (is_ok (progress_of (recovered recovery report))) (with_taken recovery report old) old)
+pub refused_is : (recovery its : Recovery) (report : Report) (old new : List (ℕ × Recovery)) (number : ℕ)
+    → recovered its report ≡ Rejects number → recovery ≡ its → new ≡ old
+    → ((false ≡ true) ↔ (progress_of (recovered recovery report) ≡ Ok Complete)) ×
+    (new ≡ cond (is_ok (progress_of (recovered recovery report))) (with_taken recovery report old) old)
 refused_is recovery its report old new number is same unchanged =
-    by_refusal (progress_of (recovered recovery report)) (with_taken recovery report old) old new number (ap progress_of (ap (λ (r : Recovery). recovered r report) same ∙ is)) unchanged
+    by_refusal (progress_of (recovered recovery report)) (with_taken recovery report old) old new number
+    (ap progress_of (ap (λ (r : Recovery). recovered r report) same ∙ is)) unchanged

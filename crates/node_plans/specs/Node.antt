@@ -4,10 +4,8 @@ use Rattle.std.specs.Ordering.{nat_cmp}
 use Rattle.std.specs.Map.{lookup}
 use Rattle.std.specs.BTreeMap.{is_at}
 use Rattle.directory_rules.specs.declared.PieceState.TheVariants.{Recovering}
-use Rattle.directory_rules.specs.Piece.{Piece}
+use Rattle.directory_rules.specs.State.{Piece, Recovery, Node}
 use Rattle.directory_rules.specs.Table.{rise_by_grain}
-use Rattle.directory_rules.specs.Recovery.{Recovery}
-use Rattle.directory_rules.specs.Node.{Node}
 
 -- there is a recovery under the start, of just that piece's range
 pub record HasRecovery (recoveries : List (ℕ × Recovery)) (start : ℕ) (piece : Piece) : Type 0 where

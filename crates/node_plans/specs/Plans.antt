@@ -1,5 +1,5 @@
 -- A step in two parts: a plan, which says what is sent and done, and the change that it makes of the node.
-use Rattle.std.specs.Prelude.{◌≡◌, ℕ, ◌^◌, ◌<◌, ◌≤◌, ◌++◌, List, true, IsTrue, IsOkAnd, IsSomeAnd, length, [], Option, Some, None, Result, Ok}
+use Rattle.std.specs.Prelude.{◌≡◌, ℕ, ◌^◌, ◌<◌, ◌≤◌, ◌++◌, List, true, IsOkAnd, IsSome, length, [], Option, Some, None, Result, Ok}
 use Rattle.std.specs.Map.{remove_entry}
 use Rattle.std.specs.BTreeMap.{is_at}
 use Rattle.std.specs.Ordering.{nat_cmp}
@@ -9,16 +9,14 @@ use Rattle.directory_rules.specs.Answer.{answered}
 use Rattle.directory_rules.specs.declared.PieceState.TheVariants.{Recovering}
 use Rattle.directory_rules.specs.Cache.{cache_seeing, learnt, without_pair}
 use Rattle.directory_rules.specs.Gatherings.{gathered, new_gathering, with_page}
-use Rattle.directory_rules.specs.Host.{asking_under, closing_under, has_numbers, held_of, is_firm, outstanding, renewed, with_find, with_started, without_find, without_held}
-use Rattle.directory_rules.specs.Letter.{Body, Request_letter, Reply_letter, Ask_letter, Page_letter, Missing_letter, Done_letter, Query_letter, Report_letter, Behind_letter, Ahead_letter, Offer_letter}
-use Rattle.directory_rules.specs.Node.{Node}
+use Rattle.directory_rules.specs.Host.{asking_under, closing_under, has_numbers, held_of, outstanding, renewed, renewed_about, requests_about, with_find, with_started, without_find, without_held}
+use Rattle.directory_rules.specs.State.{Body, Request_letter, Reply_letter, Ask_letter, Page_letter, Missing_letter, Done_letter, Query_letter, Report_letter, Behind_letter, Ahead_letter, Offer_letter, Node, Recovery, Piece, Page}
 use Rattle.directory_rules.specs.Members.{members_of}
-use Rattle.directory_rules.specs.Recovery.{Recovery, recovered}
+use Rattle.directory_rules.specs.Recovery.{recovered}
 use Rattle.directory_rules.specs.Reply.{confirmed_by, yielded_by}
 use Rattle.directory_rules.specs.Sent.{gathering_of, recovery_of}
-use Rattle.directory_rules.specs.Piece.{Piece}
 use Rattle.directory_rules.specs.Sight.{pieces_after, sealed, shelf_after}
-use Rattle.directory_rules.specs.Snapshot.{Page, shelf_without}
+use Rattle.directory_rules.specs.Snapshot.{shelf_without}
 use Rattle.directory_rules.specs.Step.{Stepped, new_gatherings, new_recoveries, with_one_closing}
 use Rattle.directory_rules.specs.Table.{rise_by_grain}
 use Rattle.directory_rules.specs.Transfer.{has_range, is_recovering, piece_at, recovered_by, with_gathering, with_recovery, with_settled, with_state}
@@ -32,7 +30,7 @@ use Rattle.seal_snapshot.specs.declared.progress.GatheringProgress.TheVariants.{
 use Rattle.node_plans.specs.declared.plan.Plan.{Plan}
 use Rattle.node_plans.specs.declared.plan.Sight.{Sight}
 use Rattle.node_plans.specs.declared.plan.Change.{Change}
-use Rattle.node_plans.specs.declared.plan.Change.TheVariants.{Nothing, Sees, Renews, Starts, Closes, Asks, Serves, Confirms, Yields, Ends, EndsFind, Learns, UsesHint, Forgets, Discards, Gathers, GathersAnew, Installs, Recovers, Counts}
+use Rattle.node_plans.specs.declared.plan.Change.TheVariants.{Nothing, Sees, Renews, RenewsAbout, Starts, Closes, Asks, Serves, Confirms, Yields, Ends, EndsFind, Learns, UsesHint, Forgets, Discards, Gathers, GathersAnew, Installs, Recovers, Counts}
 
 -- without the activation, if there is one
 abbrev pub without : Option (Grain × Held) → Node → Node
@@ -72,6 +70,7 @@ abbrev pub changed : Change → Node → Node
 changed Nothing node = node
 changed (Sees sight) node = seen_by sight.value node
 changed (Renews renewal) node = record node { host = renewed node.host }
+changed (RenewsAbout grain) node = record node { host = renewed_about grain node.host }
 changed (Starts grain previous) node = record node { host = with_started node.host grain previous }
 changed (Closes grain) node = with_closing_of (held_of node.host grain) node grain
 changed (Asks grain) node = record node { host = with_find node.host grain }
@@ -96,9 +95,9 @@ pub record MayStart (node : Node) (grain : Grain) : Type 0 where
   pub number : node.host.next_number ≤ 2 ^ 60
   pub count : node.host.next_count ≤ 2 ^ 60
 
--- an activation may close: it is firm, and a number is left
+-- an activation may close: it is there, and a number is left
 pub record MayClose (node : Node) (grain : Grain) : Type 0 where
-  pub firm : IsSomeAnd (held_of node.host grain) (λ held. IsTrue (is_firm held.phase))
+  pub there : IsSome (held_of node.host grain)
   pub number : node.host.next_number ≤ 2 ^ 60
 
 -- the page is the next one of what is gathered, and more are wanted; so its entries come behind
@@ -126,6 +125,7 @@ abbrev pub Fits : Change → Node → Type 0
 Fits Nothing node = Unit {0}
 Fits (Sees sight) node = FitsSight sight.value node
 Fits (Renews renewal) node = MayRenew node renewal
+Fits (RenewsAbout grain) node = has_numbers node.settings node.host (length (requests_about grain node.host)) ≡ true
 Fits (Starts grain previous) node = MayStart node grain
 Fits (Closes grain) node = MayClose node grain
 Fits (Asks grain) node = node.host.next_number ≤ 2 ^ 60

@@ -1,9 +1,7 @@
 -- Whose letters a sender writes.
 use Rattle.std.specs.Prelude.{ℕ, List, [], flat_map}
 use Rattle.directory_rules.specs.Cache.{new_cache}
-use Rattle.directory_rules.specs.Letter.{Letter}
-use Rattle.directory_rules.specs.Node.{Node}
-use Rattle.directory_rules.specs.Piece.{Piece}
+use Rattle.directory_rules.specs.State.{Letter, Node, Piece}
 use Rattle.directory_rules.specs.Sent.{wants_by}
 use Rattle.node_plans.specs.declared.plan.Sight.{Sight}
 use Rattle.node_plans.specs.declared.senders.Sender.{Sender}

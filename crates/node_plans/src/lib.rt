@@ -34,5 +34,5 @@ pub use refusal::StepRefusal;
 pub use rings::{advanced, ring_of};
 pub use senders::Sender;
 pub use sights::see_in_holding;
-pub use states::{is_firm, is_recovering};
+pub use states::{is_asking, is_firm, is_recovering};
 pub use transition::Transition;

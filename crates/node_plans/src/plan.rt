@@ -1,6 +1,6 @@
 ghost use Rattle.std.specs.Prelude.{◌≡◌, [], ◌∷◌, IfOk, Some};
 ghost use Rattle.directory_rules.specs.Cache.{hint_of, in_front};
-ghost use Rattle.directory_rules.specs.Node.{Node as NodeValue};
+ghost use Rattle.directory_rules.specs.State.{Node as NodeValue};
 ghost use Rattle.directory_rules.specs.Step.{silently};
 ghost use Rattle.directory_rules.specs.declared.Effect.TheVariants.{Cached};
 ghost use Rattle.node_plans.specs.Plans.{changed, step_by};
@@ -36,12 +36,14 @@ pub enum Change {
     Sees(Box<Sight>),
     /// Every outstanding request has a new number.
     Renews(Renewal),
+    /// Every outstanding request about the grain has a new number.
+    RenewsAbout(GrainId),
     /// An activation of the grain begins, in the place of a previous one if one is named, and asks to be entered.
     Starts {
         grain: GrainId,
         previous: Option<ActivationId>,
     },
-    /// The grain's firm activation asks to be taken out.
+    /// The grain's activation asks to be taken out.
     Closes(GrainId),
     /// The host asks where the grain is.
     Asks(GrainId),

@@ -4,7 +4,8 @@ ghost use Rattle.std.specs.List.Sorted.{IsStrictlySortedBy};
 ghost use Rattle.std.specs.Map.{keys_of, lookup, set_value};
 ghost use Rattle.std.specs.Ordering.{nat_cmp};
 ghost use Rattle.std.specs.Prelude.{◌≡◌, ◌↔◌, if◌then◌else◌, false, is_ok, IsTrue, IfOk, OnErr, OnOk, None, Ok, Some};
-ghost use Rattle.directory_rules.specs.Recovery.{Recovery as RecoveryValue, recovered, with_report};
+ghost use Rattle.directory_rules.specs.State.{Recovery as RecoveryValue};
+ghost use Rattle.directory_rules.specs.Recovery.{recovered, with_report};
 ghost use Rattle.range_recovery.specs.Progress.{progress_of};
 
 use range_recovery::{Recovery, RecoveryError, RecoveryProgress, Report};

@@ -12,6 +12,8 @@ pub enum StepRefusal {
     NotHere,
     #[error("the activation is not firm")]
     NotFirm,
+    #[error("the activation does not ask to be registered")]
+    NotAsking,
     #[error("the silo is not Active in the view that it has seen")]
     NotActiveSilo,
     #[error("the silo has no request number or count left")]
@@ -27,7 +29,7 @@ pub enum StepRefusal {
 }
 
 impl StepRefusal {
-    /// The number by which users know the refusal: 801 to 807 or 903. Out of memory has none.
+    /// The number by which users know the refusal: 801 to 808 or 903. Out of memory has none.
     pub fn number(self) -> Option<u16>
         ensures { result ≡ step_refusal_number self }
     {
@@ -39,6 +41,7 @@ impl StepRefusal {
             StepRefusal::NumbersSpent => Some(805),
             StepRefusal::HostFull => Some(806),
             StepRefusal::NotATarget => Some(807),
+            StepRefusal::NotAsking => Some(808),
             StepRefusal::NotNewer => Some(903),
             StepRefusal::OutOfMemory => None,
         }

@@ -3,8 +3,7 @@ ghost use Rattle.std.specs.List.{cons_option};
 ghost use Rattle.std.specs.Prelude.{◌≡◌, ◌++◌, ℕ, [], IfOk, OnErr, OnOk, flat_map, length, map};
 ghost use Rattle.directory_rules.specs.Sent.{ask_letters, gathering_of, letter_to, owner_by, query_letters, recovery_of, request_letters, request_of, wants_by};
 ghost use Rattle.directory_letters.specs.LetterModel.{body_of};
-ghost use Rattle.directory_rules.specs.Letter.{Query_letter};
-ghost use Rattle.directory_rules.specs.Piece.{Piece as PieceValue};
+ghost use Rattle.directory_rules.specs.State.{Query_letter, Piece as PieceValue};
 ghost use Rattle.node_plans.specs.Sender.{sending, wants_of};
 
 use crate::plan::list_of;
@@ -85,6 +84,31 @@ impl Sender<'_> {
     {
         let mut letters = Vec::new(alloc);
         self.send_requests(&mut letters, requests)?;
+        self.send_wants(alloc, &mut letters, holding.pieces())?;
+        Ok(letters)
+    }
+}
+
+// Parts of a nudge.
+impl Sender<'_> {
+    /// The letters of requests, each under its number. Fails only when memory runs out.
+    pub fn letters_of(
+        &self,
+        alloc: Global,
+        requests: &[(u64, Act)],
+    ) -> Result<Vec<Letter>, AllocError>
+        ensures { IfOk result (λ letters. letters.items ≡ flat_map (λ e. request_letters (sending self.now) e.0 e.1) requests.now) }
+    {
+        let mut letters = Vec::new(alloc);
+        self.send_requests(&mut letters, requests)?;
+        Ok(letters)
+    }
+
+    /// The letters by which the pieces held get what they want, piece by piece. Fails only when memory runs out.
+    pub fn want_letters(&self, alloc: Global, holding: &Holding) -> Result<Vec<Letter>, AllocError>
+        ensures { IfOk result (λ letters. letters.items ≡ wants_of (sending self.now) holding.now.pieces) }
+    {
+        let mut letters = Vec::new(alloc);
         self.send_wants(alloc, &mut letters, holding.pieces())?;
         Ok(letters)
     }

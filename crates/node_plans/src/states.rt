@@ -1,6 +1,6 @@
 //! Tests of states and phases.
 ghost use Rattle.std.specs.Prelude.{◌≡◌};
-ghost use Rattle.directory_rules.specs.Host.{is_firm};
+ghost use Rattle.directory_rules.specs.Host.{is_asking, is_firm};
 ghost use Rattle.directory_rules.specs.Transfer.{is_recovering};
 ghost use Rattle.node_plans.specs.Beginnings.{is_awaiting};
 
@@ -33,5 +33,15 @@ pub fn is_firm(phase: &Phase) -> bool
     match phase {
         Phase::Firm => true,
         Phase::Asking(_) | Phase::Closing(_) => false,
+    }
+}
+
+/// Whether the phase asks.
+pub fn is_asking(phase: &Phase) -> bool
+    ensures { result ≡ is_asking phase.now }
+{
+    match phase {
+        Phase::Asking(_) => true,
+        Phase::Firm | Phase::Closing(_) => false,
     }
 }

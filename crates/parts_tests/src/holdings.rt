@@ -340,6 +340,7 @@ fn recovers(holding: &Holding, range: &RingRange) -> bool {
             piece.state() == PieceState::Recovering
                 && piece.entries().len() == 0
                 && !holding.is_settled_throughout(range)
+                && holding.unsettled_count() == 1
         }
         None => false,
     }

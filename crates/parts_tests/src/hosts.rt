@@ -21,7 +21,7 @@ const CID: &str = "user/cid#3";
 
 // A host on the first silo that holds nothing yet.
 fn new_host(rt: &impl Abort, alloc: Global) -> Host {
-    Host::new(alloc, silo(rt, A), &settings(rt, Hashing::Stated))
+    Host::new(alloc, silo(rt, A), 1, &settings(rt, Hashing::Stated))
 }
 
 fn copy_of(rt: &impl Abort, host: &Host) -> Host {
@@ -61,6 +61,14 @@ fn closes(rt: &impl Abort, host: &mut Host, text: &str) -> bool {
     host.begin_to_close(&grain).is_ok()
 }
 
+// Whether there was memory for the grain's activation, which asks to be entered, to ask to be taken out.
+fn gives_up(rt: &impl Abort, host: &mut Host, text: &str) -> bool {
+    let grain = grain(rt, text);
+    let held = host.held(&grain).expect(rt, "an activation");
+    assert!(rt; held.phase != Phase::Firm && host.next_number() <= LAST);
+    host.begin_to_close(&grain).is_ok()
+}
+
 fn close(rt: &impl Abort, host: &mut Host, text: &str) {
     let before = copy_of(rt, host);
     assert!(rt; closes(rt, host, text) || (host.same(&before) && closes(rt, host, text)));
@@ -97,6 +105,29 @@ fn an_activation_begins_to_close(rt: HostRuntime) {
     let mut host = one_firm(&rt, rt.alloc());
     close(&rt, &mut host, ANN);
     assert!(rt; host.closing_under(2).is_some() && host.next_number() == 3);
+}
+
+// How many activations ask, how many close, and how many finds are outstanding.
+fn counts(host: &Host) -> (usize, usize, usize) {
+    (host.asking_count(), host.closing_count(), host.find_count())
+}
+
+// Whether the activation asks under no number any more, and closes under the second one.
+fn is_given_up(host: &Host) -> bool {
+    !host.is_outstanding(1)
+        && host.asking_under(1).is_none()
+        && host.closing_under(2).is_some()
+        && counts(host) == (0, 1, 0)
+}
+
+#[test]
+fn an_activation_is_given_up(rt: HostRuntime) {
+    let mut host = new_host(&rt, rt.alloc());
+    start(&rt, &mut host, ANN);
+    let before = copy_of(&rt, &host);
+    let given_up = gives_up(&rt, &mut host, ANN);
+    assert!(rt; given_up || (host.same(&before) && gives_up(&rt, &mut host, ANN)));
+    assert!(rt; is_given_up(&host) && host.next_number() == 3);
 }
 
 // One more activation than a node of a map takes.
@@ -176,6 +207,54 @@ fn requests_are_renewed(rt: HostRuntime) {
     let mut host = three_requests(&rt, rt.alloc());
     renew(&rt, rt.alloc(), &mut host);
     assert!(rt; are_under(&host, 5, 6, 7) && host.next_number() == 8);
+}
+
+// The requests about a grain get new numbers, whose memory may be refused; what was told of them before is what is told then.
+fn renew_about(rt: &impl Abort, alloc: Global, host: &mut Host, grain: &GrainId) {
+    assert!(rt; host.next_number() <= 1_000 && host.count_about(grain) <= 1_000);
+    let told = match host.renewed_requests_about(alloc, grain) {
+        Ok(told) => told,
+        Err(_) => host
+            .renewed_requests_about(alloc, grain)
+            .expect(rt, "memory"),
+    };
+    let before = copy_of(rt, host);
+    if host.renew_about(alloc, grain).is_err() {
+        assert!(rt;
+            host.same(&before) && host.next_number() <= 1_000 && host.count_about(grain) <= 1_000
+        );
+        assert!(rt; host.renew_about(alloc, grain).is_ok());
+    }
+    let requests = requests_of(rt, alloc, host);
+    assert!(rt; told.len() == 2 && requests.len() == 4 && are_same(&told, &requests[2..]));
+}
+
+// Whether those about ANN are under these two numbers, and the others under their own.
+fn are_under_beside(host: &Host, closing: u64, finding: u64) -> bool {
+    host.closing_under(closing).is_some()
+        && host.is_finding(finding)
+        && host.asking_under(3).is_some()
+        && host.is_finding(4)
+        && counts(host) == (1, 1, 2)
+}
+
+#[test]
+fn requests_about_a_grain_are_renewed(rt: HostRuntime) {
+    let (mut host, ann) = (three_requests(&rt, rt.alloc()), grain(&rt, ANN));
+    ask(&rt, &mut host, ANN);
+    assert!(rt; are_under_beside(&host, 2, 5) && host.count_about(&ann) == 2);
+    renew_about(&rt, rt.alloc(), &mut host, &ann);
+    assert!(rt; are_under_beside(&host, 6, 7) && host.next_number() == 8);
+}
+
+// Its last number is the host's first one: it is taken, and none is left.
+#[test]
+fn the_last_number_is_taken(rt: HostRuntime) {
+    let settings = settings(&rt, Hashing::Stated);
+    let mut host = Host::new(rt.alloc(), silo(&rt, A), LAST, &settings);
+    assert!(rt; host.has_numbers(&settings, 1) && !host.has_numbers(&settings, 2));
+    start(&rt, &mut host, ANN);
+    assert!(rt; host.asking_under(LAST).is_some() && !host.has_numbers(&settings, 1));
 }
 
 // Grains, by the hashes that they state.

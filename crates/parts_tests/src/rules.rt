@@ -35,6 +35,17 @@ fn smaller_settings(rt: HostRuntime) {
     assert!(rt; whole.same(&whole.copy()) && !whole.same(&small));
 }
 
+#[test]
+fn fewer_numbers(rt: HostRuntime) {
+    let whole = Settings::of_directory(Hashing::Stated, 30, 1024).expect(&rt, "in range");
+    let three = whole.with_last_number(3).expect(&rt, "three numbers");
+    assert!(rt;
+        three.last_number() == 3
+            && whole.with_last_number(0).is_none()
+            && whole.with_last_number(whole.last_number() + 1).is_none()
+    );
+}
+
 fn are_copied(act: &Act, request: &Request, reply: &Reply) -> bool {
     act.same(&act.copy()) && request.same(&request.copy()) && reply.same(&reply.copy())
 }

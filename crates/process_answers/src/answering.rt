@@ -8,6 +8,7 @@ ghost use Rattle.process_answers.specs.Answering.{IsAnswered};
 use crate::JoinToken;
 use crate::changes::{Change, answer_change};
 use crate::dump::write_dump;
+use crate::figures::write_figures;
 use crate::joins::is_anothers_join;
 use crate::letters::answer_letter;
 use crate::lines::write_pong;
@@ -116,6 +117,10 @@ fn answer_asked(
         }
         Asked::Place { grain, policy } => {
             write_grain_place(alloc, silo, *policy, grain, out)?;
+            Ok(false)
+        }
+        Asked::Figures => {
+            write_figures(silo, out)?;
             Ok(false)
         }
         Asked::Show => {

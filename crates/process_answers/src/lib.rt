@@ -6,6 +6,7 @@ mod answering;
 mod changes;
 mod dump;
 mod fault;
+mod figures;
 mod join_token;
 mod joins;
 mod letters;

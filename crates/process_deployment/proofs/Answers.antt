@@ -22,21 +22,20 @@ use Rattle.directory_rules.specs.declared.policy.Policy.{Policy}
 use Rattle.directory_rules.specs.declared.reply.Reply.{Reply}
 use Rattle.directory_rules.specs.declared.reply.Reply.TheVariants as reply
 use Rattle.directory_rules.specs.declared.outcome.Happening.TheVariants.{Saw, Did}
-use Rattle.directory_rules.specs.Host.{Host}
-use Rattle.directory_rules.specs.Letter.{Letter, Body, Request_letter, Reply_letter, Ask_letter, Page_letter, Missing_letter, Done_letter, Query_letter, Report_letter, Behind_letter, Ahead_letter, Offer_letter}
-use Rattle.directory_rules.specs.Piece.{Piece}
+use Rattle.directory_rules.specs.State.{Host, Letter, Body, Request_letter, Reply_letter, Ask_letter, Page_letter, Missing_letter, Done_letter, Query_letter, Report_letter, Behind_letter, Ahead_letter, Offer_letter, Piece}
 use Rattle.directory_rules.specs.Placement.{silo_for}
 use Rattle.silo_rules.specs.declared.news.News.{News}
 use Rattle.silo_rules.specs.declared.news.News.TheVariants.{Known, Made, Replaced}
 use Rattle.directory_rules.specs.Membership.{Change, Join, Leave, Die}
 use Rattle.silo_rules.specs.SiloValue.{SiloValue, own_status}
+use Rattle.silo_rules.specs.Figures.{figures}
 use Rattle.script_rules.specs.Script.{grain_word, ◌>>=◌}
 use Rattle.script_rules.specs.Lines.{happening_words, effect_words, refusal_line}
 use Rattle.script_rules.specs.Show.{held_line, phase_word, seen_words, owner_words, place_words}
 use Rattle.process_rules.specs.LetterText.{letter_line}
 use Rattle.process_rules.specs.ReadLine.{Receive, Owner, Place, own_policy_word, read_silo_line}
 use Rattle.process_rules.specs.Happened.{news_words, counted_words, body_words, delivered_words, is_ignored, received_words}
-use Rattle.process_rules.specs.Show.{own_word, state_words, piece_line, show_lines, dump_line, grain_owner_line, grain_place_line}
+use Rattle.process_rules.specs.Show.{own_word, state_words, piece_line, show_lines, dump_line, figures_words, figures_line, grain_owner_line, grain_place_line}
 use Rattle.process_rules.specs.Answer.{printing, unless_dead}
 use Rattle.process_rules.specs.Output.{fault_line}
 use Rattle.process_deployment.proofs.Silent.{IsSilent, AreSilentWords, first_unknown, by_first, by_word, other_byte, silo_first}
@@ -55,25 +54,36 @@ AreSilent hashing lines = All (IsSilent hashing) lines
 pub silent_alone : (hashing : Hashing) (line : List ℕ) → IsSilent hashing line → AreSilent hashing (line ∷ [])
 silent_alone hashing line silent = All-cons (IsSilent hashing) line [] silent (All-nil (IsSilent hashing))
 
-pub silent_says : (hashing : Hashing) (letters : List Letter) (lines : List (List ℕ)) → AreSilent hashing lines → All (SaysOnly hashing letters) lines
-silent_says hashing letters lines silent = All-weaker (IsSilent hashing) (SaysOnly hashing letters) (λ line is letter given. absurd (is letter given)) lines silent
+pub silent_says : (hashing : Hashing) (letters : List Letter) (lines : List (List ℕ)) → AreSilent hashing lines
+    → All (SaysOnly hashing letters) lines
+silent_says hashing letters lines silent =
+    All-weaker (IsSilent hashing) (SaysOnly hashing letters) (λ line is letter given. absurd (is letter given)) lines silent
 
 -- the lines of letters
-letters_say : (hashing : Hashing) (letters : List Letter) → All (ReadsAsItself hashing) letters → All (SaysOnly hashing letters) (map letter_line letters)
+letters_say : (hashing : Hashing) (letters : List Letter) → All (ReadsAsItself hashing) letters
+    → All (SaysOnly hashing letters) (map letter_line letters)
 letters_say hashing letters reads =
     All-map (SaysOnly hashing letters) letter_line letters
-    (λ k first below letter given. (k, below, get_or_from_slice_get letters k letter letter (slice_get-get_or letters k first below ∙ ap (λ l. Some l) (reads k first below letter given))))
+    (λ k first below letter given. (
+      k,
+      below,
+      get_or_from_slice_get letters k letter letter
+          (slice_get-get_or letters k first below ∙ ap (λ l. Some l) (reads k first below letter given)),
+    ))
 
-pub step_says : (hashing : Hashing) (letters : List Letter) (line : List ℕ) → IsSilent hashing line → All (ReadsAsItself hashing) letters → All (SaysOnly hashing letters) (line ∷ map letter_line letters)
+pub step_says : (hashing : Hashing) (letters : List Letter) (line : List ℕ) → IsSilent hashing line → All (ReadsAsItself hashing) letters
+    → All (SaysOnly hashing letters) (line ∷ map letter_line letters)
 step_says hashing letters line silent reads =
-    All-cons (SaysOnly hashing letters) line (map letter_line letters) (λ letter given. absurd (silent letter given)) (letters_say hashing letters reads)
+    All-cons (SaysOnly hashing letters) line (map letter_line letters) (λ letter given. absurd (silent letter given))
+    (letters_say hashing letters reads)
 
 -- what stands behind the first word of `owner` and of `place`
 abbrev pub owner_tail : SiloValue → Grain → List (List ℕ)
 owner_tail s grain = grain_text grain ∷ owner_words (owner_of s.node.ring.points (hash_grain s.node.settings.hashing grain))
 
 abbrev pub place_tail : SiloValue → Grain → Policy → List (List ℕ)
-place_tail s grain policy = grain_text grain ∷ place_words (silo_for policy s.node.view s.node.host.silo (hash_grain s.node.settings.hashing grain) [])
+place_tail s grain policy =
+    grain_text grain ∷ place_words (silo_for policy s.node.view s.node.host.silo (hash_grain s.node.settings.hashing grain) [])
 
 module _ (hashing : Hashing) where
   -- ---- changes
@@ -93,11 +103,13 @@ module _ (hashing : Hashing) where
   unfolding read_silo_line
   dead_silent letter is = cc is
 
-  pub told_silent : (own : Option Status) (line : List ℕ) (s : SiloValue) → IsSilent hashing line → AreSilent hashing (unless_dead own (printing (line ∷ []) s)).lines
+  pub told_silent : (own : Option Status) (line : List ℕ) (s : SiloValue) → IsSilent hashing line
+      → AreSilent hashing (unless_dead own (printing (line ∷ []) s)).lines
   told_silent None line s silent = silent_alone hashing line silent
   told_silent (Some status.Active) line s silent = silent_alone hashing line silent
   told_silent (Some status.Leaving) line s silent = silent_alone hashing line silent
-  told_silent (Some status.Dead) line s silent = All-cons (IsSilent hashing) line (codes "dead" ∷ []) silent (silent_alone hashing (codes "dead") dead_silent)
+  told_silent (Some status.Dead) line s silent =
+      All-cons (IsSilent hashing) line (codes "dead" ∷ []) silent (silent_alone hashing (codes "dead") dead_silent)
 
   -- ---- refusals and faults
   pub refusal_silent : (number : ℕ) → IsSilent hashing (refusal_line number)
@@ -110,7 +122,8 @@ module _ (hashing : Hashing) where
   pong_silent word = by_first hashing (codes "pong" ∷ word ∷ []) refl
 
   -- ---- who owns a grain, and where it would be placed: lines that begin with the question, which no letter answers
-  owner_given : (read : Result Grain ℕ) (letter : Letter) → (read >>= (λ grain. Ok (Owner grain)) >>= (λ asked. Ok (Some asked))) ≡ Ok (Some (Receive letter)) → ⊥
+  owner_given : (read : Result Grain ℕ) (letter : Letter)
+      → (read >>= (λ grain. Ok (Owner grain)) >>= (λ asked. Ok (Some asked))) ≡ Ok (Some (Receive letter)) → ⊥
   owner_given (Ok grain) letter is = cc is
   owner_given (Err fault) letter is = cc is
 
@@ -123,7 +136,9 @@ module _ (hashing : Hashing) where
   unfolding grain_owner_line
   owner_silent s grain = by_word hashing (codes "owner") (owner_tail s grain) refl refl owner_asked
 
-  place_given : (grain : Result Grain ℕ) (policy : Result Policy ℕ) (letter : Letter) → (grain >>= (λ grain. policy >>= (λ policy. Ok (Place grain policy))) >>= (λ asked. Ok (Some asked))) ≡ Ok (Some (Receive letter)) → ⊥
+  place_given : (grain : Result Grain ℕ) (policy : Result Policy ℕ) (letter : Letter)
+      → (grain >>= (λ grain. policy >>= (λ policy. Ok (Place grain policy))) >>= (λ asked. Ok (Some asked))) ≡ Ok (Some (Receive letter))
+      → ⊥
   place_given (Ok grain) (Ok policy) letter is = cc is
   place_given (Ok grain) (Err fault) letter is = cc is
   place_given (Err fault) policy letter is = cc is
@@ -138,8 +153,18 @@ module _ (hashing : Hashing) where
   unfolding grain_place_line
   place_silent s grain policy = by_word hashing (codes "place") (place_tail s grain policy) refl refl place_asked
 
+  -- ---- figures: a line that begins with the question, too
+  figures_asked : (words : List (List ℕ)) → AreSilentWords hashing (codes "status" ∷ words)
+  figures_asked [] letter is = cc is
+  figures_asked (word ∷ words) letter is = cc is
+
+  pub figures_silent : (s : SiloValue) → IsSilent hashing (figures_line s)
+  unfolding figures_line
+  figures_silent s = by_word hashing (codes "status") (figures_words (figures s)) refl refl figures_asked
+
   -- ---- steps
-  pub saw_silent : (silo : Silo) (version : ℕ) (made : Effect) → IsSilo silo → IsSilent hashing (sentence (happening_words (Saw silo version made)))
+  pub saw_silent : (silo : Silo) (version : ℕ) (made : Effect) → IsSilo silo
+      → IsSilent hashing (sentence (happening_words (Saw silo version made)))
   saw_silent silo version made is = silo_first hashing silo (codes "sees" ∷ decimal version ∷ effect_words made) is
 
   did_unknown : (silo : Silo) (made : Effect) → first_unknown hashing (happening_words (Did silo made)) ≡ true
@@ -147,6 +172,7 @@ module _ (hashing : Hashing) where
   did_unknown silo effect.Skip = refl
   did_unknown silo (effect.Started entry) = refl
   did_unknown silo (effect.Closing entry) = refl
+  did_unknown silo (effect.Cancelled entry) = refl
   did_unknown silo (effect.Offered entry to) = refl
   did_unknown silo (effect.Cached entry) = refl
   did_unknown silo (effect.Finding grain) = refl
@@ -183,7 +209,8 @@ module _ (hashing : Hashing) where
   did_silent silo made = by_first hashing (happening_words (Did silo made)) (did_unknown silo made)
 
   -- ---- letters
-  counted_unknown : (host : Host) (seen number : ℕ) (answer : Reply) (letter : Letter) (made : Effect) → first_unknown hashing (counted_words host seen number answer (delivered_words letter made)) ≡ true
+  counted_unknown : (host : Host) (seen number : ℕ) (answer : Reply) (letter : Letter) (made : Effect)
+      → first_unknown hashing (counted_words host seen number answer (delivered_words letter made)) ≡ true
   counted_unknown host seen number (reply.Registered entry) letter made = refl
   counted_unknown host seen number (reply.Taken entry) letter made = refl
   counted_unknown host seen number reply.Removed letter made = refl
@@ -192,7 +219,8 @@ module _ (hashing : Hashing) where
   counted_unknown host seen number reply.Nothing letter made = refl
   counted_unknown host seen number (reply.Retry why) letter made = refl
 
-  body_unknown : (body : Body) (host : Host) (seen : ℕ) (letter : Letter) (made : Effect) → first_unknown hashing (body_words body host seen made (delivered_words letter made)) ≡ true
+  body_unknown : (body : Body) (host : Host) (seen : ℕ) (letter : Letter) (made : Effect)
+      → first_unknown hashing (body_words body host seen made (delivered_words letter made)) ≡ true
   body_unknown (Request_letter request) host seen letter made = refl
   body_unknown (Reply_letter number answer) host seen letter made = counted_unknown host seen number answer letter made
   body_unknown (Ask_letter range page) host seen letter made = refl
@@ -205,10 +233,12 @@ module _ (hashing : Hashing) where
   body_unknown (Ahead_letter range) host seen letter made = refl
   body_unknown (Offer_letter entry) host seen letter made = did_unknown host.silo made
 
-  pub received_silent : (host : Host) (seen : ℕ) (letter : Letter) (made : Effect) → IsSilent hashing (sentence (received_words host seen letter made))
+  pub received_silent : (host : Host) (seen : ℕ) (letter : Letter) (made : Effect)
+      → IsSilent hashing (sentence (received_words host seen letter made))
   received_silent host seen letter made = by_first hashing (received_words host seen letter made) (by (is_ignored made))
     where
-      by : (ignored : Bool) → first_unknown hashing (cond ignored (delivered_words letter made) (body_words letter.body host seen made (delivered_words letter made))) ≡ true
+      by : (ignored : Bool) → first_unknown hashing (cond ignored (delivered_words letter made)
+          (body_words letter.body host seen made (delivered_words letter made))) ≡ true
       by true = refl
       by false = body_unknown letter.body host seen letter made
 
@@ -217,7 +247,8 @@ module _ (hashing : Hashing) where
   held_silent silo [] = All-nil (IsSilent hashing)
   held_silent silo (e ∷ held) =
       All-cons (IsSilent hashing) (held_line silo e.0 e.1) (map (λ e. held_line silo e.0 e.1) held)
-      (by_first hashing (codes "held" ∷ activation_text (record { silo = silo; count = e.1.count }) ∷ grain_text e.0 ∷ phase_word e.1.phase ∷ []) refl) (held_silent silo held)
+      (by_first hashing (codes "held" ∷ activation_text (record { silo = silo; count = e.1.count }) ∷ grain_text e.0 ∷ phase_word e.1.phase
+      ∷ []) refl) (held_silent silo held)
 
   pieces_silent : (pieces : List (ℕ × Piece)) → AreSilent hashing (map (λ e. piece_line e.1) pieces)
   pieces_silent [] = All-nil (IsSilent hashing)

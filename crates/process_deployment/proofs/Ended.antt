@@ -17,14 +17,13 @@ use Rattle.directory_rules.specs.declared.outcome.Happening.TheVariants.{Saw, Di
 use Rattle.directory_rules.specs.declared.own_step.OwnStep.{OwnStep}
 use Rattle.directory_rules.specs.Input.{Does}
 use Rattle.directory_rules.specs.Laws.{is_live, ArePeopled}
-use Rattle.directory_rules.specs.Letter.{Letter}
+use Rattle.directory_rules.specs.State.{Letter, World}
 use Rattle.directory_rules.specs.Settings.{Settings, AreSettings}
 use Rattle.directory_rules.specs.Step.{Stepped}
 use Rattle.directory_rules.specs.Membership.{Change, Join, Leave, Die, Membership, changed}
 use Rattle.silo_rules.specs.SiloValue.{SiloValue, first_silo, own_status}
 use Rattle.silo_rules.specs.Steps.{does, sees, receives}
 use Rattle.silo_rules.specs.Told.{Heard, told}
-use Rattle.directory_rules.specs.World.{World}
 use Rattle.directory_rules.proofs.Peopled.{peopled_after}
 use Rattle.membership_view.specs.Whole.{IsViews}
 use Rattle.script_rules.specs.Lines.{happening_words, refusal_line}
@@ -34,7 +33,7 @@ use Rattle.deployment_headline.specs.Steps as deployment
 use Rattle.deployment_headline.proofs.Lists.{over, lookup-over}
 use Rattle.deployment_headline.proofs.Runs.{made_so, processes_are_behind, processes_are_own}
 use Rattle.deployment_headline.proofs.Worlds.{its_node}
-use Rattle.process_rules.specs.ReadLine.{Asked, Joined, Leaving, Dead, See, Do, Receive, Ping, Owner, Place, Show, Dump}
+use Rattle.process_rules.specs.ReadLine.{Asked, Joined, Leaving, Dead, See, Do, Receive, Ping, Owner, Place, Figures, Show, Dump}
 use Rattle.process_rules.specs.Happened.{news_words, received_words}
 use Rattle.process_rules.specs.Answer.{Answered, printing, unless_dead, heard, told_so, stepped, seen_so, done_so, received_so, is_anothers_join, answered, answered_as}
 use Rattle.process_rules.specs.Output.{answered_to, said}
@@ -49,7 +48,8 @@ use Rattle.process_deployment.proofs.SayableLetters.{roomy}
 abbrev EndsDead : Bool → SiloValue → Type 0
 EndsDead ends s = ends ≡ true → own_status s ≡ Some status.Dead
 
-told_ends : (own : Option Status) (line : List ℕ) (s : SiloValue) → own ≡ own_status s → EndsDead (unless_dead own (printing (line ∷ []) s)).ends (unless_dead own (printing (line ∷ []) s)).silo
+told_ends : (own : Option Status) (line : List ℕ) (s : SiloValue) → own ≡ own_status s
+    → EndsDead (unless_dead own (printing (line ∷ []) s)).ends (unless_dead own (printing (line ∷ []) s)).silo
 told_ends None line s is ends = absurd (cc ends)
 told_ends (Some status.Active) line s is ends = absurd (cc ends)
 told_ends (Some status.Leaving) line s is ends = absurd (cc ends)
@@ -60,7 +60,9 @@ news_ends version change s = by (told s.node.settings s.membership version chang
   where
     by : (o : Result Heard ℕ) → EndsDead (heard o version change s).ends (heard o version change s).silo
     by (Err number) ends = absurd (cc ends)
-    by (Ok its) ends = let next = record s { membership = its.membership } in told_ends (own_status next) (sentence (news_words version change its.news)) next refl ends
+    by (Ok its) ends =
+        let next = record s { membership = its.membership } in
+        told_ends (own_status next) (sentence (news_words version change its.news)) next refl ends
 
 steps_end : (happened : Effect → List (List ℕ)) (o : Result Stepped ℕ) (s : SiloValue) → (stepped happened o s).ends ≡ false
 steps_end happened (Err number) s = refl
@@ -70,12 +72,15 @@ goes_on : (ends : Bool) (s : SiloValue) → ends ≡ false → EndsDead ends s
 goes_on ends s is so = absurd (cc (is, so))
 
 done_ends : (step : OwnStep) (s : SiloValue) → EndsDead (done_so step s).ends (done_so step s).silo
-done_ends step s = goes_on (done_so step s).ends (done_so step s).silo (steps_end (λ made. happening_words (Did s.node.host.silo made)) (does s (Does step)) s)
+done_ends step s =
+    goes_on (done_so step s).ends (done_so step s).silo
+    (steps_end (λ made. happening_words (Did s.node.host.silo made)) (does s (Does step)) s)
 
 received_ends : (letter : Letter) (s : SiloValue) → (received_so letter s).ends ≡ false
 received_ends letter s = by (silo_eq letter.to s.node.host.silo)
   where
-    by : (own : Bool) → (cond own (stepped (received_words s.node.host s.node.view.version letter) (receives s letter) s) (printing [] s)).ends ≡ false
+    by : (own : Bool) → (cond own (stepped (received_words s.node.host s.node.view.version letter) (receives s letter) s)
+        (printing [] s)).ends ≡ false
     by true = steps_end (received_words s.node.host s.node.view.version letter) (receives s letter) s
     by false = refl
 
@@ -84,23 +89,29 @@ unfolding answered
 answers_end (Joined version who token places) s = news_ends version (Join who places) s
 answers_end (Leaving version who) s = news_ends version (Leave who) s
 answers_end (Dead version who) s = news_ends version (Die who) s
-answers_end (See version) s = goes_on (seen_so version s).ends (seen_so version s).silo (steps_end (λ made. happening_words (Saw s.node.host.silo version made)) (sees s version) s)
+answers_end (See version) s =
+    goes_on (seen_so version s).ends (seen_so version s).silo
+    (steps_end (λ made. happening_words (Saw s.node.host.silo version made)) (sees s version) s)
 answers_end (Do step) s = done_ends step s
 answers_end (Receive letter) s = goes_on (received_so letter s).ends (received_so letter s).silo (received_ends letter s)
 answers_end (Ping word) s = goes_on false s refl
 answers_end (Owner grain) s = goes_on false s refl
 answers_end (Place grain policy) s = goes_on false s refl
+answers_end Figures s = goes_on false s refl
 answers_end Show s = goes_on false s refl
 answers_end Dump s = goes_on false s refl
 
-unless_anothers : (anothers : Bool) (lines : List (List ℕ)) (it : Answered) (s : SiloValue) → EndsDead it.ends it.silo → EndsDead (cond anothers (printing lines s) it).ends (cond anothers (printing lines s) it).silo
+unless_anothers : (anothers : Bool) (lines : List (List ℕ)) (it : Answered) (s : SiloValue) → EndsDead it.ends it.silo
+    → EndsDead (cond anothers (printing lines s) it).ends (cond anothers (printing lines s) it).silo
 unless_anothers true lines it s its = goes_on false s refl
 unless_anothers false lines it s its = its
 
-lines_end : (token : Option (List ℕ)) (read : Result (Option Asked) ℕ) (s : SiloValue) → EndsDead (answered_to token read s).ends (answered_to token read s).silo
+lines_end : (token : Option (List ℕ)) (read : Result (Option Asked) ℕ) (s : SiloValue)
+    → EndsDead (answered_to token read s).ends (answered_to token read s).silo
 unfolding answered_as
 lines_end token (Ok None) s = goes_on false s refl
-lines_end token (Ok (Some asked)) s = unless_anothers (is_anothers_join token asked s.node.host.silo) (refusal_line 208 ∷ []) (answered asked s) s (answers_end asked s)
+lines_end token (Ok (Some asked)) s =
+    unless_anothers (is_anothers_join token asked s.node.host.silo) (refusal_line 208 ∷ []) (answered asked s) s (answers_end asked s)
 lines_end token (Err fault) s = goes_on false s refl
 
 abbrev Q : Silo × Process → Type 0
@@ -117,7 +128,8 @@ reads_end silo line p its = by p.ended
 decided_end : (c : Cluster) (change : Change) (r : Result Membership ℕ) → All Q c.processes → All Q (decided r c change).processes
 decided_end c change (Err number) all = all
 decided_end c change (Ok m) all =
-    started_keeps Q c.settings c.tokens change (without (dying c.membership change) c.processes) (λ silo. goes_on false (first_silo c.settings silo) refl) (without_keeps Q (dying c.membership change) c.processes all)
+    started_keeps Q c.settings c.tokens change (without (dying c.membership change) c.processes)
+    (λ silo. goes_on false (first_silo c.settings silo) refl) (without_keeps Q (dying c.membership change) c.processes all)
 
 after_end : (c : Cluster) (step : Step) → All Q c.processes → All Q (after c step).processes
 unfolding after
@@ -140,14 +152,16 @@ module _ (settings : Settings) (steps : List deployment.Step) (are : AreSettings
   abbrev letters : ℕ
   letters = suc (length d.written)
 
-  pub peopled : (silo : Silo) (s : SiloValue) → process_of d silo ≡ Some s → IsViews d.membership.views × (is_live (status_at d.membership.views d.membership.views.version silo) ≡ true)
+  pub peopled : (silo : Silo) (s : SiloValue) → process_of d silo ≡ Some s
+      → IsViews d.membership.views × (is_live (status_at d.membership.views d.membership.views.version silo) ≡ true)
   peopled silo s there =
       let all = made_so settings steps are named most letters (omega arith) (omega arith) in
       let its = subst (λ (w : World). ArePeopled w.views w.nodes) all.is (peopled_after (with_room most letters settings) all.events (roomy settings most letters are (omega arith) (omega arith))) in
       let test = is_at (silo_cmp silo) in
       let found : lookup test (over its_node (over (process_with_room most letters) d.processes)) ≡ Some (process_with_room most letters s).node =
       lookup-over its_node test (over (process_with_room most letters) d.processes)
-      ∙ ap (option_map its_node) (lookup-over (process_with_room most letters) test d.processes ∙ ap (option_map (process_with_room most letters)) there) in
+      ∙ ap (option_map its_node) (lookup-over (process_with_room most letters) test d.processes
+      ∙ ap (option_map (process_with_room most letters)) there) in
       (its.whole, sym (its.live silo) ∙ ap is_some found)
 
   alive : (silo : Silo) (s : SiloValue) → process_of d silo ≡ Some s → own_status s ≡ Some status.Dead → ⊥
@@ -157,7 +171,8 @@ module _ (settings : Settings) (steps : List deployment.Step) (are : AreSettings
       let own = (processes_are_own settings steps are named silo s there).address in
       let version = s.membership.views.version in
       let then_dead : status_at d.membership.views version silo ≡ Some status.Dead =
-      ap (λ (view : ViewValue). status_of view silo) (sym (behind.views version (omega arith))) ∙ ap (status_at s.membership.views version) (sym own) ∙ dead in
+      ap (λ (view : ViewValue). status_of view silo) (sym (behind.views version (omega arith)))
+      ∙ ap (status_at s.membership.views version) (sym own) ∙ dead in
       let still = dead_stays_dead d.membership.views its.0 silo version d.membership.views.version behind.version (omega arith) then_dead in
       cc (ap is_live still, its.1)
 

@@ -19,14 +19,12 @@ use Rattle.directory_rules.specs.Happens.{node_of}
 use Rattle.directory_rules.specs.Host.{asking_under}
 use Rattle.directory_rules.specs.declared.own_step.OwnStep.{OwnStep}
 use Rattle.directory_rules.specs.Input.{Input, Does, Receives, step, sight_of}
-use Rattle.directory_rules.specs.Letter.{Letter, Body, Request_letter, Reply_letter, Ask_letter, Page_letter, Missing_letter, Done_letter, Query_letter, Report_letter, Behind_letter, Ahead_letter, Offer_letter}
-use Rattle.directory_rules.specs.Node.{Node}
+use Rattle.directory_rules.specs.State.{Letter, Body, Request_letter, Reply_letter, Ask_letter, Page_letter, Missing_letter, Done_letter, Query_letter, Report_letter, Behind_letter, Ahead_letter, Offer_letter, Node, World}
 use Rattle.directory_rules.specs.PlainMachine.{Life, Is_asking, Is_firm, life_on, step_of_effect}
 use Rattle.directory_rules.specs.Receive.{received, received_body}
 use Rattle.directory_rules.specs.Reply.{at_seen, confirmed_by}
 use Rattle.directory_rules.specs.Settings.{Settings, AreSettings}
 use Rattle.directory_rules.specs.Step.{Stepped, silently}
-use Rattle.directory_rules.specs.World.{World}
 use Rattle.directory_facts.specs.Own.{HoldsOnce}
 use Rattle.directory_facts.proofs.Lawful.{nodes_are_own}
 use Rattle.directory_rules.specs.Membership.{Change, Join, Leave, Die, is_seeable}
@@ -42,15 +40,15 @@ use Rattle.deployment_headline.proofs.Runs.{made_so, processes_are_own}
 use Rattle.deployment_headline.proofs.Worlds.{its_node}
 use Rattle.process_rules.proofs.StaysWhole.{silo_kept}
 use Rattle.process_rules.specs.LetterText.{letter_line}
-use Rattle.process_rules.specs.ReadLine.{Asked, Joined, Leaving, Dead, See, Do, Receive, Ping, Owner, Place, Show, Dump}
+use Rattle.process_rules.specs.ReadLine.{Asked, Joined, Leaving, Dead, See, Do, Receive, Ping, Owner, Place, Figures, Show, Dump}
 use Rattle.process_rules.specs.Answer.{Answered, printing, unless_dead, heard, told_so, stepped, seen_so, done_so, received_so, is_anothers_join, answered, answered_as}
 use Rattle.process_rules.specs.Happened.{received_words, own_words, body_words, delivered_words, is_ignored, news_words}
 use Rattle.process_rules.specs.Output.{answered_to, said, fault_line}
-use Rattle.process_rules.specs.Show.{show_lines, dump_line, grain_owner_line, grain_place_line}
+use Rattle.process_rules.specs.Show.{show_lines, dump_line, figures_line, grain_owner_line, grain_place_line}
 use Rattle.process_deployment.specs.Cluster.{first_cluster}
 use Rattle.process_deployment.specs.Firm.{IsToEnd, HasFirm, BecomesFirm, its_firm_line, AsksToEnd, TellsFirm, LinesTellFirm}
 use Rattle.process_deployment.specs.Steps.{after_all}
-use Rattle.process_deployment.proofs.FirmLines.{IsOther, AreOther, by_words, is_other, alone, letters_other, refusal_other, fault_other, pong_other, news_other, saw_other, did_other, delivered_other, owner_other, place_other, show_other, dump_other}
+use Rattle.process_deployment.proofs.FirmLines.{IsOther, AreOther, by_words, is_other, alone, letters_other, refusal_other, fault_other, pong_other, news_other, saw_other, did_other, delivered_other, owner_other, place_other, figures_other, show_other, dump_other}
 use Rattle.process_deployment.proofs.FirmSteps.{EndsIt, ConfirmsOne, Confirmed, shown, asked_before, firm_after, becomes, keeps}
 use Rattle.process_deployment.proofs.Following.{WrittenReadAsThemselves, its_silo, follows_all, follows_first}
 
@@ -82,11 +80,15 @@ module _ (s : SiloValue) (once : HoldsOnce s.node.host) (own : IsSilo s.node.hos
       other_step never other = record {
         told = λ grain count becoming. absurd (none grain count becoming (becomes s.node once input it is grain count becoming.1));
         seen = λ grain count becoming. absurd (none grain count becoming (becomes s.node once input it is grain count becoming.1));
-        only = λ line there says. absurd (All-contains IsOther answer.lines line (All-cons IsOther (sentence (happened it.effect)) (map letter_line it.letters) other (letters_other it.letters)) there says);
+        only =
+            λ line there says. absurd (All-contains IsOther answer.lines line
+            (All-cons IsOther (sentence (happened it.effect)) (map letter_line it.letters) other (letters_other it.letters)) there
+            says);
         stays = stays;
       }
         where
-          none : (grain : Grain) (count : ℕ) → BecomesFirm grain count s answer.silo → HasFirm s grain count ⊎ Confirmed s.node once input it is grain count → ⊥
+          none : (grain : Grain) (count : ℕ) → BecomesFirm grain count s answer.silo → HasFirm s grain count
+              ⊎ Confirmed s.node once input it is grain count → ⊥
           none grain count becoming (inl was) = becoming.0 was
           none grain count becoming (inr now) = never now.one
 
@@ -100,14 +102,18 @@ module _ (s : SiloValue) (once : HoldsOnce s.node.host) (own : IsSilo s.node.hos
         is_line : (c : ConfirmsOne s.node input it) (line : List ℕ) → Contains answer.lines line → line ≡ its_firm_line s c.e.0 c.e.1.count
         is_line c line there =
             let its = its_firm_line s c.e.0 c.e.1.count in
-            All-contains (λ (l : List ℕ). l ≡ its) answer.lines line (subst (All (λ (l : List ℕ). l ≡ its)) (sym (lines_are c)) (All-cons (λ (l : List ℕ). l ≡ its) its [] refl (All-nil (λ (l : List ℕ). l ≡ its)))) there
+            All-contains (λ (l : List ℕ). l ≡ its) answer.lines line
+            (subst (All (λ (l : List ℕ). l ≡ its)) (sym (lines_are c))
+            (All-cons (λ (l : List ℕ). l ≡ its) its [] refl (All-nil (λ (l : List ℕ). l ≡ its)))) there
 
-        tell : (grain : Grain) (count : ℕ) → BecomesFirm grain count s answer.silo → HasFirm s grain count ⊎ Confirmed s.node once input it is grain count → answer.lines ≡ its_firm_line s grain count ∷ []
+        tell : (grain : Grain) (count : ℕ) → BecomesFirm grain count s answer.silo → HasFirm s grain count
+            ⊎ Confirmed s.node once input it is grain count → answer.lines ≡ its_firm_line s grain count ∷ []
         tell grain count becoming (inl was) = absurd (becoming.0 was)
         tell grain count becoming (inr now) = lines_are now.one ∙ (λ i. its_firm_line s (now.grain_is i) (now.count_is i) ∷ [])
 
         was_no_firm : (c : ConfirmsOne s.node input it) → ¬ (HasFirm s c.e.0 c.e.1.count)
-        was_no_firm c was = let before : ◌≡◌ {A = Option Life} (Some (Is_asking c.e.1.count)) (Some (Is_firm c.e.1.count)) = sym (asked_before s.node once input it is c) ∙ was in cc before
+        was_no_firm c was =
+            let before : ◌≡◌ {A = Option Life} (Some (Is_asking c.e.1.count)) (Some (Is_firm c.e.1.count)) = sym (asked_before s.node once input it is c) ∙ was in cc before
 
         firm_step : ConfirmsOne s.node input it → TellsFirm s read answer
         firm_step c = record {
@@ -118,7 +124,9 @@ module _ (s : SiloValue) (once : HoldsOnce s.node.host) (own : IsSilo s.node.hos
         }
 
     -- a step that confirms nothing, or its refusal
-    own_step : ((it : Stepped) → ConfirmsOne s.node input it → ⊥) → ((made : Effect) → ¬ (made ≡ effect.Firm) → IsOther (sentence (happened made))) → (o : Result Stepped ℕ) → ((it : Stepped) → o ≡ Ok it → step s.node input ≡ Ok it) → TellsFirm s read (stepped happened o s)
+    own_step : ((it : Stepped) → ConfirmsOne s.node input it → ⊥)
+        → ((made : Effect) → ¬ (made ≡ effect.Firm) → IsOther (sentence (happened made))) → (o : Result Stepped ℕ)
+        → ((it : Stepped) → o ≡ Ok it → step s.node input ≡ Ok it) → TellsFirm s read (stepped happened o s)
     own_step never other (Err number) so = quiet (stepped happened (Err number) s) refl (alone (refusal_line number) (refusal_other number))
     own_step never other (Ok it) so =
         let is = so it refl in
@@ -129,20 +137,25 @@ module _ (s : SiloValue) (once : HoldsOnce s.node.host) (own : IsSilo s.node.hos
   unbarred None outcome it is = is
   unbarred (Some number) outcome it is = absurd (cc is)
 
-  seen_so_step : (version : ℕ) (newer seeable : Bool) (r : Result Stepped ℕ) (it : Stepped) → ◌≡◌ {A = Result Stepped ℕ} (if not newer then Err 903 else (if not seeable then Err 904 else r)) (Ok it) → r ≡ Ok it
+  seen_so_step : (version : ℕ) (newer seeable : Bool) (r : Result Stepped ℕ) (it : Stepped)
+      → ◌≡◌ {A = Result Stepped ℕ} (if not newer then Err 903 else (if not seeable then Err 904 else r)) (Ok it) → r ≡ Ok it
   seen_so_step version false seeable r it is = absurd (cc is)
   seen_so_step version true false r it is = absurd (cc is)
   seen_so_step version true true r it is = is
 
-  done : (asked : OwnStep) → ((grain : Grain) → IsToEnd grain asked → AsksToEnd grain read) → ((it : Stepped) → ConfirmsOne s.node (Does asked) it → ⊥) → TellsFirm s read (done_so asked s)
+  done : (asked : OwnStep) → ((grain : Grain) → IsToEnd grain asked → AsksToEnd grain read)
+      → ((it : Stepped) → ConfirmsOne s.node (Does asked) it → ⊥) → TellsFirm s read (done_so asked s)
   done asked asks never =
-      own_step (Does asked) asks (λ made. happening_words (Did s.node.host.silo made)) never (did_other s.node.host.silo) (does s (Does asked)) (λ it is. unbarred (barred s) (step s.node (Does asked)) it is)
+      own_step (Does asked) asks (λ made. happening_words (Did s.node.host.silo made)) never (did_other s.node.host.silo)
+      (does s (Does asked)) (λ it is. unbarred (barred s) (step s.node (Does asked)) it is)
 
   saw : (version : ℕ) → TellsFirm s read (seen_so version s)
   saw version =
       let input = sight_of s.membership version in
-      own_step input (λ grain ends. absurd ends) (λ made. happening_words (Saw s.node.host.silo version made)) (λ it c. cc c.comes) (λ made never. saw_other s.node.host.silo version made own) (sees s version)
-      (λ it is. seen_so_step version (nat_lt s.node.view.version version) (is_seeable s.membership s.node.host.silo version) (step s.node input) it (unbarred (barred s) (seen s version) it is))
+      own_step input (λ grain ends. absurd ends) (λ made. happening_words (Saw s.node.host.silo version made)) (λ it c. cc c.comes)
+      (λ made never. saw_other s.node.host.silo version made own) (sees s version)
+      (λ it is. seen_so_step version (nat_lt s.node.view.version version) (is_seeable s.membership s.node.host.silo version)
+      (step s.node input) it (unbarred (barred s) (seen s version) it is))
 
   -- ---- a letter
   module _ (letter : Letter) where
@@ -153,13 +166,18 @@ module _ (s : SiloValue) (once : HoldsOnce s.node.host) (own : IsSilo s.node.hos
     words = received_words s.node.host s.node.view.version letter
 
     ignored_other : (made : Effect) → is_ignored made ≡ true → IsOther (sentence (words made))
-    ignored_other made is = subst (λ b. IsOther (sentence (cond b (delivered_words letter made) (body_words letter.body s.node.host s.node.view.version made (delivered_words letter made))))) (sym is) (delivered_other letter made)
+    ignored_other made is =
+        subst (λ b. IsOther (sentence (cond b (delivered_words letter made)
+        (body_words letter.body s.node.host s.node.view.version made (delivered_words letter made))))) (sym is)
+        (delivered_other letter made)
 
     -- what a body says that isn't that of a reply by which one is confirmed
-    by_body : (made : Effect) → IsOther (sentence (body_words letter.body s.node.host s.node.view.version made (delivered_words letter made))) → IsOther (sentence (words made))
+    by_body : (made : Effect) → IsOther (sentence (body_words letter.body s.node.host s.node.view.version made
+        (delivered_words letter made))) → IsOther (sentence (words made))
     by_body made other = by (is_ignored made)
       where
-        by : (ignored : Bool) → IsOther (sentence (cond ignored (delivered_words letter made) (body_words letter.body s.node.host s.node.view.version made (delivered_words letter made))))
+        by : (ignored : Bool) → IsOther (sentence (cond ignored (delivered_words letter made)
+            (body_words letter.body s.node.host s.node.view.version made (delivered_words letter made))))
         by true = delivered_other letter made
         by false = other
 
@@ -171,7 +189,8 @@ module _ (s : SiloValue) (once : HoldsOnce s.node.host) (own : IsSilo s.node.hos
       same_letter c = let same : letter ≡ c.letter = cc c.comes in ap (λ (l : Letter). l.body) same ∙ c.body
 
       abbrev Outcome : Type 0
-      Outcome = ((ConfirmsOne s.node (Receives letter) it → ⊥) × IsOther (sentence (words it.effect))) ⊎ ConfirmsOne s.node (Receives letter) it
+      Outcome =
+          ((ConfirmsOne s.node (Receives letter) it → ⊥) × IsOther (sentence (words it.effect))) ⊎ ConfirmsOne s.node (Receives letter) it
 
       -- by the reply that an activation is entered
       registered : (number : ℕ) (entry : Entry) → letter.body ≡ Reply_letter number (reply.Registered entry) → Outcome
@@ -184,12 +203,20 @@ module _ (s : SiloValue) (once : HoldsOnce s.node.host) (own : IsSilo s.node.hos
           passed : it ≡ silently s.node effect.Ignored → Outcome
           passed ignored =
               let quiet_so = ap (λ (i : Stepped). is_ignored i.effect) ignored in
-              inl ((λ c. let both = ap (λ (i : Stepped). is_ignored i.effect) c.is in cc (quiet_so, both)), ignored_other it.effect quiet_so)
+              inl (
+                (λ c. let both = ap (λ (i : Stepped). is_ignored i.effect) c.is in cc (quiet_so, both)),
+                ignored_other it.effect
+                    quiet_so,
+              )
 
-          by : (seen : Bool) (o : Option (Grain × Held)) → (letter.version == s.node.view.version) ≡ seen → asking_under s.node.host number ≡ o → Outcome
-          by false o seen under = passed (made_by ∙ ap (λ b. cond b (confirmed_by (asking_under s.node.host number) s.node) (silently s.node effect.Ignored)) seen)
+          by : (seen : Bool) (o : Option (Grain × Held)) → (letter.version == s.node.view.version) ≡ seen
+              → asking_under s.node.host number ≡ o → Outcome
+          by false o seen under =
+              passed (made_by ∙ ap (λ b. cond b (confirmed_by (asking_under s.node.host number) s.node) (silently s.node effect.Ignored))
+              seen)
           by true None seen under =
-              passed (made_by ∙ (ap (λ b. cond b (confirmed_by (asking_under s.node.host number) s.node) (silently s.node effect.Ignored)) seen ∙ ap (λ found. confirmed_by found s.node) under))
+              passed (made_by ∙ (ap (λ b. cond b (confirmed_by (asking_under s.node.host number) s.node) (silently s.node effect.Ignored))
+              seen ∙ ap (λ found. confirmed_by found s.node) under))
           by true (Some e) seen under = inr (record {
             letter = letter;
             number = number;
@@ -198,23 +225,38 @@ module _ (s : SiloValue) (once : HoldsOnce s.node.host) (own : IsSilo s.node.hos
             comes = refl;
             body = body;
             under = under;
-            is = made_by ∙ (ap (λ b. cond b (confirmed_by (asking_under s.node.host number) s.node) (silently s.node effect.Ignored)) seen ∙ ap (λ found. confirmed_by found s.node) under);
+            is =
+                made_by ∙ (ap (λ b. cond b (confirmed_by (asking_under s.node.host number) s.node) (silently s.node effect.Ignored)) seen
+                ∙ ap (λ found. confirmed_by found s.node) under);
           })
 
       -- any other letter
-      another : (body : Body) → letter.body ≡ body → ((number : ℕ) (entry : Entry) → body ≡ Reply_letter number (reply.Registered entry) → ⊥)
-          → (((ConfirmsOne s.node (Receives letter) it → ⊥)) → IsOther (sentence (body_words body s.node.host s.node.view.version it.effect (delivered_words letter it.effect)))) → Outcome
+      another : (body : Body) → letter.body ≡ body → ((number : ℕ) (entry : Entry) → body ≡ Reply_letter number (reply.Registered entry)
+          → ⊥)
+          → (((ConfirmsOne s.node (Receives letter) it → ⊥))
+          → IsOther (sentence (body_words body s.node.host s.node.view.version it.effect (delivered_words letter it.effect)))) → Outcome
       another body same never other =
           let none : ConfirmsOne s.node (Receives letter) it → ⊥ = λ c. never c.number c.entry (sym same ∙ same_letter c) in
-          inl (none, by_body it.effect (subst (λ b. IsOther (sentence (body_words b s.node.host s.node.view.version it.effect (delivered_words letter it.effect)))) (sym same) (other none)))
+          inl (
+            none,
+            by_body it.effect (subst (λ b. IsOther
+                (sentence (body_words b s.node.host s.node.view.version it.effect (delivered_words letter it.effect)))) (sym same)
+                (other none)),
+          )
 
-      delivered : (body : Body) → letter.body ≡ body → ((number : ℕ) (entry : Entry) → body ≡ Reply_letter number (reply.Registered entry) → ⊥)
-          → body_words body s.node.host s.node.view.version it.effect (delivered_words letter it.effect) ≡ delivered_words letter it.effect → Outcome
-      delivered body same never says = another body same never (λ none. subst (λ w. IsOther (sentence w)) (sym says) (delivered_other letter it.effect))
+      delivered : (body : Body) → letter.body ≡ body →
+          ((number : ℕ) (entry : Entry) → body ≡ Reply_letter number (reply.Registered entry) → ⊥)
+          → body_words body s.node.host s.node.view.version it.effect (delivered_words letter it.effect) ≡ delivered_words letter it.effect
+          → Outcome
+      delivered body same never says =
+          another body same never (λ none. subst (λ w. IsOther (sentence w)) (sym says) (delivered_other letter it.effect))
 
-      counted : (body : Body) → letter.body ≡ body → ((number : ℕ) (entry : Entry) → body ≡ Reply_letter number (reply.Registered entry) → ⊥)
+      counted : (body : Body) → letter.body ≡ body → ((number : ℕ) (entry : Entry) → body ≡ Reply_letter number (reply.Registered entry)
+          → ⊥)
           → is_other (body_words body s.node.host s.node.view.version it.effect (delivered_words letter it.effect)) ≡ true → Outcome
-      counted body same never other = another body same never (λ none. by_words (body_words body s.node.host s.node.view.version it.effect (delivered_words letter it.effect)) other)
+      counted body same never other =
+          another body same never (λ none. by_words (body_words body s.node.host s.node.view.version it.effect
+          (delivered_words letter it.effect)) other)
 
       outcome : (body : Body) → letter.body ≡ body → Outcome
       outcome (Request_letter request) same = delivered _ same (λ number entry is. cc is) refl
@@ -234,13 +276,15 @@ module _ (s : SiloValue) (once : HoldsOnce s.node.host) (own : IsSilo s.node.hos
       outcome (Behind_letter range) same = delivered _ same (λ number entry is. cc is) refl
       outcome (Ahead_letter range) same = delivered _ same (λ number entry is. cc is) refl
       outcome (Offer_letter entry) same =
-          another _ same (λ n e is. cc is) (λ none. did_other s.node.host.silo it.effect (λ firm. none ((shown s.node (Receives letter) it is).1 (ap step_of_effect firm))))
+          another _ same (λ n e is. cc is) (λ none. did_other s.node.host.silo it.effect
+          (λ firm. none ((shown s.node (Receives letter) it is).1 (ap step_of_effect firm))))
 
       -- the line that tells it
       telling : (c : ConfirmsOne s.node (Receives letter) it) → sentence (words it.effect) ≡ its_firm_line s c.e.0 c.e.1.count
       telling c =
           ap (λ (i : Stepped). sentence (words i.effect)) c.is
-          ∙ (ap (λ b. sentence (body_words b s.node.host s.node.view.version effect.Firm (delivered_words letter effect.Firm))) (same_letter c)
+          ∙ (ap (λ b. sentence (body_words b s.node.host s.node.view.version effect.Firm (delivered_words letter effect.Firm)))
+          (same_letter c)
           ∙ ap (λ found. sentence (codes "firm" ∷ (own_words s.node.host found ++ codes "at" ∷ decimal s.node.view.version ∷ []))) c.under)
 
       came : TellsFirm s read (stepped words (Ok it) s)
@@ -257,7 +301,8 @@ module _ (s : SiloValue) (once : HoldsOnce s.node.host) (own : IsSilo s.node.hos
     comes : TellsFirm s read (received_so letter s)
     comes = by (silo_eq letter.to s.node.host.silo)
       where
-        by : (ours : Bool) → TellsFirm s read (cond ours (stepped words (cond ours (does s (Receives letter)) (Ok (silently s.node effect.Ignored))) s) (printing [] s))
+        by : (ours : Bool) → TellsFirm s read (cond ours
+            (stepped words (cond ours (does s (Receives letter)) (Ok (silently s.node effect.Ignored))) s) (printing [] s))
         by true = taken (does s (Receives letter)) refl
         by false = quiet (printing [] s) refl (All-nil IsOther)
 
@@ -270,7 +315,8 @@ module _ (s : SiloValue) (once : HoldsOnce s.node.host) (own : IsSilo s.node.hos
       by (Ok its) =
           let next : SiloValue = record s { membership = its.membership } in
           let it = printing (sentence (news_words version change its.news) ∷ []) next in
-          quiet (unless_dead (own_status next) it) (sym (ap (λ (t : SiloValue). t.node) (silo_kept (own_status next) it))) (news_other version change its.news (own_status next) next)
+          quiet (unless_dead (own_status next) it) (sym (ap (λ (t : SiloValue). t.node) (silo_kept (own_status next) it)))
+          (news_other version change its.news (own_status next) next)
 
 -- ---- whatever a line says
 module _ (s : SiloValue) (once : HoldsOnce s.node.host) (own : IsSilo s.node.host.silo) where
@@ -279,28 +325,39 @@ module _ (s : SiloValue) (once : HoldsOnce s.node.host) (own : IsSilo s.node.hos
 
   tells_asked : (asked : Asked) → Tells (Ok (Some asked)) (answered asked s)
   unfolding answered
-  tells_asked (Joined version silo token places) = hears s once own (Ok (Some (Joined version silo token places))) version (Join silo places)
+  tells_asked (Joined version silo token places) =
+      hears s once own (Ok (Some (Joined version silo token places))) version (Join silo places)
   tells_asked (Leaving version silo) = hears s once own (Ok (Some (Leaving version silo))) version (Leave silo)
   tells_asked (Dead version silo) = hears s once own (Ok (Some (Dead version silo))) version (Die silo)
   tells_asked (See version) = saw s once own (Ok (Some (See version))) version
   tells_asked (Do asked) = done s once own (Ok (Some (Do asked))) asked (λ its ends. ends) (λ it c. cc c.comes)
   tells_asked (Receive letter) = comes s once own (Ok (Some (Receive letter))) letter
-  tells_asked (Ping word) = quiet s once own (Ok (Some (Ping word))) (printing (sentence (codes "pong" ∷ word ∷ []) ∷ []) s) refl (alone (sentence (codes "pong" ∷ word ∷ [])) (pong_other word))
-  tells_asked (Owner grain) = quiet s once own (Ok (Some (Owner grain))) (printing (grain_owner_line s grain ∷ []) s) refl (alone (grain_owner_line s grain) (owner_other s grain))
+  tells_asked (Ping word) =
+      quiet s once own (Ok (Some (Ping word))) (printing (sentence (codes "pong" ∷ word ∷ []) ∷ []) s) refl
+      (alone (sentence (codes "pong" ∷ word ∷ [])) (pong_other word))
+  tells_asked (Owner grain) =
+      quiet s once own (Ok (Some (Owner grain))) (printing (grain_owner_line s grain ∷ []) s) refl
+      (alone (grain_owner_line s grain) (owner_other s grain))
   tells_asked (Place grain policy) =
-      quiet s once own (Ok (Some (Place grain policy))) (printing (grain_place_line s grain policy ∷ []) s) refl (alone (grain_place_line s grain policy) (place_other s grain policy))
+      quiet s once own (Ok (Some (Place grain policy))) (printing (grain_place_line s grain policy ∷ []) s) refl
+      (alone (grain_place_line s grain policy) (place_other s grain policy))
+  tells_asked Figures =
+      quiet s once own (Ok (Some Figures)) (printing (figures_line s ∷ []) s) refl (alone (figures_line s) (figures_other s))
   tells_asked Show = quiet s once own (Ok (Some Show)) (printing (show_lines s) s) refl (show_other s)
   tells_asked Dump = quiet s once own (Ok (Some Dump)) (printing (dump_line s ∷ []) s) refl (alone (dump_line s) (dump_other s))
 
-  unless_anothers : (asked : Asked) (anothers : Bool) → Tells (Ok (Some asked)) (cond anothers (printing (refusal_line 208 ∷ []) s) (answered asked s))
-  unless_anothers asked true = quiet s once own (Ok (Some asked)) (printing (refusal_line 208 ∷ []) s) refl (alone (refusal_line 208) (refusal_other 208))
+  unless_anothers : (asked : Asked) (anothers : Bool)
+      → Tells (Ok (Some asked)) (cond anothers (printing (refusal_line 208 ∷ []) s) (answered asked s))
+  unless_anothers asked true =
+      quiet s once own (Ok (Some asked)) (printing (refusal_line 208 ∷ []) s) refl (alone (refusal_line 208) (refusal_other 208))
   unless_anothers asked false = tells_asked asked
 
   pub tells_firm : (token : Option (List ℕ)) (read : Result (Option Asked) ℕ) → Tells read (answered_to token read s)
   unfolding answered_as
   tells_firm token (Ok None) = quiet s once own (Ok None) (printing [] s) refl (All-nil IsOther)
   tells_firm token (Ok (Some asked)) = unless_anothers asked (is_anothers_join token asked s.node.host.silo)
-  tells_firm token (Err fault) = quiet s once own (Err fault) (printing (fault_line fault ∷ []) s) refl (alone (fault_line fault) (fault_other fault))
+  tells_firm token (Err fault) =
+      quiet s once own (Err fault) (printing (fault_line fault ∷ []) s) refl (alone (fault_line fault) (fault_other fault))
 
 -- ---- the silos of a deployment hold one activation a grain
 module _ (settings : Settings) (steps : List deployment.Step) (are : AreSettings settings) (named : All deployment.IsStep steps) where
@@ -319,8 +376,10 @@ module _ (settings : Settings) (steps : List deployment.Step) (are : AreSettings
       let test = is_at (silo_cmp silo) in
       let found : lookup test (over its_node (over (process_with_room most letters) d.processes)) ≡ Some (process_with_room most letters s).node =
       lookup-over its_node test (over (process_with_room most letters) d.processes)
-      ∙ ap (option_map its_node) (lookup-over (process_with_room most letters) test d.processes ∙ ap (option_map (process_with_room most letters)) there) in
-      (nodes_are_own (with_room most letters settings) all.events silo (process_with_room most letters s).node (ap (λ (w : World). node_of w silo) all.is ∙ found)).once
+      ∙ ap (option_map its_node) (lookup-over (process_with_room most letters) test d.processes
+      ∙ ap (option_map (process_with_room most letters)) there) in
+      (nodes_are_own (with_room most letters settings) all.events silo (process_with_room most letters s).node
+      (ap (λ (w : World). node_of w silo) all.is ∙ found)).once
 
 pub lines_tell_firm : WrittenReadAsThemselves → LinesTellFirm
 lines_tell_firm themselves settings tokens steps are may silo p line is_silo there =
@@ -329,4 +388,5 @@ lines_tell_firm themselves settings tokens steps are may silo p line is_silo the
     let found : process_of (deployment.deployed c.settings f.steps) silo ≡ Some p.silo =
     ap (λ d. process_of d silo) f.same ∙ lookup-over its_silo (is_at (silo_cmp silo)) c.processes ∙ ap (option_map its_silo) there in
     let own = (processes_are_own c.settings f.steps f.are f.named silo p.silo found).address in
-    tells_firm p.silo (holds_once c.settings f.steps f.are f.named silo p.silo found) (subst IsSilo (sym own) is_silo) p.token (said line p.silo)
+    tells_firm p.silo (holds_once c.settings f.steps f.are f.named silo p.silo found) (subst IsSilo (sym own) is_silo) p.token
+    (said line p.silo)

@@ -19,19 +19,19 @@ use Rattle.directory_rules.specs.declared.effect.Effect.TheVariants as effect
 use Rattle.directory_rules.specs.declared.held.Held.{Held}
 use Rattle.directory_rules.specs.declared.policy.Policy.{Policy}
 use Rattle.directory_rules.specs.declared.outcome.Happening.TheVariants.{Saw, Did}
-use Rattle.directory_rules.specs.Letter.{Letter}
-use Rattle.directory_rules.specs.Piece.{Piece}
+use Rattle.directory_rules.specs.State.{Letter, Piece}
 use Rattle.silo_rules.specs.declared.news.News.{News}
 use Rattle.silo_rules.specs.declared.news.News.TheVariants.{Known, Made, Replaced}
 use Rattle.directory_rules.specs.Membership.{Change, Join, Leave, Die}
 use Rattle.silo_rules.specs.SiloValue.{SiloValue, own_status}
+use Rattle.silo_rules.specs.Figures.{figures}
 use Rattle.script_rules.specs.Lines.{effect_words, happening_words, refusal_line}
 use Rattle.script_rules.specs.Show.{held_line, phase_word, seen_words}
 use Rattle.process_rules.specs.LetterText.{letter_words, letter_line}
 use Rattle.process_rules.specs.Answer.{printing, unless_dead}
 use Rattle.process_rules.specs.Happened.{news_words, delivered_words}
 use Rattle.process_rules.specs.Output.{fault_line}
-use Rattle.process_rules.specs.Show.{own_word, state_words, piece_line, show_lines, dump_line, grain_owner_line, grain_place_line}
+use Rattle.process_rules.specs.Show.{own_word, state_words, piece_line, show_lines, dump_line, figures_words, figures_line, grain_owner_line, grain_place_line}
 use Rattle.process_deployment.specs.Firm.{SaysFirm}
 use Rattle.process_deployment.proofs.Answers.{owner_tail, place_tail}
 
@@ -111,14 +111,19 @@ news_is_other version (Join silo places) (Replaced old) = refl
 news_is_other version (Leave silo) (Replaced old) = refl
 news_is_other version (Die silo) (Replaced old) = refl
 
-told_other : (own : Option Status) (line : List ℕ) (s : SiloValue) → IsOther line → AreOther (unless_dead own (printing (line ∷ []) s)).lines
+told_other : (own : Option Status) (line : List ℕ) (s : SiloValue) → IsOther line
+    → AreOther (unless_dead own (printing (line ∷ []) s)).lines
 told_other None line s is = alone line is
 told_other (Some status.Active) line s is = alone line is
 told_other (Some status.Leaving) line s is = alone line is
-told_other (Some status.Dead) line s is = All-cons IsOther line (codes "dead" ∷ []) is (alone (codes "dead") (by_words (codes "dead" ∷ []) refl))
+told_other (Some status.Dead) line s is =
+    All-cons IsOther line (codes "dead" ∷ []) is (alone (codes "dead") (by_words (codes "dead" ∷ []) refl))
 
-pub news_other : (version : ℕ) (change : Change) (news : News) (own : Option Status) (s : SiloValue) → AreOther (unless_dead own (printing (sentence (news_words version change news) ∷ []) s)).lines
-news_other version change news own s = told_other own (sentence (news_words version change news)) s (by_words (news_words version change news) (news_is_other version change news))
+pub news_other : (version : ℕ) (change : Change) (news : News) (own : Option Status) (s : SiloValue)
+    → AreOther (unless_dead own (printing (sentence (news_words version change news) ∷ []) s)).lines
+news_other version change news own s =
+    told_other own (sentence (news_words version change news)) s
+    (by_words (news_words version change news) (news_is_other version change news))
 
 pub saw_other : (silo : Silo) (version : ℕ) (made : Effect) → IsSilo silo → IsOther (sentence (happening_words (Saw silo version made)))
 saw_other silo version made is = silo_other silo (codes "sees" ∷ decimal version ∷ effect_words made) is
@@ -129,6 +134,7 @@ did_is_other silo effect.Next never = refl
 did_is_other silo effect.Skip never = refl
 did_is_other silo (effect.Started entry) never = refl
 did_is_other silo (effect.Closing entry) never = refl
+did_is_other silo (effect.Cancelled entry) never = refl
 did_is_other silo (effect.Offered entry to) never = refl
 did_is_other silo (effect.Cached entry) never = refl
 did_is_other silo (effect.Finding grain) never = refl
@@ -175,17 +181,23 @@ pub place_other : (s : SiloValue) (grain : Grain) (policy : Policy) → IsOther 
 unfolding grain_place_line
 place_other s grain policy = by_words (codes "place" ∷ place_tail s grain policy) refl
 
+pub figures_other : (s : SiloValue) → IsOther (figures_line s)
+unfolding figures_line
+figures_other s = by_words (codes "status" ∷ figures_words (figures s)) refl
+
 -- ---- what it has
 held_other : (silo : Silo) (held : List (Grain × Held)) → AreOther (map (λ e. held_line silo e.0 e.1) held)
 held_other silo [] = All-nil IsOther
 held_other silo (e ∷ held) =
     All-cons IsOther (held_line silo e.0 e.1) (map (λ e. held_line silo e.0 e.1) held)
-    (by_words (codes "held" ∷ activation_text (record { silo = silo; count = e.1.count }) ∷ grain_text e.0 ∷ phase_word e.1.phase ∷ []) refl) (held_other silo held)
+    (by_words (codes "held" ∷ activation_text (record { silo = silo; count = e.1.count }) ∷ grain_text e.0 ∷ phase_word e.1.phase ∷ [])
+    refl) (held_other silo held)
 
 pieces_other : (pieces : List (ℕ × Piece)) → AreOther (map (λ e. piece_line e.1) pieces)
 pieces_other [] = All-nil IsOther
 pieces_other (e ∷ pieces) =
-    All-cons IsOther (piece_line e.1) (map (λ e. piece_line e.1) pieces) (by_words (codes "range" ∷ range_text e.1.range ∷ state_words e.1.state e.1.entries) refl) (pieces_other pieces)
+    All-cons IsOther (piece_line e.1) (map (λ e. piece_line e.1) pieces)
+    (by_words (codes "range" ∷ range_text e.1.range ∷ state_words e.1.state e.1.entries) refl) (pieces_other pieces)
 
 pub show_other : (s : SiloValue) → AreOther (show_lines s)
 unfolding show_lines

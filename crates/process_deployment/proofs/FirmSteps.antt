@@ -13,15 +13,14 @@ use Rattle.directory_rules.specs.declared.held.Phase.TheVariants as phase
 use Rattle.directory_rules.specs.declared.effect.Effect.TheVariants as effect
 use Rattle.directory_rules.specs.declared.reply.Reply.{Reply}
 use Rattle.directory_rules.specs.declared.reply.Reply.TheVariants as reply
-use Rattle.directory_rules.specs.Host.{held_of, asking_under, is_asking_under, confirmed, with_closing}
-use Rattle.directory_rules.specs.Letter.{Letter, Reply_letter}
-use Rattle.directory_rules.specs.Node.{Node}
+use Rattle.directory_rules.specs.Host.{held_of, asking_under, is_asking_under, confirmed, next_closing, with_closing}
+use Rattle.directory_rules.specs.State.{Letter, Reply_letter, Node}
 use Rattle.directory_rules.specs.Answer.{answered}
 use Rattle.directory_rules.specs.Receive.{reply_effect}
 use Rattle.directory_rules.specs.Sight.{is_next}
 use Rattle.directory_rules.specs.Step.{Stepped, silently}
 use Rattle.directory_rules.specs.Input.{Input, Does, Receives, step}
-use Rattle.directory_rules.specs.PlainMachine.{Life, Is_asking, Is_firm, Is_closing, life_by, life_of, life_on, PlainStep, Change_view, Begin, Make_firm, Yield, Begin_closing, End, Nothing_changes, step_of_effect}
+use Rattle.directory_rules.specs.PlainMachine.{Life, Is_asking, Is_firm, Is_closing, life_by, life_of, life_on, PlainStep, Change_view, Begin, Make_firm, Yield, Begin_closing, Give_up, End, Nothing_changes, step_of_effect}
 use Rattle.directory_facts.specs.Own.{HoldsOnce}
 use Rattle.directory_facts.proofs.Ways.{Ways}
 use Rattle.directory_facts.proofs.EachStep.{by_way}
@@ -54,7 +53,9 @@ pub record ConfirmsOne (node : Node) (input : Input) (it : Stepped) : Type 0 whe
 
 -- ---- which steps are these
 abbrev Shown : Node → Input → Stepped → Type 0
-Shown node input it = (step_of_effect it.effect ≡ Begin_closing → ClosesOne node input it) × (step_of_effect it.effect ≡ Make_firm → ConfirmsOne node input it)
+Shown node input it =
+    (step_of_effect it.effect ≡ Begin_closing → ClosesOne node input it) ×
+    (step_of_effect it.effect ≡ Make_firm → ConfirmsOne node input it)
 
 abbrev is_quiet : PlainStep → Bool
 is_quiet Begin_closing = false
@@ -72,7 +73,8 @@ quiet_reply (reply.Retry why) = refl
 
 module _ (node : Node) where
   other : (input : Input) (it : Stepped) → is_quiet (step_of_effect it.effect) ≡ true → Shown node input it
-  other input it quiet = (λ is. let loud = ap is_quiet is in absurd (cc (quiet, loud)), λ is. let loud = ap is_quiet is in absurd (cc (quiet, loud)))
+  other input it quiet =
+      (λ is. let loud = ap is_quiet is in absurd (cc (quiet, loud)), λ is. let loud = ap is_quiet is in absurd (cc (quiet, loud)))
 
   quiet_sight : (next : Bool) → is_quiet (step_of_effect (if next then effect.Next else effect.Skip)) ≡ true
   quiet_sight true = refl
@@ -87,13 +89,21 @@ module _ (node : Node) where
     sees = λ before view places newer numbers. other _ _ (quiet_sight (is_next node.view before view node.host.silo));
     wakes = λ grain may. other _ _ refl;
     closes = λ grain held may. closing _ _ (record { grain = grain; held = held; host = refl; asked = refl }) refl;
+    cancels = λ grain held may. other _ _ refl;
     offers = λ grain held to may active other. closing _ _ (record { grain = grain; held = held; host = refl; asked = refl }) refl;
     uses_hint = λ grain activation hint. other _ _ refl;
     finds = λ grain room numbers. other _ _ refl;
     forgets = λ grain activation hint. other _ _ refl;
     nudges = λ numbers. other _ _ refl;
+    nudges_grain = λ grain numbers. other _ _ refl;
+    nudges_ranges = other _ _ refl;
     answers = λ letter request body sender version. other _ _ (quiet_reply (answered node.holding request).reply);
-    confirms = λ letter number entry e is there. (λ kind. absurd (cc kind), λ kind. record { letter = letter; number = number; entry = entry; e = e; comes = refl; body = is.body; under = there; is = refl });
+    confirms =
+        λ letter number entry e is there. (
+          λ kind. absurd (cc kind),
+          λ kind.
+              record { letter = letter; number = number; entry = entry; e = e; comes = refl; body = is.body; under = there; is = refl },
+        );
     yields = λ letter number entry e is there. other _ _ refl;
     removes = λ letter number e is there. other _ _ refl;
     misses = λ letter number e is there. other _ _ refl;
@@ -143,13 +153,15 @@ module _ (node : Node) (once : HoldsOnce node.host) (input : Input) (it : Steppe
   firm_after c =
       let firm : Held = record c.e.1 { phase = phase.Firm; previous = None } in
       let so = find_looked grain_cmp grain_cmp_total grain_cmp_exact (λ (x : Grain × Held). is_asking_under c.number x.1.phase) node.host.held c.e once c.under in
-      ap (λ (its : Stepped). life_on c.e.0 its.node) c.is ∙ ap (option_map life_of) (found_set grain_cmp grain_cmp_total grain_cmp_exact c.e.0 firm node.host.held (ap is_some so.1))
+      ap (λ (its : Stepped). life_on c.e.0 its.node) c.is
+      ∙ ap (option_map life_of) (found_set grain_cmp grain_cmp_total grain_cmp_exact c.e.0 firm node.host.held (ap is_some so.1))
 
   -- so are all others what they were
   same_beside : (c : ConfirmsOne node input it) (grain : Grain) → grain ≢ c.e.0 → life_on grain it.node ≡ life_on grain node
   same_beside c grain apart =
       let firm : Held = record c.e.1 { phase = phase.Firm; previous = None } in
-      ap (λ (its : Stepped). life_on grain its.node) c.is ∙ ap (option_map life_of) (found_beside_set grain_cmp grain_cmp_total grain_cmp_exact c.e.0 firm node.host.held grain apart)
+      ap (λ (its : Stepped). life_on grain its.node) c.is
+      ∙ ap (option_map life_of) (found_beside_set grain_cmp grain_cmp_total grain_cmp_exact c.e.0 firm node.host.held grain apart)
 
   -- a firm one was firm before, or is the one that is confirmed
   pub record Confirmed (grain : Grain) (count : ℕ) : Type 0 where
@@ -164,7 +176,8 @@ module _ (node : Node) (once : HoldsOnce node.host) (input : Input) (it : Steppe
   IsFirm grain count = life_on grain it.node ≡ Some (Is_firm count)
 
   -- an activation that isn't firm after the step is another one's
-  back : (grain its : Grain) (count : ℕ) (after : Option Life) → life_on its it.node ≡ after → ¬ (after ≡ Some (Is_firm count)) → ((other : Grain) → other ≢ its → life_on other it.node ≡ life_on other node) → IsFirm grain count → WasFirm grain count
+  back : (grain its : Grain) (count : ℕ) (after : Option Life) → life_on its it.node ≡ after → ¬ (after ≡ Some (Is_firm count))
+      → ((other : Grain) → other ≢ its → life_on other it.node ≡ life_on other node) → IsFirm grain count → WasFirm grain count
   back grain its count after there never elsewhere firm = by (same_or_other grain its)
     where
       by : (grain ≡ its) ⊎ (grain ≢ its) → WasFirm grain count
@@ -172,7 +185,8 @@ module _ (node : Node) (once : HoldsOnce node.host) (input : Input) (it : Steppe
       by (inr apart) = sym (elsewhere grain apart) ∙ firm
 
   -- and one that wasn't firm before it is
-  forth : (grain its : Grain) (count : ℕ) (before : Option Life) → life_on its node ≡ before → ¬ (before ≡ Some (Is_firm count)) → ((other : Grain) → other ≢ its → life_on other it.node ≡ life_on other node) → WasFirm grain count → IsFirm grain count
+  forth : (grain its : Grain) (count : ℕ) (before : Option Life) → life_on its node ≡ before → ¬ (before ≡ Some (Is_firm count))
+      → ((other : Grain) → other ≢ its → life_on other it.node ≡ life_on other node) → WasFirm grain count → IsFirm grain count
   forth grain its count before there never elsewhere firm = by (same_or_other grain its)
     where
       by : (grain ≡ its) ⊎ (grain ≢ its) → IsFirm grain count
@@ -190,10 +204,14 @@ module _ (node : Node) (once : HoldsOnce node.host) (input : Input) (it : Steppe
 
       by : (kind : PlainStep) → step_of_effect it.effect ≡ kind → IsNodeStep node kind it.node → WasFirm grain count ⊎ Confirmed grain count
       by Change_view kind step = absurd step
-      by Begin kind step = inl (back grain step.grain count (Some (Is_asking node.host.next_count)) step.there (λ same. cc same) step.elsewhere firm)
+      by Begin kind step =
+          inl (back grain step.grain count (Some (Is_asking node.host.next_count)) step.there (λ same. cc same) step.elsewhere firm)
       by Make_firm kind step = let c = (shown node input it is).1 kind in confirm c (same_or_other grain c.e.0)
       by Yield kind step = inl (back grain step.1.grain count None step.1.there (λ same. cc same) step.1.elsewhere firm)
-      by Begin_closing kind step = inl (back grain step.1.grain count (Some (Is_closing step.0)) step.1.there (λ same. cc same) step.1.elsewhere firm)
+      by Begin_closing kind step =
+          inl (back grain step.1.grain count (Some (Is_closing step.0)) step.1.there (λ same. cc same) step.1.elsewhere firm)
+      by Give_up kind step =
+          inl (back grain step.1.grain count (Some (Is_closing step.0)) step.1.there (λ same. cc same) step.1.elsewhere firm)
       by End kind step = inl (back grain step.1.grain count None step.1.there (λ same. cc same) step.1.elsewhere firm)
       by Nothing_changes kind step = inl (sym (step.lives grain) ∙ firm)
 
@@ -203,15 +221,19 @@ module _ (node : Node) (once : HoldsOnce node.host) (input : Input) (it : Steppe
       close : (c : ClosesOne node input it) → (grain ≡ c.grain) ⊎ (grain ≢ c.grain) → IsFirm grain count ⊎ EndsIt input grain
       close c (inl same) = inr (subst (EndsIt input) (sym same) c.asked)
       close c (inr apart) =
-          let its : Held = record c.held { phase = phase.Closing node.host.next_number } in
+          let its : Held = next_closing node.host c.held in
           inl (ap (λ h. option_map life_of (held_of h grain)) c.host
-          ∙ (ap (option_map life_of) (found_beside_set grain_cmp grain_cmp_total grain_cmp_exact c.grain its node.host.held grain apart) ∙ firm))
+          ∙ (ap (option_map life_of) (found_beside_set grain_cmp grain_cmp_total grain_cmp_exact c.grain its node.host.held grain apart)
+          ∙ firm))
 
       by : (kind : PlainStep) → step_of_effect it.effect ≡ kind → IsNodeStep node kind it.node → IsFirm grain count ⊎ EndsIt input grain
       by Change_view kind step = absurd step
       by Begin kind step = inl (forth grain step.grain count None step.free (λ same. cc same) step.elsewhere firm)
-      by Make_firm kind step = inl (forth grain step.1.grain count (Some (Is_asking step.0)) step.1.was (λ same. cc same) step.1.elsewhere firm)
+      by Make_firm kind step =
+          inl (forth grain step.1.grain count (Some (Is_asking step.0)) step.1.was (λ same. cc same) step.1.elsewhere firm)
       by Yield kind step = inl (forth grain step.1.grain count (Some (Is_asking step.0)) step.1.was (λ same. cc same) step.1.elsewhere firm)
       by Begin_closing kind step = let c = (shown node input it is).0 kind in close c (same_or_other grain c.grain)
+      by Give_up kind step =
+          inl (forth grain step.1.grain count (Some (Is_asking step.0)) step.1.was (λ same. cc same) step.1.elsewhere firm)
       by End kind step = inl (forth grain step.1.grain count (Some (Is_closing step.0)) step.1.was (λ same. cc same) step.1.elsewhere firm)
       by Nothing_changes kind step = inl (step.lives grain ∙ firm)

@@ -10,8 +10,7 @@ use Rattle.directory_rules.specs.declared.effect.Effect.TheVariants.{Ignored}
 use Rattle.directory_rules.specs.declared.outcome.Happening.TheVariants.{Saw, Did}
 use Rattle.directory_rules.specs.declared.own_step.OwnStep.{OwnStep}
 use Rattle.directory_rules.specs.Input.{Input, Does, Receives, step, sight_of}
-use Rattle.directory_rules.specs.Letter.{Letter}
-use Rattle.directory_rules.specs.Node.{Node}
+use Rattle.directory_rules.specs.State.{Letter, Node}
 use Rattle.directory_rules.specs.Settings.{Settings, AreSettings}
 use Rattle.directory_rules.specs.Step.{Stepped, silently}
 use Rattle.script_rules.specs.Lines.{happening_words, refusal_line}
@@ -22,7 +21,7 @@ use Rattle.silo_rules.specs.Told.{Heard, told}
 use Rattle.silo_rules.specs.Whole.{IsWhole}
 use Rattle.silo_rules.proofs.Own.{StaysOwn, stays_own}
 use Rattle.silo_rules.proofs.Whole.{first_whole}
-use Rattle.process_rules.specs.ReadLine.{Asked, Joined, Leaving, Dead, See, Do, Receive, Ping, Owner, Place, Show, Dump, read_silo_line}
+use Rattle.process_rules.specs.ReadLine.{Asked, Joined, Leaving, Dead, See, Do, Receive, Ping, Owner, Place, Figures, Show, Dump, read_silo_line}
 use Rattle.process_rules.specs.Happened.{news_words, received_words}
 use Rattle.process_rules.specs.Answer.{Answered, printing, heard, told_so, stepped, seen_so, done_so, received_so, is_anothers_join, answered, answered_as}
 use Rattle.process_rules.specs.Output.{answered_to, said}
@@ -46,7 +45,8 @@ module _ (s : SiloValue) where
   unbarred None outcome it is = is
   unbarred (Some number) outcome it is = absurd (cc is)
 
-  step_own : (happened : Effect → List (List ℕ)) (o : Result Stepped ℕ) → ((it : Stepped) → o ≡ Ok it → StaysOwn s.node it.node) → Own (stepped happened o s)
+  step_own : (happened : Effect → List (List ℕ)) (o : Result Stepped ℕ) → ((it : Stepped) → o ≡ Ok it → StaysOwn s.node it.node)
+      → Own (stepped happened o s)
   step_own happened (Err number) each = still (stepped happened (Err number) s) refl
   step_own happened (Ok it) each = each it refl
 
@@ -56,7 +56,8 @@ module _ (s : SiloValue) where
   done_own : (asked : OwnStep) → Own (done_so asked s)
   done_own asked = step_own (λ made. happening_words (Did s.node.host.silo made)) (does s (Does asked)) (does_own (Does asked))
 
-  by_sight : (newer seeable : Bool) (r : Result Stepped ℕ) (it : Stepped) → ◌≡◌ {A = Result Stepped ℕ} (if not newer then Err 903 else (if not seeable then Err 904 else r)) (Ok it) → r ≡ Ok it
+  by_sight : (newer seeable : Bool) (r : Result Stepped ℕ) (it : Stepped)
+      → ◌≡◌ {A = Result Stepped ℕ} (if not newer then Err 903 else (if not seeable then Err 904 else r)) (Ok it) → r ≡ Ok it
   by_sight false seeable r it is = absurd (cc is)
   by_sight true false r it is = absurd (cc is)
   by_sight true true r it is = is
@@ -65,7 +66,8 @@ module _ (s : SiloValue) where
   seen_own version =
       let input = sight_of s.membership version in
       step_own (λ made. happening_words (Saw s.node.host.silo version made)) (sees s version) (λ it is.
-      stays_own s.node input it (by_sight (nat_lt s.node.view.version version) (is_seeable s.membership s.node.host.silo version) (step s.node input) it (unbarred (barred s) (seen s version) it is)))
+      stays_own s.node input it (by_sight (nat_lt s.node.view.version version) (is_seeable s.membership s.node.host.silo version)
+      (step s.node input) it (unbarred (barred s) (seen s version) it is)))
 
   received_own : (letter : Letter) → Own (received_so letter s)
   received_own letter = by (silo_eq letter.to s.node.host.silo)
@@ -73,7 +75,8 @@ module _ (s : SiloValue) where
       words : Effect → List (List ℕ)
       words = received_words s.node.host s.node.view.version letter
 
-      by : (ours : Bool) → Own (cond ours (stepped words (cond ours (does s (Receives letter)) (Ok (silently s.node Ignored))) s) (printing [] s))
+      by : (ours : Bool) → Own (cond ours (stepped words (cond ours (does s (Receives letter)) (Ok (silently s.node Ignored))) s)
+          (printing [] s))
       by true = step_own words (does s (Receives letter)) (does_own (Receives letter))
       by false = still (printing [] s) refl
 
@@ -82,7 +85,10 @@ module _ (s : SiloValue) where
     where
       by : (o : Result Heard ℕ) → Own (heard o version change s)
       by (Err number) = still (heard (Err number) version change s) refl
-      by (Ok its) = let next : SiloValue = record s { membership = its.membership } in still (heard (Ok its) version change s) (sym (ap (λ (t : SiloValue). t.node) (silo_kept (own_status next) (printing (sentence (news_words version change its.news) ∷ []) next))))
+      by (Ok its) =
+          let next : SiloValue = record s { membership = its.membership } in
+          still (heard (Ok its) version change s) (sym (ap (λ (t : SiloValue). t.node)
+          (silo_kept (own_status next) (printing (sentence (news_words version change its.news) ∷ []) next))))
 
   asked_own : (asked : Asked) → Own (answered asked s)
   unfolding answered
@@ -95,6 +101,7 @@ module _ (s : SiloValue) where
   asked_own (Ping word) = still (answered (Ping word) s) refl
   asked_own (Owner grain) = still (answered (Owner grain) s) refl
   asked_own (Place grain policy) = still (answered (Place grain policy) s) refl
+  asked_own Figures = still (answered Figures s) refl
   asked_own Show = still (answered Show s) refl
   asked_own Dump = still (answered Dump s) refl
 
@@ -115,11 +122,14 @@ record Keeps (shared : Settings) (e : Silo × Process) : Type 0 where
   settings : e.1.silo.node.settings ≡ shared
   joined : JoinedByItsToken shared e
 
-first_keeps : (settings : Settings) (tokens : JoinTokens) (silo : Silo) → AreSettings settings → Keeps settings (silo, started settings tokens silo)
-first_keeps settings tokens silo are = record { whole = first_whole settings silo are; address = refl; settings = refl; joined = λ token is told_so. absurd (cc told_so) }
+first_keeps : (settings : Settings) (tokens : JoinTokens) (silo : Silo) → AreSettings settings
+    → Keeps settings (silo, started settings tokens silo)
+first_keeps settings tokens silo are =
+    record { whole = first_whole settings silo are; address = refl; settings = refl; joined = λ token is told_so. absurd (cc told_so) }
 
 -- by the line that it reads now
-pub by_line : (token : List ℕ) (read : Result (Option Asked) ℕ) (s : SiloValue) → IsWhole s → told_of_its_join s ≡ false → told_of_its_join (answered_to (Some token) read s).silo ≡ true
+pub by_line : (token : List ℕ) (read : Result (Option Asked) ℕ) (s : SiloValue) → IsWhole s → told_of_its_join s ≡ false
+    → told_of_its_join (answered_to (Some token) read s).silo ≡ true
     → (asked : Asked) × (read ≡ Ok (Some asked)) × CarriesItsJoin s.node.host.silo token asked
 by_line token (Ok None) s whole before after = absurd (cc (before, after))
 by_line token (Ok (Some asked)) s whole before after = (asked, refl, joins_by_its_token token asked s whole before after)
@@ -130,9 +140,17 @@ module _ (settings : Settings) (silo : Silo) (line : List ℕ) (p : Process) (ke
   next = having_read line (answer_to line p) p
 
   read_before : (token : List ℕ) → ReadItsJoin settings silo token p.read → ReadItsJoin settings silo token next.read
-  read_before token its = record { line = its.line; there = Contains-append_left p.read (line ∷ []) its.line its.there; asked = its.asked; says = its.says; carries = its.carries }
+  read_before token its =
+      record {
+        line = its.line;
+        there = Contains-append_left p.read (line ∷ []) its.line its.there;
+        asked = its.asked;
+        says = its.says;
+        carries = its.carries;
+      }
 
-  read_now : (token : List ℕ) → p.token ≡ Some token → told_of_its_join p.silo ≡ false → told_of_its_join next.silo ≡ true → ReadItsJoin settings silo token next.read
+  read_now : (token : List ℕ) → p.token ≡ Some token → told_of_its_join p.silo ≡ false → told_of_its_join next.silo ≡ true
+      → ReadItsJoin settings silo token next.read
   read_now token is before after =
       let its = by_line token (said line p.silo) p.silo kept.whole before (ap (λ (t : Option (List ℕ)). told_of_its_join (answered_to t (said line p.silo) p.silo).silo) (sym is) ∙ after) in
       record {
@@ -153,7 +171,8 @@ module _ (settings : Settings) (silo : Silo) (line : List ℕ) (p : Process) (ke
         joined = λ token is after. by token is (told_of_its_join p.silo) refl after;
       }
     where
-      by : (token : List ℕ) → p.token ≡ Some token → (before : Bool) → told_of_its_join p.silo ≡ before → told_of_its_join next.silo ≡ true → ReadItsJoin settings silo token next.read
+      by : (token : List ℕ) → p.token ≡ Some token → (before : Bool) → told_of_its_join p.silo ≡ before → told_of_its_join next.silo ≡ true
+          → ReadItsJoin settings silo token next.read
       by token is true before after = read_before token (kept.joined token is before)
       by token is false before after = read_now token is before after
 
@@ -177,7 +196,9 @@ decided_keep c change (Ok m) all =
     let old = dying c.membership change in
     record {
       are = all.are;
-      live = started_keeps Q c.settings c.tokens change (without old c.processes) (λ silo. first_keeps c.settings c.tokens silo all.are) (without_keeps Q old c.processes all.live);
+      live =
+          started_keeps Q c.settings c.tokens change (without old c.processes) (λ silo. first_keeps c.settings c.tokens silo all.are)
+          (without_keeps Q old c.processes all.live);
       dead = dying_keeps Q old c.processes c.dead all.live all.dead;
     }
 
@@ -186,7 +207,12 @@ unfolding after
 after_keep c (Decide change) all = decided_keep c change (changed c.settings c.membership change) all
 after_keep c (Read silo line) all =
     let Q = Keeps c.settings in
-    record { are = all.are; live = reading_keeps Q silo line c.processes (reads_keeps c.settings silo line) all.live; dead = reading_keeps Q silo line c.dead (reads_keeps c.settings silo line) all.dead }
+    record {
+      are = all.are;
+      live = reading_keeps Q silo line c.processes (reads_keeps c.settings silo line) all.live;
+      dead = reading_keeps Q
+          silo line c.dead (reads_keeps c.settings silo line) all.dead;
+    }
 
 all_keep : (c : Cluster) (steps : List Step) → AllKeep c → AllKeep (after_all c steps)
 unfolding after_all
@@ -198,4 +224,5 @@ processes_join_by_their_tokens settings tokens steps are may =
     let first = first_cluster settings tokens in
     let c = after_all first steps in
     let all = all_keep first steps (record { are = are; live = All-nil (Keeps settings); dead = All-nil (Keeps settings) }) in
-    All-weaker (Keeps c.settings) (JoinedByItsToken c.settings) (λ e kept. kept.joined) (everyone c) (All-append (Keeps c.settings) c.processes c.dead all.live all.dead)
+    All-weaker (Keeps c.settings) (JoinedByItsToken c.settings) (λ e kept. kept.joined) (everyone c)
+    (All-append (Keeps c.settings) c.processes c.dead all.live all.dead)

@@ -27,7 +27,8 @@ IsNoEnd byte = byte ≡ line_feed → ⊥
 line_cut : (line more : List ℕ) → IsLine line → pieces_at line_feed (line ++ line_feed ∷ more) ≡ line ∷ pieces_at line_feed more
 line_cut [] more is = refl
 line_cut (byte ∷ line) more is =
-    ap (λ (b : Bool). with_byte b byte (pieces_at line_feed (line ++ line_feed ∷ more))) (ne_eqb byte line_feed (All-head IsNoEnd byte line is))
+    ap (λ (b : Bool). with_byte b byte (pieces_at line_feed (line ++ line_feed ∷ more)))
+    (ne_eqb byte line_feed (All-head IsNoEnd byte line is))
     ∙ ap (onto_first byte) (line_cut line more (All-tail IsNoEnd byte line is))
 
 lines_cut : (lines : List (List ℕ)) → All IsLine lines → pieces_at line_feed (text_of_lines lines) ≡ lines ++ [] ∷ []
@@ -40,12 +41,14 @@ lines_cut (line ∷ lines) are =
 -- ---- a process has written what it read, and goes on from there
 record IsPlayed (settings : Settings) (e : Silo × Process) : Type 0 where
   lines : All IsLine e.1.read
-  plays : (next : List ℕ) (rest : List (List ℕ)) → written_on e.1.token (e.1.read ++ next ∷ rest) (first_silo settings e.0) ≡ text_of_lines e.1.wrote ++ unless_ended e.1.ended (written_on e.1.token (next ∷ rest)) e.1.silo
+  plays : (next : List ℕ) (rest : List (List ℕ)) → written_on e.1.token (e.1.read ++ next ∷ rest) (first_silo settings e.0) ≡ text_of_lines
+      e.1.wrote ++ unless_ended e.1.ended (written_on e.1.token (next ∷ rest)) e.1.silo
 
 first_played : (settings : Settings) (tokens : JoinTokens) (silo : Silo) → IsPlayed settings (silo, started settings tokens silo)
 first_played settings tokens silo = record { lines = All-nil IsLine; plays = λ next rest. refl }
 
-reads_played : (settings : Settings) (silo : Silo) (line : List ℕ) (p : Process) → IsLine line → IsPlayed settings (silo, p) → IsPlayed settings (silo, reads line p)
+reads_played : (settings : Settings) (silo : Silo) (line : List ℕ) (p : Process) → IsLine line → IsPlayed settings (silo, p)
+    → IsPlayed settings (silo, reads line p)
 unfolding written_on
 reads_played settings silo line p is_line played = by p.ended refl
   where
@@ -59,21 +62,24 @@ reads_played settings silo line p is_line played = by p.ended refl
       plays = λ next rest.
           let it = answer_to line p in
           let then_so = unless_ended it.ends (written_on p.token (next ∷ rest)) it.silo in
-          ap (λ (lines : List (List ℕ)). written_on p.token lines (first_silo settings silo)) (append_assoc p.read (line ∷ []) (next ∷ rest))
+          ap (λ (lines : List (List ℕ)). written_on p.token lines (first_silo settings silo))
+          (append_assoc p.read (line ∷ []) (next ∷ rest))
           ∙ played.plays line (next ∷ rest)
           ∙ ap (λ (b : Bool). text_of_lines p.wrote ++ unless_ended b (written_on p.token (line ∷ next ∷ rest)) p.silo) is
           ∙ sym (append_assoc (text_of_lines p.wrote) (text_of_lines it.lines) then_so)
           ∙ ap (λ (text : List ℕ). text ++ then_so) (sym (flat_map-append (λ line. line ++ line_feed ∷ []) p.wrote it.lines));
     }
 
-nothing_behind : (settings : Settings) (e : Silo × Process) (ended : Bool) → text_of_lines e.1.wrote ++ unless_ended ended (written_on e.1.token ([] ∷ [])) e.1.silo ≡ text_of_lines e.1.wrote
+nothing_behind : (settings : Settings) (e : Silo × Process) (ended : Bool)
+    → text_of_lines e.1.wrote ++ unless_ended ended (written_on e.1.token ([] ∷ [])) e.1.silo ≡ text_of_lines e.1.wrote
 unfolding written_on unended_fault
 nothing_behind settings e true = append-nil (text_of_lines e.1.wrote)
 nothing_behind settings e false = append-nil (text_of_lines e.1.wrote)
 
 has_output : (settings : Settings) (e : Silo × Process) → IsPlayed settings e → HasItsOutput settings e
 has_output settings e played =
-    sym (ap (λ (pieces : List (List ℕ)). written_on e.1.token pieces (first_silo settings e.0)) (lines_cut e.1.read played.lines) ∙ played.plays [] [] ∙ nothing_behind settings e e.1.ended)
+    sym (ap (λ (pieces : List (List ℕ)). written_on e.1.token pieces (first_silo settings e.0)) (lines_cut e.1.read played.lines)
+    ∙ played.plays [] [] ∙ nothing_behind settings e e.1.ended)
 
 -- ---- so does each of them, after any steps
 record ArePlayed (c : Cluster) : Type 0 where
@@ -86,7 +92,9 @@ decided_played c change (Ok m) are =
     let Q = IsPlayed c.settings in
     let old = dying c.membership change in
     record {
-      live = started_keeps Q c.settings c.tokens change (without old c.processes) (first_played c.settings c.tokens) (without_keeps Q old c.processes are.live);
+      live =
+          started_keeps Q c.settings c.tokens change (without old c.processes) (first_played c.settings c.tokens)
+          (without_keeps Q old c.processes are.live);
       dead = dying_keeps Q old c.processes c.dead are.live are.dead;
     }
 
@@ -108,4 +116,5 @@ processes_write_their_output settings tokens steps in_range may =
     let first = first_cluster settings tokens in
     let c = after_all first steps in
     let are = all_played first steps may (record { live = All-nil (IsPlayed settings); dead = All-nil (IsPlayed settings) }) in
-    All-weaker (IsPlayed c.settings) (HasItsOutput c.settings) (has_output c.settings) (everyone c) (All-append (IsPlayed c.settings) c.processes c.dead are.live are.dead)
+    All-weaker (IsPlayed c.settings) (HasItsOutput c.settings) (has_output c.settings) (everyone c)
+    (All-append (IsPlayed c.settings) c.processes c.dead are.live are.dead)

@@ -33,7 +33,8 @@ high_long (suc k) n = let rest = high_long k n in omega (arith, rest)
 all_bytes : (words : List ℕ) (n : ℕ) → IsBytes (digest_bytes words n)
 unfolding digest_bytes
 all_bytes words zero = no_bytes
-all_bytes words (suc n) = more_bytes (digest_bytes words n) (to_be_bytes w32 (slice_index words n)) (all_bytes words n) (high_bytes 4 (slice_index words n))
+all_bytes words (suc n) =
+    more_bytes (digest_bytes words n) (to_be_bytes w32 (slice_index words n)) (all_bytes words n) (high_bytes 4 (slice_index words n))
 
 all_long : (words : List ℕ) (n : ℕ) → length (digest_bytes words n) ≡ n * 4
 unfolding digest_bytes

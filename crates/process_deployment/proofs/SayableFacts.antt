@@ -15,9 +15,7 @@ use Rattle.directory_rules.specs.declared.reply.Why.TheVariants as why
 use Rattle.directory_rules.specs.declared.reply.Reply.{Reply}
 use Rattle.directory_rules.specs.declared.reply.Reply.TheVariants as reply
 use Rattle.directory_rules.specs.Event.{IsEvent}
-use Rattle.directory_rules.specs.Host.{Host}
-use Rattle.directory_rules.specs.Letter.{Letter, Body, Request_letter, Reply_letter, Ask_letter, Page_letter, Missing_letter, Done_letter, Query_letter, Report_letter, Behind_letter, Ahead_letter, Offer_letter}
-use Rattle.directory_rules.specs.Recovery.{Recovery}
+use Rattle.directory_rules.specs.State.{Host, Letter, Body, Request_letter, Reply_letter, Ask_letter, Page_letter, Missing_letter, Done_letter, Query_letter, Report_letter, Behind_letter, Ahead_letter, Offer_letter, Recovery}
 use Rattle.directory_rules.specs.Settings.{Settings}
 use Rattle.directory_facts.specs.Named.{IsNamed}
 use Rattle.directory_facts.specs.Own.{IsOwnLetter, SaysOwn}
@@ -120,18 +118,24 @@ is_reply (reply.Found entry) answers = is_entry entry answers
 is_reply reply.Nothing answers = tt
 is_reply (reply.Retry why) answers = is_why why
 
-is_body : (hashing : Hashing) (letter : Letter) (body : Body) → SaysOwn hashing letter body → NamesBody body → Tells body → IsToldBody AnyNumber (λ range. ⊤) hashing letter.from letter.version body
-is_body hashing letter (Request_letter request) own named tells = record { sender = own.sender; version = own.version; number = tt; hash = own.hash; act = is_act request.act named tells }
+is_body : (hashing : Hashing) (letter : Letter) (body : Body) → SaysOwn hashing letter body → NamesBody body → Tells body
+    → IsToldBody AnyNumber (λ range. ⊤) hashing letter.from letter.version body
+is_body hashing letter (Request_letter request) own named tells =
+    record { sender = own.sender; version = own.version; number = tt; hash = own.hash; act = is_act request.act named tells }
 is_body hashing letter (Reply_letter number reply) own named tells = (tt, is_reply reply tells)
 is_body hashing letter (Ask_letter range page) own named tells = (tt, tt)
-is_body hashing letter (Page_letter page) own named tells = record { version = own; range = tt; page = tt; pages = tt; digest = tells; entries = are_entries page.entries named }
+is_body hashing letter (Page_letter page) own named tells =
+    record { version = own; range = tt; page = tt; pages = tt; digest = tells; entries = are_entries page.entries named }
 is_body hashing letter (Missing_letter range) own named tells = tt
 is_body hashing letter (Done_letter range) own named tells = tt
 is_body hashing letter (Query_letter range) own named tells = tt
-is_body hashing letter (Report_letter report) own named tells = record { version = own.version; range = tt; silo = own.silo; entries = are_entries report.entries named }
+is_body hashing letter (Report_letter report) own named tells =
+    record { version = own.version; range = tt; silo = own.silo; entries = are_entries report.entries named }
 is_body hashing letter (Behind_letter range) own named tells = tt
 is_body hashing letter (Ahead_letter range) own named tells = tt
 is_body hashing letter (Offer_letter entry) own named tells = is_entry entry named
 
-pub may_be_said : (settings : Settings) (letter : Letter) → IsOwnLetter settings letter → Says letter → Goes letter → IsSayable settings.hashing letter
-may_be_said settings letter own named goes = record { from = goes.from; to = goes.to; version = tt; body = is_body settings.hashing letter letter.body own named goes.tells }
+pub may_be_said : (settings : Settings) (letter : Letter) → IsOwnLetter settings letter → Says letter → Goes letter
+    → IsSayable settings.hashing letter
+may_be_said settings letter own named goes =
+    record { from = goes.from; to = goes.to; version = tt; body = is_body settings.hashing letter letter.body own named goes.tells }

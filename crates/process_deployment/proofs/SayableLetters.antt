@@ -3,10 +3,9 @@ use Rattle.std.proofs.Common.{arith, ◌≡◌, ℕ, suc, ◌+◌, ◌≤◌, Li
 use Rattle.std.specs.Prelude.{⊤, All, map}
 use Rattle.std.specs.List.{enumerate_from}
 use Rattle.std.proofs.lemmas.List.Elements.{All-map, All-weaker}
-use Rattle.directory_rules.specs.Letter.{Letter}
+use Rattle.directory_rules.specs.State.{Letter, Posted, World}
 use Rattle.directory_rules.specs.Run.{run_from_start}
 use Rattle.directory_rules.specs.Settings.{Settings, AreSettings}
-use Rattle.directory_rules.specs.World.{Posted, World}
 use Rattle.directory_facts.proofs.Lawful.{settings_stay}
 use Rattle.directory_facts.proofs.Reached.{everywhere}
 use Rattle.deployment_headline.specs.Limits.{with_room}
@@ -29,10 +28,12 @@ letters_are_sayable settings events are named =
     let ways : All all_sent.named events = λ k d below. (((tt, tt), named k d below), named k d below) in
     let all = everywhere all_sent sent_keep settings events asked ways in
     subst (λ (s : Settings). All (MayBeSaid s) world.mail) (settings_stay settings events)
-    (All-weaker (λ (e : ℕ × Posted). all_sent.letter world.settings e.1.letter) (MayBeSaid world.settings) (λ e so. may_be_said world.settings e.1.letter so.0.0.0 so.0.1 so.1) world.mail all.letters)
+    (All-weaker (λ (e : ℕ × Posted). all_sent.letter world.settings e.1.letter) (MayBeSaid world.settings)
+    (λ e so. may_be_said world.settings e.1.letter so.0.0.0 so.0.1 so.1) world.mail all.letters)
 
 -- the letters of a mail that has what was written
-values : (n : ℕ) (mail : List (ℕ × Posted)) (letters : List Letter) → over its_letter mail ≡ enumerate_from n letters → map (λ e. e.1.letter) mail ≡ letters
+values : (n : ℕ) (mail : List (ℕ × Posted)) (letters : List Letter) → over its_letter mail ≡ enumerate_from n letters
+    → map (λ e. e.1.letter) mail ≡ letters
 values n [] [] is = refl
 values n [] (letter ∷ letters) is = absurd (cc (is))
 values n (e ∷ mail) [] is = absurd (cc (is))
@@ -43,7 +44,8 @@ values n (e ∷ mail) (letter ∷ letters) is =
     ap (λ l. l ∷ map (λ e. e.1.letter) mail) first ∙ ap (λ l. letter ∷ l) (values (n + 1) mail letters rest)
 
 -- settings under limits that are high enough
-pub roomy : (settings : Settings) (events letters : ℕ) → AreSettings settings → 1 ≤ events → 1 ≤ letters → AreSettings (with_room events letters settings)
+pub roomy : (settings : Settings) (events letters : ℕ) → AreSettings settings → 1 ≤ events → 1 ≤ letters
+    → AreSettings (with_room events letters settings)
 roomy settings events letters are some any = record {
   points_above = are.points_above;
   points_within = are.points_within;

@@ -14,7 +14,7 @@ use Rattle.silo_address.specs.Silo.{Silo, IsSilo}
 use Rattle.silo_address.specs.SiloText.{words_of, silo_text}
 use Rattle.silo_address.proofs.SiloLaws.{words_are_numerals}
 use Rattle.hash_ring.specs.declared.hashing.Hashing.{Hashing}
-use Rattle.directory_rules.specs.Letter.{Letter}
+use Rattle.directory_rules.specs.State.{Letter}
 use Rattle.directory_rules.proofs.Cases.{on_bool}
 use Rattle.script_rules.specs.Script.{Grammar, is_text, is_remark}
 use Rattle.process_rules.specs.ReadLine.{Asked, Receive, longest_line, commands, asked_if_known, asked_of_words, read_silo_line}
@@ -31,16 +31,19 @@ pub silent_by_words : (hashing : Hashing) (line : List ℕ) → AreSilentWords h
 unfolding read_silo_line
 silent_by_words hashing line silent letter = by (nat_lt longest_line (length line)) (list_all is_text line)
   where
-    by : (long text : Bool) → ◌≡◌ {A = Result (Option Asked) ℕ} (if long then Err 924 else (if text then asked_of_words hashing (words_in line) else Err 925)) (Ok (Some (Receive letter))) → ⊥
+    by : (long text : Bool) → ◌≡◌ {A = Result (Option Asked) ℕ}
+        (if long then Err 924 else (if text then asked_of_words hashing (words_in line) else Err 925)) (Ok (Some (Receive letter))) → ⊥
     by true text is = cc is
     by false true is = silent letter is
     by false false is = cc is
 
 -- the first word names no command
-none_asked : (hashing : Hashing) (word : List ℕ) (words : List (List ℕ)) → lookup (bytes_eq word) (commands hashing) ≡ None → AreSilentWords hashing (word ∷ words)
+none_asked : (hashing : Hashing) (word : List ℕ) (words : List (List ℕ)) → lookup (bytes_eq word) (commands hashing) ≡ None
+    → AreSilentWords hashing (word ∷ words)
 none_asked hashing word words none letter = by (is_remark word) (lookup (bytes_eq word) (commands hashing)) none
   where
-    by : (remark : Bool) (o : Option (Grammar Asked)) → o ≡ None → ◌≡◌ {A = Result (Option Asked) ℕ} (if remark then Ok None else asked_if_known o words) (Ok (Some (Receive letter))) → ⊥
+    by : (remark : Bool) (o : Option (Grammar Asked)) → o ≡ None
+        → ◌≡◌ {A = Result (Option Asked) ℕ} (if remark then Ok None else asked_if_known o words) (Ok (Some (Receive letter))) → ⊥
     by true o nothing is = cc is
     by false None nothing is = cc is
     by false (Some grammar) nothing is = cc nothing
@@ -75,25 +78,30 @@ pieces_alone (byte ∷ word) inner =
     ap (λ (b : Bool). with_byte b byte (pieces_at space word)) (inner_is (byte == space) parts.0)
     ∙ ap (onto_first byte) (pieces_alone word parts.1)
 
-kept : (word : List ℕ) (pieces : List (List ℕ)) → nat_lt 0 (length word) ≡ true → filter is_some_bytes (word ∷ pieces) ≡ word ∷ filter is_some_bytes pieces
+kept : (word : List ℕ) (pieces : List (List ℕ)) → nat_lt 0 (length word) ≡ true
+    → filter is_some_bytes (word ∷ pieces) ≡ word ∷ filter is_some_bytes pieces
 kept word pieces some = rw some refl
 
-first_is : (word : List ℕ) (words : List (List ℕ)) → nat_lt 0 (length word) ≡ true → list_all is_inner word ≡ true → words_in (sentence (word ∷ words)) ≡ word ∷ words_in (sentence words)
+first_is : (word : List ℕ) (words : List (List ℕ)) → nat_lt 0 (length word) ≡ true → list_all is_inner word ≡ true
+    → words_in (sentence (word ∷ words)) ≡ word ∷ words_in (sentence words)
 first_is word [] some inner = ap (filter is_some_bytes) (pieces_alone word inner) ∙ kept word [] some
 first_is word (next ∷ words) some inner =
-    ap (filter is_some_bytes) (pieces_front word (sentence (next ∷ words)) inner) ∙ kept word (pieces_at space (sentence (next ∷ words))) some
+    ap (filter is_some_bytes) (pieces_front word (sentence (next ∷ words)) inner)
+    ∙ kept word (pieces_at space (sentence (next ∷ words))) some
 
 none_is : (o : Option (Grammar Asked)) → is_none_known o ≡ true → o ≡ None
 none_is None is = refl
 none_is (Some grammar) is = cc is
 
-unknown : (hashing : Hashing) (word : List ℕ) (words : List (List ℕ)) → is_unknown hashing word ≡ true → IsSilent hashing (sentence (word ∷ words))
+unknown : (hashing : Hashing) (word : List ℕ) (words : List (List ℕ)) → is_unknown hashing word ≡ true
+    → IsSilent hashing (sentence (word ∷ words))
 unknown hashing word words is =
     let parts = both (nat_lt 0 (length word)) (list_all is_inner word && is_none_known (lookup (bytes_eq word) (commands hashing))) is in
     let rest = both (list_all is_inner word) (is_none_known (lookup (bytes_eq word) (commands hashing))) parts.1 in
     let none = none_is (lookup (bytes_eq word) (commands hashing)) rest.1 in
     silent_by_words hashing (sentence (word ∷ words))
-    (λ letter given. none_asked hashing word (words_in (sentence words)) none letter (ap (asked_of_words hashing) (sym (first_is word words parts.0 rest.0)) ∙ given))
+    (λ letter given. none_asked hashing word (words_in (sentence words)) none letter
+    (ap (asked_of_words hashing) (sym (first_is word words parts.0 rest.0)) ∙ given))
 
 -- the first of the words names no command
 abbrev pub first_unknown : Hashing → List (List ℕ) → Bool
@@ -105,10 +113,13 @@ by_first hashing [] is = cc is
 by_first hashing (word ∷ words) is = unknown hashing word words is
 
 -- ---- a first word by which no letter comes
-pub by_word : (hashing : Hashing) (word : List ℕ) (words : List (List ℕ)) → nat_lt 0 (length word) ≡ true → list_all is_inner word ≡ true → ((rest : List (List ℕ)) → AreSilentWords hashing (word ∷ rest))
+pub by_word : (hashing : Hashing) (word : List ℕ) (words : List (List ℕ)) → nat_lt 0 (length word) ≡ true → list_all is_inner word ≡ true
+    → ((rest : List (List ℕ)) → AreSilentWords hashing (word ∷ rest))
     → IsSilent hashing (sentence (word ∷ words))
 by_word hashing word words some inner silent =
-    silent_by_words hashing (sentence (word ∷ words)) (λ letter given. silent (words_in (sentence words)) letter (ap (asked_of_words hashing) (sym (first_is word words some inner)) ∙ given))
+    silent_by_words hashing (sentence (word ∷ words))
+    (λ letter given. silent (words_in (sentence words)) letter
+    (ap (asked_of_words hashing) (sym (first_is word words some inner)) ∙ given))
 
 -- ---- a first byte that begins no command
 abbrev is_small : ℕ → Bool
@@ -121,7 +132,8 @@ begins_small (byte ∷ bytes) = is_small byte
 abbrev are_small : List (List ℕ × Grammar Asked) → Bool
 are_small es = list_all (λ e. begins_small e.0) es
 
-no_command : (word : List ℕ) → begins_small word ≡ false → (es : List (List ℕ × Grammar Asked)) → are_small es ≡ true → lookup (bytes_eq word) es ≡ None
+no_command : (word : List ℕ) → begins_small word ≡ false → (es : List (List ℕ × Grammar Asked)) → are_small es ≡ true
+    → lookup (bytes_eq word) es ≡ None
 no_command word other [] small = refl
 no_command word other (e ∷ es) small =
     let parts = both (begins_small e.0) (are_small es) small in
@@ -140,7 +152,8 @@ has_piece : (bytes : List ℕ) → HasPiece (pieces_at space bytes)
 has_piece [] = ([], [], refl)
 has_piece (byte ∷ bytes) = with_byte_has (byte == space) byte (pieces_at space bytes) (has_piece bytes)
 
-first_word : (byte : ℕ) (rest : List ℕ) → (byte == space) ≡ false → (more : List ℕ) × (words : List (List ℕ)) × (words_in (byte ∷ rest) ≡ (byte ∷ more) ∷ words)
+first_word : (byte : ℕ) (rest : List ℕ) → (byte == space) ≡ false
+    → (more : List ℕ) × (words : List (List ℕ)) × (words_in (byte ∷ rest) ≡ (byte ∷ more) ∷ words)
 first_word byte rest other =
     let has = has_piece rest in
     let some : nat_lt 0 (length (byte ∷ has.0)) ≡ true = lt-ltb 0 (length (byte ∷ has.0)) (omega arith) in (
@@ -150,14 +163,17 @@ first_word byte rest other =
           ∙ ap (λ (pieces : List (List ℕ)). filter is_some_bytes (onto_first byte pieces)) has.2 ∙ kept (byte ∷ has.0) has.1 some,
     )
 
-pub other_byte : (hashing : Hashing) (byte : ℕ) (rest : List ℕ) → (byte == space) ≡ false → is_small byte ≡ false → IsSilent hashing (byte ∷ rest)
+pub other_byte : (hashing : Hashing) (byte : ℕ) (rest : List ℕ) → (byte == space) ≡ false → is_small byte ≡ false
+    → IsSilent hashing (byte ∷ rest)
 other_byte hashing byte rest inner other =
     let first = first_word byte rest inner in
     silent_by_words hashing (byte ∷ rest)
-    (λ letter given. none_asked hashing (byte ∷ first.0) first.1 (no_command (byte ∷ first.0) other (commands hashing) refl) letter (ap (asked_of_words hashing) (sym first.2) ∙ given))
+    (λ letter given. none_asked hashing (byte ∷ first.0) first.1 (no_command (byte ∷ first.0) other (commands hashing) refl) letter
+    (ap (asked_of_words hashing) (sym first.2) ∙ given))
 
 -- ---- a silo's text
-digit_first : (hashing : Hashing) (word tail : List ℕ) (words : List (List ℕ)) → IsNumeral word → IsSilent hashing (sentence ((word ++ tail) ∷ words))
+digit_first : (hashing : Hashing) (word tail : List ℕ) (words : List (List ℕ)) → IsNumeral word
+    → IsSilent hashing (sentence ((word ++ tail) ∷ words))
 digit_first hashing [] tail words numeral = let some = numeral.some in absurd (omega (some, arith))
 digit_first hashing (byte ∷ word) tail words numeral = by words
   where
@@ -174,5 +190,6 @@ digit_first hashing (byte ∷ word) tail words numeral = by words
     by [] = other_byte hashing byte (word ++ tail) inner other
     by (next ∷ words) = other_byte hashing byte ((word ++ tail) ++ space ∷ sentence (next ∷ words)) inner other
 
-pub silo_first : (hashing : Hashing) (silo : Silo) (words : List (List ℕ)) → IsSilo silo → IsSilent hashing (sentence (silo_text silo ∷ words))
+pub silo_first : (hashing : Hashing) (silo : Silo) (words : List (List ℕ)) → IsSilo silo
+    → IsSilent hashing (sentence (silo_text silo ∷ words))
 silo_first hashing silo words is = digit_first hashing (words_of silo).first _ words (words_are_numerals silo is).first

@@ -3,7 +3,7 @@ use Rattle.std.proofs.Common.{◌≡◌, ℕ, Option, Some, Result, sym, subst}
 use Rattle.std.specs.Prelude.{⊤, IfOk}
 use Rattle.std.proofs.lemmas.List.Elements.{All-weaker}
 use Rattle.hash_ring.specs.declared.hashing.Hashing.{Hashing}
-use Rattle.directory_rules.specs.Letter.{Letter}
+use Rattle.directory_rules.specs.State.{Letter}
 use Rattle.deployment_headline.specs.Steps.{deployed}
 use Rattle.process_rules.specs.ReadLine.{Asked, Receive}
 use Rattle.process_rules.specs.Told.{IsSayable}
@@ -17,8 +17,10 @@ letter_is same = cc same
 
 read_so : (hashing : Hashing) (letter : Letter) → IsSayable hashing letter → ReadsAsItself hashing letter
 read_so hashing letter is other given =
-    sym (letter_is (subst (λ (read : Result (Option Asked) ℕ). IfOk read (λ asked. asked ≡ Some (Receive letter))) given (line_said (λ number. ⊤) (λ range. ⊤) hashing letter is)))
+    sym (letter_is (subst (λ (read : Result (Option Asked) ℕ). IfOk read (λ asked. asked ≡ Some (Receive letter))) given
+    (line_said (λ number. ⊤) (λ range. ⊤) hashing letter is)))
 
 pub written_read_as_themselves : WrittenReadAsThemselves
 written_read_as_themselves settings steps are named =
-    All-weaker (IsSayable settings.hashing) (ReadsAsItself settings.hashing) (read_so settings.hashing) (deployed settings steps).written (written_is_sayable settings steps are named)
+    All-weaker (IsSayable settings.hashing) (ReadsAsItself settings.hashing) (read_so settings.hashing) (deployed settings steps).written
+    (written_is_sayable settings steps are named)

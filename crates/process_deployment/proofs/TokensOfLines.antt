@@ -10,10 +10,9 @@ use Rattle.silo_address.proofs.Order.{silo_cmp_total, silo_cmp_exact}
 use Rattle.membership_view.specs.Views.{view_at}
 use Rattle.directory_rules.specs.Members.{is_dead_in}
 use Rattle.directory_rules.specs.Settings.{Settings, AreSettings}
-use Rattle.directory_rules.specs.World.{World}
+use Rattle.directory_rules.specs.State.{World, Node}
 use Rattle.directory_rules.specs.Happens.{node_of}
 use Rattle.directory_rules.specs.PlainMachine.{life_on, IsPlainStep, plain_of}
-use Rattle.directory_rules.specs.Node.{Node}
 use Rattle.directory_facts.proofs.Lookups.{found_put}
 use Rattle.silo_rules.specs.SiloValue.{SiloValue}
 use Rattle.deployment_headline.proofs.Lists.{over, lookup-over}
@@ -85,10 +84,13 @@ module _ (themselves : WrittenReadAsThemselves) (settings : Settings) (tokens : 
   follows steps may = follows_all themselves (first_cluster settings tokens) (follows_first themselves settings tokens are) steps may
 
   its_world : (c : Cluster) → c.settings ≡ settings → (f : Follows c) → W f.steps ≡ world_of c
-  its_world c same f = ap (λ (s : Settings). deployment_theorems.world_of (deployment.deployed s f.steps)) (sym same) ∙ ap (λ d. deployment_theorems.world_of d) f.same
+  its_world c same f =
+      ap (λ (s : Settings). deployment_theorems.world_of (deployment.deployed s f.steps)) (sym same)
+      ∙ ap (λ d. deployment_theorems.world_of d) f.same
 
   -- the world of the steps that a cluster goes on by
-  on_world : (c next : Cluster) (f : Follows c) (most : ℕ) (g : FollowsOn c f most next) → next.settings ≡ settings → W (f.steps ++ g.more) ≡ world_of next
+  on_world : (c next : Cluster) (f : Follows c) (most : ℕ) (g : FollowsOn c f most next) → next.settings ≡ settings
+      → W (f.steps ++ g.more) ≡ world_of next
   on_world c next f most g same = ap W (sym g.is) ∙ its_world next same g.follows
 
   never_fall : NeverFall Step MayCome (λ steps. world_of (C steps))
@@ -100,13 +102,16 @@ module _ (themselves : WrittenReadAsThemselves) (settings : Settings) (tokens : 
       let stay : (after_all (C before) more).settings ≡ settings = settings_stay (C before) more ∙ settings_stay (first_cluster settings tokens) before in
       let x : W f.steps ≡ world_of (C before) = its_world (C before) (settings_stay (first_cluster settings tokens) before) f in
       let y : W (f.steps ++ g.more) ≡ world_of (C (before ++ more)) = on_world (C before) (after_all (C before) more) f (length more) g stay ∙ ap (λ c. world_of c) same in
-      (tokens_of_processes_fence settings are).never_fall f.steps g.more grain a b u v (subst (All deployment.IsStep) g.is g.follows.named) (subst (λ w. IsFirm w grain a u) (sym x) firm)
+      (tokens_of_processes_fence settings are).never_fall f.steps g.more grain a b u v (subst (All deployment.IsStep) g.is g.follows.named)
+      (subst (λ w. IsFirm w grain a u) (sym x) firm)
       (subst (λ w. IsFirm w grain b v) (sym y) later)
 
   -- by the steps of the deployment that the death is: one, or none
   by_steps :
-      (before now last : World) (steps more ones : List deployment.Step) → W steps ≡ before → W (steps ++ ones) ≡ now → W ((steps ++ ones) ++ more) ≡ last → All deployment.IsStep ((steps ++ ones) ++ more) → length ones ≤ 1
-      → (grain : Grain) (a b : ActivationId) (u v : ℕ) → IsFirm before grain a u → node_of now a.silo ≡ None → IsFirm last grain b v → (u < now.views.version) × (now.views.version ≤ v)
+      (before now last : World) (steps more ones : List deployment.Step) → W steps ≡ before → W (steps ++ ones) ≡ now
+      → W ((steps ++ ones) ++ more) ≡ last → All deployment.IsStep ((steps ++ ones) ++ more) → length ones ≤ 1
+      → (grain : Grain) (a b : ActivationId) (u v : ℕ) → IsFirm before grain a u → node_of now a.silo ≡ None → IsFirm last grain b v
+      → (u < now.views.version) × (now.views.version ≤ v)
   by_steps before now last steps more [] x y z named few grain a b u v firm gone later =
       let same : before ≡ now = sym x ∙ ap W (sym (append-nil steps)) ∙ y in
       let there : node_of now a.silo ≡ Some firm.node = subst (λ w. node_of w a.silo ≡ Some firm.node) same firm.there in
@@ -114,7 +119,8 @@ module _ (themselves : WrittenReadAsThemselves) (settings : Settings) (tokens : 
   by_steps before now last steps more (one ∷ []) x y z named few grain a b u v firm gone later =
       let whole : (steps ++ one ∷ []) ++ more ≡ steps ++ one ∷ more = append_assoc steps (one ∷ []) more in
       let both =
-      (tokens_of_processes_fence settings are).pass_deaths steps more one grain a b u v (subst (All deployment.IsStep) whole named) (subst (λ w. IsFirm w grain a u) (sym x) firm)
+      (tokens_of_processes_fence settings are).pass_deaths steps more one grain a b u v (subst (All deployment.IsStep) whole named)
+      (subst (λ w. IsFirm w grain a u) (sym x) firm)
       (subst (λ w. node_of w a.silo ≡ None) (sym y) gone)
       (subst (λ w. IsFirm w grain b v) (sym z ∙ ap W whole) later) in
       subst (λ (w : World). (u < w.views.version) × (w.views.version ≤ v)) y both
@@ -135,7 +141,8 @@ module _ (themselves : WrittenReadAsThemselves) (settings : Settings) (tokens : 
       let y : W (f.steps ++ one.more) ≡ world_of (C (before ++ death ∷ [])) = on_world (C before) next f 1 one stay ∙ ap (λ c. world_of c) now in
       let whole : g.follows.steps ≡ (f.steps ++ one.more) ++ g.more = g.is ∙ ap (λ l. l ++ g.more) one.is in
       let z : W ((f.steps ++ one.more) ++ g.more) ≡ world_of (C (before ++ death ∷ more)) = ap W (sym whole) ∙ its_world (after_all next more) (settings_stay next more ∙ stay) g.follows ∙ ap (λ c. world_of c) end in
-      by_steps (world_of (C before)) (world_of (C (before ++ death ∷ []))) (world_of (C (before ++ death ∷ more))) f.steps g.more one.more x y z (subst (All deployment.IsStep) whole g.follows.named) one.few grain a b u v firm gone later
+      by_steps (world_of (C before)) (world_of (C (before ++ death ∷ []))) (world_of (C (before ++ death ∷ more))) f.steps g.more one.more x
+      y z (subst (All deployment.IsStep) whole g.follows.named) one.few grain a b u v firm gone later
 
   moves : Moves Step MayCome (λ steps. world_of (C steps))
   moves = record {
@@ -147,7 +154,8 @@ module _ (themselves : WrittenReadAsThemselves) (settings : Settings) (tokens : 
         (its.0, subst (λ c. IsPlainStep (plain_of (world_of (C before))) its.0 (plain_of (world_of c))) now its.1);
     gone = λ before silo may.
         let f = follows before may in
-        subst (λ (w : World). is_dead_in (view_at w.views w.views.version) silo ≡ true → node_of w silo ≡ None) (its_world (C before) (settings_stay (first_cluster settings tokens) before) f)
+        subst (λ (w : World). is_dead_in (view_at w.views w.views.version) silo ≡ true → node_of w silo ≡ None)
+        (its_world (C before) (settings_stay (first_cluster settings tokens) before) f)
         ((steps_move settings are).gone f.steps silo f.named);
   }
 
@@ -160,7 +168,8 @@ reader_is_silo c silo line may = may.0
 its_node : (c : Cluster) (silo : Silo) (p : Process) → process_at silo c.processes ≡ Some p → node_of (world_of c) silo ≡ Some p.silo.node
 its_node c silo p there =
     lookup-over (λ (v : SiloValue). v.node) (is_at (silo_cmp silo)) (over its_silo c.processes)
-    ∙ ap (option_map (λ (v : SiloValue). v.node)) (lookup-over its_silo (is_at (silo_cmp silo)) c.processes ∙ ap (option_map its_silo) there)
+    ∙ ap (option_map (λ (v : SiloValue). v.node)) (lookup-over its_silo (is_at (silo_cmp silo)) c.processes
+    ∙ ap (option_map its_silo) there)
 
 -- a process that goes on, after one line
 read_there : (c : Cluster) (silo : Silo) (line : List ℕ) (p : Process) → process_at silo c.processes ≡ Some p → p.ended ≡ false
@@ -173,8 +182,10 @@ read_there c silo line p there lives =
 
 -- what is told becomes firm, with that token
 becomes_so :
-    WrittenReadAsThemselves → (settings : Settings) (tokens : JoinTokens) → AreSettings settings → (before : List Step) (one : Step) → MayAll (first_cluster settings tokens) (before ++ one ∷ [])
-    → (grain : Grain) (a : ActivationId) (u : ℕ) → TellsToken (clustered settings tokens before) one grain a u → BecomesFirm Step (λ steps. world_of (clustered settings tokens steps)) before one grain a u
+    WrittenReadAsThemselves → (settings : Settings) (tokens : JoinTokens) → AreSettings settings → (before : List Step) (one : Step)
+    → MayAll (first_cluster settings tokens) (before ++ one ∷ [])
+    → (grain : Grain) (a : ActivationId) (u : ℕ) → TellsToken (clustered settings tokens before) one grain a u
+    → BecomesFirm Step (λ steps. world_of (clustered settings tokens steps)) before one grain a u
 becomes_so themselves settings tokens are before one may grain a u tells =
     let c = clustered settings tokens before in
     let p = tells.process in
@@ -184,9 +195,11 @@ becomes_so themselves settings tokens are before one may grain a u tells =
     let lives = living_go_on themselves settings tokens before are parts.0 a.silo p tells.there in
     let firm = lines_tell_firm themselves settings tokens before are parts.0 a.silo p tells.line is_silo tells.there in
     let now : after c (Read a.silo tells.line) ≡ clustered settings tokens (before ++ one ∷ []) =
-    ap (after c) (sym tells.is) ∙ sym (after_append (first_cluster settings tokens) before (one ∷ []) ∙ after_one c one [] ∙ after_none (after c one)) in
+    ap (after c) (sym tells.is) ∙ sym (after_append (first_cluster settings tokens) before (one ∷ []) ∙ after_one c one []
+    ∙ after_none (after c one)) in
     let there : node_of (world_of (after c (Read a.silo tells.line))) a.silo ≡ Some (answer_to tells.line p).silo.node =
-    its_node (after c (Read a.silo tells.line)) a.silo (having_read tells.line (answer_to tells.line p) p) (read_there c a.silo tells.line p tells.there lives) in
+    its_node (after c (Read a.silo tells.line)) a.silo (having_read tells.line (answer_to tells.line p) p)
+    (read_there c a.silo tells.line p tells.there lives) in
     record {
       not_before = λ seen was.
           let same : was.node ≡ p.silo.node = some_same was.node p.silo.node (sym was.there ∙ its_node c a.silo p tells.there) in
@@ -206,7 +219,12 @@ pub tokens_of_lines_fence : WrittenReadAsThemselves → TokensOfLinesFence
 tokens_of_lines_fence themselves settings tokens are =
     let fall = never_fall themselves settings tokens are in
     let pass = pass_deaths themselves settings tokens are in
-    record { never_fall = fall; pass_deaths = pass; rise = rise Step (MayAll (first_cluster settings tokens)) (λ steps. world_of (clustered settings tokens steps)) (moves themselves settings tokens are) fall pass }
+    record {
+      never_fall = fall;
+      pass_deaths = pass;
+      rise = rise Step (MayAll (first_cluster settings tokens))
+          (λ steps. world_of (clustered settings tokens steps)) (moves themselves settings tokens are) fall pass;
+    }
 
 pub tokens_told_rise : WrittenReadAsThemselves → TokensToldRise
 tokens_told_rise themselves settings tokens before between one later grain a b u v are may x y =

@@ -11,8 +11,8 @@ use Rattle.directory_rules.specs.declared.effect.Effect.{Effect}
 use Rattle.directory_rules.specs.declared.effect.Effect.TheVariants.{Ignored}
 use Rattle.directory_rules.specs.declared.outcome.Happening.TheVariants.{Saw, Did}
 use Rattle.directory_rules.specs.Input.{Input, Does, Receives, step}
-use Rattle.directory_rules.specs.Letter.{Letter}
-use Rattle.directory_rules.specs.Node.{Node, new_node}
+use Rattle.directory_rules.specs.State.{Letter, Node}
+use Rattle.directory_rules.specs.Node.{new_node}
 use Rattle.directory_rules.specs.Settings.{Settings}
 use Rattle.directory_rules.specs.Step.{Stepped, silently}
 use Rattle.script_rules.specs.Lines.{happening_words, refusal_line}
@@ -22,17 +22,17 @@ use Rattle.silo_rules.specs.Steps.{barred, unless_barred, seen, does}
 use Rattle.silo_rules.specs.Told.{Heard, told}
 use Rattle.silo_rules.specs.Whole.{IsWhole}
 use Rattle.silo_rules.proofs.Whole.{first_whole}
-use Rattle.process_rules.specs.ReadLine.{Asked, Joined, Leaving, Dead, See, Do, Receive, Ping, Owner, Place, Show, Dump, read_silo_line}
+use Rattle.process_rules.specs.ReadLine.{Asked, Joined, Leaving, Dead, See, Do, Receive, Ping, Owner, Place, Figures, Show, Dump, read_silo_line}
 use Rattle.process_rules.specs.Happened.{news_words, received_words}
 use Rattle.process_rules.specs.Answer.{Answered, printing, heard, told_so, stepped, received_so, is_anothers_join, answered, answered_as}
-use Rattle.process_rules.specs.Show.{dump_line, grain_owner_line, grain_place_line}
+use Rattle.process_rules.specs.Show.{dump_line, figures_line, grain_owner_line, grain_place_line}
 use Rattle.process_rules.specs.Output.{answered_to, fault_line, said}
 use Rattle.process_rules.specs.OutputLaws.{CarriesItsJoin}
 use Rattle.process_rules.proofs.StaysWhole.{silo_kept, line_whole}
 use Rattle.process_deployment.specs.Cluster.{Process, started, answer_to, having_read, reads}
 use Rattle.process_deployment.specs.Unjoined.{reads_all, TellsNoJoin, UnjoinedDoNothing}
 use Rattle.process_deployment.proofs.Silent.{IsSilent}
-use Rattle.process_deployment.proofs.Answers.{AreSilent, silent_alone, news_silent, told_silent, refusal_silent, fault_silent, pong_silent, owner_silent, place_silent, show_silent, dump_silent}
+use Rattle.process_deployment.proofs.Answers.{AreSilent, silent_alone, news_silent, told_silent, refusal_silent, fault_silent, pong_silent, owner_silent, place_silent, figures_silent, show_silent, dump_silent}
 use Rattle.process_deployment.proofs.JoinedBy.{by_line}
 
 -- ---- each line is answered by lines that say no letter, and leaves the node
@@ -47,8 +47,10 @@ module _ (hashing : Hashing) (s : SiloValue) (untold : own_status s ≡ None) wh
   refused number = one_line (refusal_line number) (refusal_silent hashing number)
 
   -- a step, which is refused
-  step_idle : (happened : Effect → List (List ℕ)) (outcome : Result Stepped ℕ) → IsIdle (stepped happened (unless_barred (barred s) outcome) s)
-  step_idle happened outcome = subst (λ (own : Option Status). IsIdle (stepped happened (unless_barred (barred_by own) outcome) s)) (sym untold) (refused 901)
+  step_idle : (happened : Effect → List (List ℕ)) (outcome : Result Stepped ℕ)
+      → IsIdle (stepped happened (unless_barred (barred s) outcome) s)
+  step_idle happened outcome =
+      subst (λ (own : Option Status). IsIdle (stepped happened (unless_barred (barred_by own) outcome) s)) (sym untold) (refused 901)
 
   done_idle : (input : Input) → IsIdle (stepped (λ made. happening_words (Did s.node.host.silo made)) (does s input) s)
   done_idle input = step_idle (λ made. happening_words (Did s.node.host.silo made)) (step s.node input)
@@ -59,7 +61,8 @@ module _ (hashing : Hashing) (s : SiloValue) (untold : own_status s ≡ None) wh
       words : Effect → List (List ℕ)
       words = received_words s.node.host s.node.view.version letter
 
-      by : (ours : Bool) → IsIdle (cond ours (stepped words (cond ours (does s (Receives letter)) (Ok (silently s.node Ignored))) s) (printing [] s))
+      by : (ours : Bool) → IsIdle (cond ours (stepped words (cond ours (does s (Receives letter)) (Ok (silently s.node Ignored))) s)
+          (printing [] s))
       by true = step_idle words (step s.node (Receives letter))
       by false = (refl, All-nil (IsSilent hashing))
 
@@ -70,8 +73,11 @@ module _ (hashing : Hashing) (s : SiloValue) (untold : own_status s ≡ None) wh
       by (Err number) = refused number
       by (Ok its) =
           let next : SiloValue = record s { membership = its.membership } in
-          let line = sentence (news_words version change its.news) in
-          (sym (ap (λ (t : SiloValue). t.node) (silo_kept (own_status next) (printing (line ∷ []) next))), told_silent hashing (own_status next) line next (news_silent hashing version change its.news))
+          let line = sentence (news_words version change its.news) in (
+            sym (ap (λ (t : SiloValue). t.node) (silo_kept (own_status next) (printing (line ∷ []) next))),
+            told_silent hashing
+                (own_status next) line next (news_silent hashing version change its.news),
+          )
 
   asked_idle : (asked : Asked) → IsIdle (answered asked s)
   unfolding answered
@@ -84,6 +90,7 @@ module _ (hashing : Hashing) (s : SiloValue) (untold : own_status s ≡ None) wh
   asked_idle (Ping word) = one_line (sentence (codes "pong" ∷ word ∷ [])) (pong_silent hashing word)
   asked_idle (Owner grain) = one_line (grain_owner_line s grain) (owner_silent hashing s grain)
   asked_idle (Place grain policy) = one_line (grain_place_line s grain policy) (place_silent hashing s grain policy)
+  asked_idle Figures = one_line (figures_line s) (figures_silent hashing s)
   asked_idle Show = (refl, show_silent hashing s)
   asked_idle Dump = one_line (dump_line s) (dump_silent hashing s)
 
@@ -109,7 +116,8 @@ none_by : (own : Option Status) → is_some own ≡ false → own ≡ None
 none_by None is = refl
 none_by (Some status) is = absurd (cc is)
 
-module _ (settings : Settings) (silo : Silo) (mine line : List ℕ) (no_join : TellsNoJoin settings silo mine line) (p : Process) (is : IsUnjoined settings silo mine p) where
+module _ (settings : Settings) (silo : Silo) (mine line : List ℕ) (no_join : TellsNoJoin settings silo mine line) (p : Process)
+    (is : IsUnjoined settings silo mine p) where
   abbrev it : Answered
   it = answer_to line p
 
@@ -141,7 +149,8 @@ module _ (settings : Settings) (silo : Silo) (mine line : List ℕ) (no_join : T
       by true = is
       by false = goes_on
 
-all_on : (settings : Settings) (silo : Silo) (mine : List ℕ) (lines : List (List ℕ)) → All (TellsNoJoin settings silo mine) lines → (p : Process) → IsUnjoined settings silo mine p
+all_on : (settings : Settings) (silo : Silo) (mine : List ℕ) (lines : List (List ℕ)) → All (TellsNoJoin settings silo mine) lines
+    → (p : Process) → IsUnjoined settings silo mine p
     → IsUnjoined settings silo mine (reads_all lines p)
 all_on settings silo mine [] none p is = is
 all_on settings silo mine (line ∷ lines) none p is =

@@ -20,7 +20,7 @@ use Rattle.ring_range.specs.Range.{circle}
 use Rattle.ring_range.specs.Text.{read_range}
 use Rattle.ring_range.specs.Meet.{meet_of}
 use Rattle.ring_range.specs.Cut.{cut_parts}
-use Rattle.directory_rules.specs.Letter.{Letter}
+use Rattle.directory_rules.specs.State.{Letter}
 use Rattle.directory_rules.specs.Worked.{silo_a, silo_b, grain_a}
 use Rattle.process_rules.specs.LetterText.{letter_line}
 use Rattle.process_rules.specs.ReadLetter.{read_letter}
@@ -33,7 +33,9 @@ use Rattle.process_deployment.specs.Worked.{worked_join_tokens, WorkedCluster}
 use Rattle.process_deployment.specs.Wrong.{AForgedLineConfirms, ADeadProcessGoesOn, AnotherChangeIsTold, ARestartForgets, ARestartIsRefused, firm_at, hashed_settings, hashed, set_apart, owned_twice, OtherSettingsSplit}
 
 unfoldable pub all_opened : Type 0
-unfolding digits sha256 hash_after compress rounds schedule first_words digest_bytes encode_with decode_pairs silo_words read_silo read_grain read_activation stated_hash read_range meet_of cut_parts letter_line read_letter read_silo_line answered answered_as after after_all May MayAll
+unfolding digits sha256 hash_after compress rounds schedule first_words digest_bytes encode_with decode_pairs silo_words read_silo
+    read_grain read_activation stated_hash read_range meet_of cut_parts letter_line read_letter read_silo_line answered answered_as after
+    after_all May MayAll
 all_opened = Unit {0}
 
 a : IsSilo silo_a
@@ -53,15 +55,23 @@ IsNoEnd byte = byte ≡ line_feed → ⊥
 
 line : (bytes : List ℕ) → list_all is_inner bytes ≡ true → IsLine bytes
 line [] inner = All-nil IsNoEnd
-line (byte ∷ bytes) inner = let parts = both (is_inner byte) (list_all is_inner bytes) inner in All-cons IsNoEnd byte bytes (no_end byte parts.0) (line bytes parts.1)
+line (byte ∷ bytes) inner =
+    let parts = both (is_inner byte) (list_all is_inner bytes) inner in
+    All-cons IsNoEnd byte bytes (no_end byte parts.0) (line bytes parts.1)
 
 -- a place that is a hash
 place : (place : ℕ) → nat_lt place circle ≡ true → All (λ place. place < circle) (place ∷ [])
 place at below = All-cons (λ place. place < circle) at [] (ltb-true at circle below) (All-nil (λ place. place < circle))
 
 -- a line that stands behind so many others says the letter
-said_so : (c : Cluster) (letter : Letter) (k : ℕ) (line : List ℕ) → slice_get (all_lines c) k ≡ Some line → read_silo_line c.settings.hashing line ≡ Ok (Some (Receive letter)) → IsWritten c letter
-said_so c letter k line is says = record { line = line; wrote = (k, slice_get_within (all_lines c) k line is, get_or_from_slice_get (all_lines c) k line line is); says = says }
+said_so : (c : Cluster) (letter : Letter) (k : ℕ) (line : List ℕ) → slice_get (all_lines c) k ≡ Some line
+    → read_silo_line c.settings.hashing line ≡ Ok (Some (Receive letter)) → IsWritten c letter
+said_so c letter k line is says =
+    record {
+      line = line;
+      wrote = (k, slice_get_within (all_lines c) k line is, get_or_from_slice_get (all_lines c) k line line is);
+      says = says;
+    }
 
 pub worked_cluster : WorkedCluster
 unfolding all_opened
@@ -73,9 +83,21 @@ worked_cluster = record {
       (
         (a, line (codes "see 1") refl, tt, tt),
         (
-          (a, line (codes "letter 10.0.0.1:1000@1 10.0.0.1:1000@1 1 query 0+4294967296") refl, λ own joined. said_so _ _ 2 (codes "letter 10.0.0.1:1000@1 10.0.0.1:1000@1 1 query 0+4294967296") refl refl, tt),
           (
-            (a, line (codes "letter 10.0.0.1:1000@1 10.0.0.1:1000@1 1 report 0+4294967296") refl, λ own joined. said_so _ _ 4 (codes "letter 10.0.0.1:1000@1 10.0.0.1:1000@1 1 report 0+4294967296") refl refl, tt),
+            a,
+            line (codes "letter 10.0.0.1:1000@1 10.0.0.1:1000@1 1 query 0+4294967296") refl,
+            λ own joined. said_so _ _ 2
+                (codes "letter 10.0.0.1:1000@1 10.0.0.1:1000@1 1 query 0+4294967296") refl refl,
+            tt,
+          ),
+          (
+            (
+              a,
+              line (codes "letter 10.0.0.1:1000@1 10.0.0.1:1000@1 1 report 0+4294967296") refl,
+              λ own joined. said_so _ _ 4
+                  (codes "letter 10.0.0.1:1000@1 10.0.0.1:1000@1 1 report 0+4294967296") refl refl,
+              tt,
+            ),
             (
               (b, place 1000 refl),
               (
@@ -93,9 +115,22 @@ worked_cluster = record {
                           (
                             (b, line (codes "wake user/a#7") refl, tt, tt),
                             (
-                              (a, line (codes "letter 10.0.0.2:1000@1 10.0.0.1:1000@1 2 register 1 user/a#7 10.0.0.2:1000@1!1") refl, λ own joined. said_so _ _ 14 (codes "letter 10.0.0.2:1000@1 10.0.0.1:1000@1 2 register 1 user/a#7 10.0.0.2:1000@1!1") refl refl, tt),
                               (
-                                (b, line (codes "letter 10.0.0.1:1000@1 10.0.0.2:1000@1 2 registered 1 user/a#7 10.0.0.2:1000@1!1") refl, λ own joined. said_so _ _ 9 (codes "letter 10.0.0.1:1000@1 10.0.0.2:1000@1 2 registered 1 user/a#7 10.0.0.2:1000@1!1") refl refl, tt),
+                                a,
+                                line (codes "letter 10.0.0.2:1000@1 10.0.0.1:1000@1 2 register 1 user/a#7 10.0.0.2:1000@1!1") refl,
+                                λ own
+                                    joined. said_so _ _ 14 (codes
+                                    "letter 10.0.0.2:1000@1 10.0.0.1:1000@1 2 register 1 user/a#7 10.0.0.2:1000@1!1") refl refl,
+                                tt,
+                              ),
+                              (
+                                (
+                                  b,
+                                  line (codes "letter 10.0.0.1:1000@1 10.0.0.2:1000@1 2 registered 1 user/a#7 10.0.0.2:1000@1!1") refl,
+                                  λ own joined. said_so _ _ 9 (codes
+                                      "letter 10.0.0.1:1000@1 10.0.0.2:1000@1 2 registered 1 user/a#7 10.0.0.2:1000@1!1") refl refl,
+                                  tt,
+                                ),
                                 (
                                   b,
                                   (
@@ -157,9 +192,11 @@ may_before = (
     (
       (a, line (codes "see 1") refl, tt, tt),
       (
-        let said = codes "letter 10.0.0.1:1000@1 10.0.0.1:1000@1 1 query 1434877701+1302175457" in (a, line said refl, λ own joined. said_so (hashed_by 3) _ 2 said refl refl, tt),
+        let said = codes "letter 10.0.0.1:1000@1 10.0.0.1:1000@1 1 query 1434877701+1302175457" in
+            (a, line said refl, λ own joined. said_so (hashed_by 3) _ 2 said refl refl, tt),
         (
-          let said = codes "letter 10.0.0.1:1000@1 10.0.0.1:1000@1 1 report 1434877701+1302175457" in (a, line said refl, λ own joined. said_so (hashed_by 4) _ 5 said refl refl, tt),
+          let said = codes "letter 10.0.0.1:1000@1 10.0.0.1:1000@1 1 report 1434877701+1302175457" in
+              (a, line said refl, λ own joined. said_so (hashed_by 4) _ 5 said refl refl, tt),
           (
             (b, All-nil (λ place. place < circle)),
             tt,
@@ -183,29 +220,39 @@ may_after = (
         (
           (b, line (codes "see 2") refl, tt, tt),
           (
-            let said = codes "letter 10.0.0.2:1000@1 10.0.0.1:1000@1 2 ask 40231030+2696822128 0" in (a, line said refl, λ own joined. said_so (apart_by 5) _ 14 said refl refl, tt),
+            let said = codes "letter 10.0.0.2:1000@1 10.0.0.1:1000@1 2 ask 40231030+2696822128 0" in
+                (a, line said refl, λ own joined. said_so (apart_by 5) _ 14 said refl refl, tt),
             (
-              let said = codes "letter 10.0.0.1:1000@1 10.0.0.2:1000@1 2 missing 40231030+2696822128" in (b, line said refl, λ own joined. said_so (apart_by 6) _ 12 said refl refl, tt),
+              let said = codes "letter 10.0.0.1:1000@1 10.0.0.2:1000@1 2 missing 40231030+2696822128" in
+                  (b, line said refl, λ own joined. said_so (apart_by 6) _ 12 said refl refl, tt),
               (
-                let said = codes "letter 10.0.0.2:1000@1 10.0.0.1:1000@1 2 query 40231030+2696822128" in (a, line said refl, λ own joined. said_so (apart_by 7) _ 18 said refl refl, tt),
+                let said = codes "letter 10.0.0.2:1000@1 10.0.0.1:1000@1 2 query 40231030+2696822128" in
+                    (a, line said refl, λ own joined. said_so (apart_by 7) _ 18 said refl refl, tt),
                 (
-                  let said = codes "letter 10.0.0.2:1000@1 10.0.0.2:1000@1 2 query 40231030+2696822128" in (b, line said refl, λ own joined. said_so (apart_by 8) _ 21 said refl refl, tt),
+                  let said = codes "letter 10.0.0.2:1000@1 10.0.0.2:1000@1 2 query 40231030+2696822128" in
+                      (b, line said refl, λ own joined. said_so (apart_by 8) _ 21 said refl refl, tt),
                   (
-                    let said = codes "letter 10.0.0.1:1000@1 10.0.0.2:1000@1 2 report 40231030+2696822128" in (b, line said refl, λ own joined. said_so (apart_by 9) _ 14 said refl refl, tt),
+                    let said = codes "letter 10.0.0.1:1000@1 10.0.0.2:1000@1 2 report 40231030+2696822128" in
+                        (b, line said refl, λ own joined. said_so (apart_by 9) _ 14 said refl refl, tt),
                     (
-                      let said = codes "letter 10.0.0.2:1000@1 10.0.0.2:1000@1 2 report 40231030+2696822128" in (b, line said refl, λ own joined. said_so (apart_by 10) _ 23 said refl refl, tt),
+                      let said = codes "letter 10.0.0.2:1000@1 10.0.0.2:1000@1 2 report 40231030+2696822128" in
+                          (b, line said refl, λ own joined. said_so (apart_by 10) _ 23 said refl refl, tt),
                       (
                         (a, line (codes "wake user/a#7") refl, tt, tt),
                         (
-                          let said = codes "letter 10.0.0.1:1000@1 10.0.0.1:1000@1 2 register 1 user/a#7 10.0.0.1:1000@1!1" in (a, line said refl, λ own joined. said_so (apart_by 12) _ 16 said refl refl, tt),
+                          let said = codes "letter 10.0.0.1:1000@1 10.0.0.1:1000@1 2 register 1 user/a#7 10.0.0.1:1000@1!1" in
+                              (a, line said refl, λ own joined. said_so (apart_by 12) _ 16 said refl refl, tt),
                           (
-                            let said = codes "letter 10.0.0.1:1000@1 10.0.0.1:1000@1 2 registered 1 user/a#7 10.0.0.1:1000@1!1" in (a, line said refl, λ own joined. said_so (apart_by 13) _ 18 said refl refl, tt),
+                            let said = codes "letter 10.0.0.1:1000@1 10.0.0.1:1000@1 2 registered 1 user/a#7 10.0.0.1:1000@1!1" in
+                                (a, line said refl, λ own joined. said_so (apart_by 13) _ 18 said refl refl, tt),
                             (
                               (b, line (codes "wake user/a#7") refl, tt, tt),
                               (
-                                let said = codes "letter 10.0.0.2:1000@1 10.0.0.2:1000@1 2 register 1 user/a#7 10.0.0.2:1000@1!1" in (b, line said refl, λ own joined. said_so (apart_by 15) _ 32 said refl refl, tt),
+                                let said = codes "letter 10.0.0.2:1000@1 10.0.0.2:1000@1 2 register 1 user/a#7 10.0.0.2:1000@1!1" in
+                                    (b, line said refl, λ own joined. said_so (apart_by 15) _ 32 said refl refl, tt),
                                 (
-                                  let said = codes "letter 10.0.0.2:1000@1 10.0.0.2:1000@1 2 registered 1 user/a#7 10.0.0.2:1000@1!1" in (b, line said refl, λ own joined. said_so (apart_by 16) _ 34 said refl refl, tt),
+                                  let said = codes "letter 10.0.0.2:1000@1 10.0.0.2:1000@1 2 registered 1 user/a#7 10.0.0.2:1000@1!1" in
+                                      (b, line said refl, λ own joined. said_so (apart_by 16) _ 34 said refl refl, tt),
                                   tt,
                                 ),
                               ),

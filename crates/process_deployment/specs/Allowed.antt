@@ -2,7 +2,7 @@
 use Rattle.std.specs.Prelude.{◌≡◌, ⊤, true, false, ℕ, ◌-◌, ◌≢◌, List, [], ◌∷◌, All, Contains, IfSome, Option, Some, None, Result, Ok, Err, slice_get}
 use Rattle.texts.specs.Words.{line_feed}
 use Rattle.silo_address.specs.Silo.{IsSilo}
-use Rattle.directory_rules.specs.Letter.{Letter}
+use Rattle.directory_rules.specs.State.{Letter}
 use Rattle.directory_rules.specs.Membership.{Change, Join, Leave, Die}
 use Rattle.silo_rules.specs.SiloValue.{SiloValue, told_of_its_join}
 use Rattle.silo_rules.specs.Told.{MakesVersion, told}

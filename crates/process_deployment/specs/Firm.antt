@@ -1,5 +1,5 @@
 -- What an application rests on: its silo's process tells it that an activation is firm exactly where that becomes firm, and firm it
--- stays until the application closes or offers it, or its silo dies. No view ends it.
+-- stays until the application closes or offers it, or its silo dies. No view ends it, nor does a cancel, which ends what asks.
 use Rattle.std.specs.Prelude.{◌≡◌, ℕ, List, ◌∷◌, [], ◌++◌, ◌⊎◌, Contains, Option, Some, Result, Ok, codes}
 use Rattle.std.specs.Fmt.{decimal}
 use Rattle.texts.specs.Words.{sentence}

@@ -4,7 +4,7 @@ use Rattle.std.specs.Prelude.{◌≡◌, ℕ, List, [], ◌∷◌, All, Some, Ok
 use Rattle.std.specs.Io.BufRead.{strip_last}
 use Rattle.texts.specs.Words.{carriage_return}
 use Rattle.silo_address.specs.Silo.{Silo}
-use Rattle.directory_rules.specs.Letter.{Letter}
+use Rattle.directory_rules.specs.State.{Letter}
 use Rattle.directory_rules.specs.Node.{new_node}
 use Rattle.directory_rules.specs.Settings.{Settings, AreSettings}
 use Rattle.process_rules.specs.ReadLine.{Asked, Receive, read_silo_line}

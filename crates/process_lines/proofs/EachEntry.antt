@@ -4,7 +4,7 @@ use Rattle.std.specs.Prelude.{◌≢◌, IsErrAnd, IsOk}
 use Rattle.std.proofs.lemmas.List.{append-nil}
 use Rattle.silo_address.specs.declared.Entry.{Entry}
 use Rattle.ring_range.specs.Range.{Range}
-use Rattle.directory_rules.specs.Letter.{Letter, Page_letter, Report_letter}
+use Rattle.directory_rules.specs.State.{Letter, Page_letter, Report_letter}
 use Rattle.script_rules.specs.Script.{number_word, ◌>>=◌}
 use Rattle.process_rules.specs.Entries.{TellsEntries}
 use Rattle.process_rules.specs.ReadLetter.{Head, letter_of, range_word, digest_word, are_pairs, entries_in, entry_of_words, report_for, a_report, page_for}
@@ -14,7 +14,8 @@ use Rattle.process_lines.specs.ReadAs.{Fails, Reads}
 use Rattle.process_lines.specs.Short.{AreEntries, HasEntries}
 
 -- ---- pairs
-pub pairs_more : (words behind after : List (List ℕ)) (one other : List ℕ) → words ≡ one ∷ behind → behind ≡ other ∷ after → are_pairs words ≡ are_pairs after
+pub pairs_more : (words behind after : List (List ℕ)) (one other : List ℕ) → words ≡ one ∷ behind → behind ≡ other ∷ after
+    → are_pairs words ≡ are_pairs after
 pairs_more words behind after one other first second = ap are_pairs (first ∙ ap (λ (ws : List (List ℕ)). one ∷ ws) second)
 
 pub pairs_odd : (words behind : List (List ℕ)) (one : List ℕ) → words ≡ one ∷ behind → behind ≡ [] → are_pairs words ≡ false
@@ -34,33 +35,39 @@ onto_nil : (read : Result (List Entry) ℕ) → onto [] read ≡ read
 onto_nil (Ok entries) = refl
 onto_nil (Err fault) = refl
 
-onto_more : (before : List Entry) (entry : Entry) (read : Result (List Entry) ℕ) → onto before (read >>= λ entries. Ok (entry ∷ entries)) ≡ onto (before ++ entry ∷ []) read
+onto_more : (before : List Entry) (entry : Entry) (read : Result (List Entry) ℕ)
+    → onto before (read >>= λ entries. Ok (entry ∷ entries)) ≡ onto (before ++ entry ∷ []) read
 onto_more before entry (Ok entries) = ap Ok (sym (append_assoc before (entry ∷ []) entries))
 onto_more before entry (Err fault) = refl
 
 pub entries_first : (words : List (List ℕ)) → entries_in words ≡ onto [] (entries_in words)
 entries_first words = sym (onto_nil (entries_in words))
 
-pub entries_more : (before : List Entry) (words behind after : List (List ℕ)) (grain activation : List ℕ) (entry : Entry) → words ≡ grain ∷ behind → behind ≡ activation ∷ after
+pub entries_more : (before : List Entry) (words behind after : List (List ℕ)) (grain activation : List ℕ) (entry : Entry)
+    → words ≡ grain ∷ behind → behind ≡ activation ∷ after
     → Ok entry ≡ entry_of_words grain activation → onto before (entries_in words) ≡ onto (before ++ entry ∷ []) (entries_in after)
 entries_more before words behind after grain activation entry first second reads =
     ap (λ (ws : List (List ℕ)). onto before (entries_in ws)) (first ∙ ap (λ (ws : List (List ℕ)). grain ∷ ws) second)
     ∙ ap (λ (read : Result Entry ℕ). onto before (read >>= λ e. entries_in after >>= λ entries. Ok (e ∷ entries))) (sym reads)
     ∙ onto_more before entry (entries_in after)
 
-pub entries_fault : (before : List Entry) (words behind after : List (List ℕ)) (grain activation : List ℕ) (fault : ℕ) → words ≡ grain ∷ behind → behind ≡ activation ∷ after
+pub entries_fault : (before : List Entry) (words behind after : List (List ℕ)) (grain activation : List ℕ) (fault : ℕ)
+    → words ≡ grain ∷ behind → behind ≡ activation ∷ after
     → Err fault ≡ entry_of_words grain activation → onto before (entries_in words) ≡ Err fault
 entries_fault before words behind after grain activation fault first second reads =
     ap (λ (ws : List (List ℕ)). onto before (entries_in ws)) (first ∙ ap (λ (ws : List (List ℕ)). grain ∷ ws) second)
     ∙ ap (λ (read : Result Entry ℕ). onto before (read >>= λ e. entries_in after >>= λ entries. Ok (e ∷ entries))) (sym reads)
 
-pub entries_odd : (before : List Entry) (words behind : List (List ℕ)) (grain : List ℕ) → words ≡ grain ∷ behind → behind ≡ [] → onto before (entries_in words) ≡ Err 922
-entries_odd before words behind grain first second = ap (λ (ws : List (List ℕ)). onto before (entries_in ws)) (first ∙ ap (λ (ws : List (List ℕ)). grain ∷ ws) second)
+pub entries_odd : (before : List Entry) (words behind : List (List ℕ)) (grain : List ℕ) → words ≡ grain ∷ behind → behind ≡ []
+    → onto before (entries_in words) ≡ Err 922
+entries_odd before words behind grain first second =
+    ap (λ (ws : List (List ℕ)). onto before (entries_in ws)) (first ∙ ap (λ (ws : List (List ℕ)). grain ∷ ws) second)
 
 pub entries_end : (before : List Entry) (words : List (List ℕ)) → words ≡ [] → onto before (entries_in words) ≡ Ok before
 entries_end before words none = ap (λ (ws : List (List ℕ)). onto before (entries_in ws)) none ∙ ap Ok (append-nil before)
 
-pub fails_behind : (error : LineError) (before : List Entry) (read : Result (List Entry) ℕ) → Fails error read → Fails error (onto before read)
+pub fails_behind : (error : LineError) (before : List Entry) (read : Result (List Entry) ℕ) → Fails error read
+    → Fails error (onto before read)
 fails_behind (Fault fault) before read fails = ap (onto before) fails
 fails_behind OutOfMemory before (Ok entries) fails = fails
 fails_behind OutOfMemory before (Err fault) fails = fails
@@ -68,13 +75,15 @@ fails_behind OutOfMemory before (Err fault) fails = fails
 pub ruleset entry_by_entry = (entries_first, entries_more, entries_fault, entries_odd, entries_end, fails_behind)
 
 -- ---- what fails in the entries fails in what is made of them
-fails_then : {B : Type 0} (error : LineError) (read : Result (List Entry) ℕ) (make : List Entry → B) → Fails error read → Fails error (read >>= λ entries. Ok (make entries))
+fails_then : {B : Type 0} (error : LineError) (read : Result (List Entry) ℕ) (make : List Entry → B) → Fails error read
+    → Fails error (read >>= λ entries. Ok (make entries))
 fails_then (Fault fault) read make fails = ap (λ (r : Result (List Entry) ℕ). r >>= λ entries. Ok (make entries)) fails
 fails_then OutOfMemory (Ok entries) make fails = fails
 fails_then OutOfMemory (Err fault) make fails = fails
 
 -- where entries were read, at least one, what is made of them tells one
-brings_then : (read : Result (List Entry) ℕ) (make : List Entry → Letter) → ((entries : List Entry) → entries ≢ [] → TellsEntries (make entries).body) → AreEntries read
+brings_then : (read : Result (List Entry) ℕ) (make : List Entry → Letter)
+    → ((entries : List Entry) → entries ≢ [] → TellsEntries (make entries).body) → AreEntries read
     → HasEntries (read >>= λ entries. Ok (make entries))
 brings_then (Ok entries) make tells some = tells entries some
 brings_then (Err fault) make tells some = absurd some
@@ -84,59 +93,84 @@ some_behind : (before : List Entry) (entry : Entry) (behind : List Entry) → (b
 some_behind [] entry behind = λ none. cc
 some_behind (first ∷ before) entry behind = λ none. cc
 
-pub has_entries : (before : List Entry) (entry : Entry) (read : Result (List Entry) ℕ) → IsOk read → AreEntries (onto (before ++ entry ∷ []) read)
+pub has_entries : (before : List Entry) (entry : Entry) (read : Result (List Entry) ℕ) → IsOk read
+    → AreEntries (onto (before ++ entry ∷ []) read)
 has_entries before entry (Ok behind) ok = some_behind before entry behind
 has_entries before entry (Err fault) ok = cc ok
 
-pub handed_on : {A B : Type 0} (view : A → B) (result : Result A LineError) (error : LineError) (read : Result B ℕ) → IsErrAnd result (λ e. e ≡ error) → Fails error read → Reads view result read
+pub handed_on : {A B : Type 0} (view : A → B) (result : Result A LineError) (error : LineError) (read : Result B ℕ)
+    → IsErrAnd result (λ e. e ≡ error) → Fails error read → Reads view result read
 handed_on view (Ok value) error read is fails = absurd is
 handed_on view (Err same) error read is fails = subst (λ (e : LineError). Fails e read) (sym is) fails
 
 abbrev report_made : Head → Range → List Entry → Letter
-report_made head range entries = letter_of head (Report_letter (record { version = head.version; range = range; silo = head.from; entries = entries }))
+report_made head range entries =
+    letter_of head (Report_letter (record { version = head.version; range = range; silo = head.from; entries = entries }))
 
-report_is : (read : Result Head ℕ) (words behind : List (List ℕ)) (word : List ℕ) (head : Head) (range : Range) → words ≡ word ∷ behind → are_pairs behind ≡ true
-    → read ≡ Ok head → range_word word ≡ Ok range → a_report read words ≡ (entries_in behind >>= λ entries. Ok (report_made head range entries))
+report_is : (read : Result Head ℕ) (words behind : List (List ℕ)) (word : List ℕ) (head : Head) (range : Range) → words ≡ word ∷ behind
+    → are_pairs behind ≡ true
+    → read ≡ Ok head → range_word word ≡ Ok range → a_report read words
+    ≡ (entries_in behind >>= λ entries. Ok (report_made head range entries))
 report_is read words behind word head range first pairs read_is range_is =
     ap (a_report read) first
     ∙ ap (λ (b : Bool). report_for b read word behind) pairs
     ∙ ap (λ (h : Result Head ℕ). report_for true h word behind) read_is
     ∙ ap (λ (r : Result Range ℕ). r >>= λ range. entries_in behind >>= λ entries. Ok (report_made head range entries)) range_is
 
-pub report_fails : (error : LineError) (read : Result Head ℕ) (words behind : List (List ℕ)) (word : List ℕ) (head : Head) (range : Range) → words ≡ word ∷ behind → are_pairs behind ≡ true
+pub report_fails : (error : LineError) (read : Result Head ℕ) (words behind : List (List ℕ)) (word : List ℕ) (head : Head) (range : Range)
+    → words ≡ word ∷ behind → are_pairs behind ≡ true
     → read ≡ Ok head → range_word word ≡ Ok range → Fails error (entries_in behind) → Fails error (a_report read words)
 report_fails error read words behind word head range first pairs read_is range_is fails =
-    subst (Fails error) (sym (report_is read words behind word head range first pairs read_is range_is)) (fails_then error (entries_in behind) (report_made head range) fails)
+    subst (Fails error) (sym (report_is read words behind word head range first pairs read_is range_is))
+    (fails_then error (entries_in behind) (report_made head range) fails)
 
-pub report_brings : (read : Result Head ℕ) (words behind : List (List ℕ)) (word : List ℕ) (head : Head) (range : Range) → words ≡ word ∷ behind → are_pairs behind ≡ true
+pub report_brings : (read : Result Head ℕ) (words behind : List (List ℕ)) (word : List ℕ) (head : Head) (range : Range)
+    → words ≡ word ∷ behind → are_pairs behind ≡ true
     → read ≡ Ok head → range_word word ≡ Ok range → AreEntries (entries_in behind) → HasEntries (a_report read words)
 report_brings read words behind word head range first pairs read_is range_is some =
-    subst HasEntries (sym (report_is read words behind word head range first pairs read_is range_is)) (brings_then (entries_in behind) (report_made head range) (λ entries some. some) some)
+    subst HasEntries (sym (report_is read words behind word head range first pairs read_is range_is))
+    (brings_then (entries_in behind) (report_made head range) (λ entries some. some) some)
 
 abbrev page_made : Head → Range → (page pages : ℕ) → (digest : List ℕ) → List Entry → Letter
 page_made head range page pages digest entries =
-    letter_of head (Page_letter (record { version = head.version; range = range; page = page; pages = pages; digest = digest; entries = entries }))
+    letter_of head (Page_letter (record {
+      version = head.version;
+      range = range;
+      page = page;
+      pages = pages;
+      digest = digest;
+      entries = entries;
+    }))
 
-module _ (read : Result Head ℕ) (first second third fourth : List ℕ) (behind : List (List ℕ)) (head : Head) (range : Range) (page pages : ℕ) (digest : List ℕ) where
-  page_is : read ≡ Ok head → range_word first ≡ Ok range → number_word second ≡ Ok page → number_word third ≡ Ok pages → digest_word fourth ≡ Ok digest
-      → page_for true read first second third fourth behind ≡ (entries_in behind >>= λ entries. Ok (page_made head range page pages digest entries))
+module _ (read : Result Head ℕ) (first second third fourth : List ℕ) (behind : List (List ℕ)) (head : Head) (range : Range) (page pages : ℕ)
+    (digest : List ℕ) where
+  page_is : read ≡ Ok head → range_word first ≡ Ok range → number_word second ≡ Ok page → number_word third ≡ Ok pages
+      → digest_word fourth ≡ Ok digest
+      → page_for true read first second third fourth behind
+      ≡ (entries_in behind >>= λ entries. Ok (page_made head range page pages digest entries))
   page_is read_is range_is page_reads pages_is digest_is =
       ap (λ (h : Result Head ℕ). page_for true h first second third fourth behind) read_is
-      ∙ ap (λ (x : Result Range ℕ). x >>= λ range. number_word second >>= λ page. number_word third >>= λ pages. digest_word fourth >>= λ digest. entries_in behind >>= λ entries.
+      ∙ ap (λ (x : Result Range ℕ). x >>= λ range. number_word second >>= λ page. number_word third >>= λ pages. digest_word fourth >>=
+      λ digest. entries_in behind >>= λ entries.
       Ok (page_made head range page pages digest entries)) range_is
-      ∙ ap (λ (x : Result ℕ ℕ). x >>= λ page. number_word third >>= λ pages. digest_word fourth >>= λ digest. entries_in behind >>= λ entries.
+      ∙ ap (λ (x : Result ℕ ℕ). x >>= λ page. number_word third >>= λ pages. digest_word fourth >>= λ digest. entries_in behind >>=
+      λ entries.
       Ok (page_made head range page pages digest entries)) page_reads
       ∙ ap (λ (x : Result ℕ ℕ). x >>= λ pages. digest_word fourth >>= λ digest. entries_in behind >>= λ entries.
       Ok (page_made head range page pages digest entries)) pages_is
       ∙ ap (λ (x : Result (List ℕ) ℕ). x >>= λ digest. entries_in behind >>= λ entries.
       Ok (page_made head range page pages digest entries)) digest_is
 
-  pub page_fails : (error : LineError) → read ≡ Ok head → range_word first ≡ Ok range → number_word second ≡ Ok page → number_word third ≡ Ok pages → digest_word fourth ≡ Ok digest
+  pub page_fails : (error : LineError) → read ≡ Ok head → range_word first ≡ Ok range → number_word second ≡ Ok page
+      → number_word third ≡ Ok pages → digest_word fourth ≡ Ok digest
       → Fails error (entries_in behind) → Fails error (page_for true read first second third fourth behind)
   page_fails error read_is range_is page_reads pages_is digest_is fails =
-      subst (Fails error) (sym (page_is read_is range_is page_reads pages_is digest_is)) (fails_then error (entries_in behind) (page_made head range page pages digest) fails)
+      subst (Fails error) (sym (page_is read_is range_is page_reads pages_is digest_is))
+      (fails_then error (entries_in behind) (page_made head range page pages digest) fails)
 
-  pub page_brings : read ≡ Ok head → range_word first ≡ Ok range → number_word second ≡ Ok page → number_word third ≡ Ok pages → digest_word fourth ≡ Ok digest
+  pub page_brings : read ≡ Ok head → range_word first ≡ Ok range → number_word second ≡ Ok page → number_word third ≡ Ok pages
+      → digest_word fourth ≡ Ok digest
       → AreEntries (entries_in behind) → HasEntries (page_for true read first second third fourth behind)
   page_brings read_is range_is page_reads pages_is digest_is some =
-      subst HasEntries (sym (page_is read_is range_is page_reads pages_is digest_is)) (brings_then (entries_in behind) (page_made head range page pages digest) (λ entries some. some) some)
+      subst HasEntries (sym (page_is read_is range_is page_reads pages_is digest_is))
+      (brings_then (entries_in behind) (page_made head range page pages digest) (λ entries some. some) some)

@@ -20,7 +20,8 @@ register_without hashing head (a ∷ b ∷ c ∷ d ∷ []) none = cc none
 register_without hashing head (a ∷ b ∷ c ∷ d ∷ e ∷ words) none = refl
 
 -- one that has four words
-pub four_are : (words : List (List ℕ)) (one two three four : List ℕ) → only_four_words words ≡ Some (one, two, three, four) → words ≡ one ∷ two ∷ three ∷ four ∷ []
+pub four_are : (words : List (List ℕ)) (one two three four : List ℕ) → only_four_words words ≡ Some (one, two, three, four)
+    → words ≡ one ∷ two ∷ three ∷ four ∷ []
 four_are [] one two three four is = cc is
 four_are (a ∷ []) one two three four is = cc is
 four_are (a ∷ b ∷ []) one two three four is = cc is
@@ -31,7 +32,8 @@ four_are (a ∷ b ∷ c ∷ d ∷ []) one two three four is = λ i. (parts is i)
     parts same = cc
 four_are (a ∷ b ∷ c ∷ d ∷ e ∷ words) one two three four is = cc is
 
-pub four_from : (words rest : List (List ℕ)) (one two three four : List ℕ) → words ≡ one ∷ rest → Some (two, three, four) ≡ only_three_words rest → Some (one, two, three, four) ≡ only_four_words words
+pub four_from : (words rest : List (List ℕ)) (one two three four : List ℕ) → words ≡ one ∷ rest
+    → Some (two, three, four) ≡ only_three_words rest → Some (one, two, three, four) ≡ only_four_words words
 four_from words [] one two three four first behind = cc behind
 four_from words (a ∷ []) one two three four first behind = cc behind
 four_from words (a ∷ b ∷ []) one two three four first behind = cc behind
@@ -73,7 +75,8 @@ letter_few hashing (a ∷ b ∷ c ∷ []) none = refl
 letter_few hashing (a ∷ b ∷ c ∷ d ∷ words) none = cc none
 
 pub letter_front : (hashing : Hashing) (words : List (List ℕ)) (four : Four) → four_in words ≡ Some four
-    → read_letter hashing words ≡ letter_by (kind_among kinds four.fourth) hashing (head_of_words four.first four.second four.third) four.behind
+    → read_letter hashing words ≡ letter_by (kind_among kinds four.fourth) hashing (head_of_words four.first four.second four.third)
+    four.behind
 unfolding read_letter
 letter_front hashing words four is = ap (read_letter hashing) (four_front words four is)
 

@@ -2,7 +2,7 @@
 use Rattle.std.specs.Option.{option_copied}
 use Rattle.process_rules.specs.ReadLine as rule
 use Rattle.process_lines.specs.declared.asked.Asked.{Asked}
-use Rattle.process_lines.specs.declared.asked.Asked.TheVariants.{Joined, Leaving, Dead, See, Do, Receive, Ping, Owner, Place, Show, Dump}
+use Rattle.process_lines.specs.declared.asked.Asked.TheVariants.{Joined, Leaving, Dead, See, Do, Receive, Ping, Owner, Place, Figures, Show, Dump}
 
 -- what is asked for, in the rule's words
 abbrev pub asked_of : Asked → rule.Asked
@@ -15,5 +15,6 @@ asked_of (Receive letter) = rule.Receive letter
 asked_of (Ping word) = rule.Ping word.now
 asked_of (Owner grain) = rule.Owner grain
 asked_of (Place grain policy) = rule.Place grain policy
+asked_of Figures = rule.Figures
 asked_of Show = rule.Show
 asked_of Dump = rule.Dump

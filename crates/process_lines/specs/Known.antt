@@ -2,7 +2,7 @@
 -- rule has.
 use Rattle.std.specs.Prelude.{ℕ, List, [], ◌∷◌, codes}
 use Rattle.script_rules.specs.Script.{Grammar, a_grain, no_word}
-use Rattle.process_rules.specs.ReadLine.{Asked, Leaving, Dead, Owner, Show, Dump, a_version_and_a_silo, a_version, a_word, a_grain_and_a_policy}
+use Rattle.process_rules.specs.ReadLine.{Asked, Leaving, Dead, Owner, Figures, Show, Dump, a_version_and_a_silo, a_version, a_word, a_grain_and_a_policy}
 
 abbrev pub other_commands : List (List ℕ × Grammar Asked)
 other_commands =
@@ -12,6 +12,7 @@ other_commands =
     ∷ (codes "ping", a_word)
     ∷ (codes "owner", a_grain Owner)
     ∷ (codes "place", a_grain_and_a_policy)
+    ∷ (codes "status", no_word Figures)
     ∷ (codes "show", no_word Show)
     ∷ (codes "dump", no_word Dump)
     ∷ []

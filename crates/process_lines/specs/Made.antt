@@ -2,7 +2,7 @@
 use Rattle.std.specs.Prelude.{ℕ}
 use Rattle.silo_address.specs.declared.Entry.{Entry}
 use Rattle.ring_range.specs.Range.{Range}
-use Rattle.directory_rules.specs.Letter.{Letter, Body}
+use Rattle.directory_rules.specs.State.{Letter, Body}
 use Rattle.process_rules.specs.ReadLetter.{Head}
 
 abbrev pub OfAnEntry : Type 0

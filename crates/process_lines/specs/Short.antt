@@ -1,7 +1,7 @@
 -- Letters whose length is bounded, since they have no list of entries, and those that tell some.
 use Rattle.std.specs.Prelude.{⊤, ◌≢◌, ℕ, List, [], Result, Ok, Err}
 use Rattle.silo_address.specs.declared.Entry.{Entry}
-use Rattle.directory_rules.specs.Letter.{Letter}
+use Rattle.directory_rules.specs.State.{Letter}
 use Rattle.directory_rules.specs.declared.letter_kind.LetterKind.{LetterKind}
 use Rattle.directory_rules.specs.declared.letter_kind.LetterKind.TheVariants.{Page, Report}
 use Rattle.process_rules.specs.Entries.{TellsEntries}

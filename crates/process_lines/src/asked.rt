@@ -42,6 +42,8 @@ pub enum Asked<'a> {
         grain: GrainId,
         policy: Policy,
     },
+    /// How much the silo has, and how much waits, is printed.
+    Figures,
     /// What the silo has is printed.
     Show,
     /// The silo's part of a dump is printed.

@@ -9,7 +9,7 @@ use thiserror::Error;
 
 /// What each command is written as.
 const COMMANDS: &str =
-    "joined VERSION SILO [token=TOKEN] PLACE.., leaving VERSION SILO, dead VERSION SILO, see VERSION, wake GRAIN, close GRAIN, offer GRAIN SILO, find GRAIN, forget GRAIN, nudge, letter FROM TO VERSION KIND and what its kind says, ping WORD, owner GRAIN, place GRAIN POLICY, show or dump";
+    "joined VERSION SILO [token=TOKEN] PLACE.., leaving VERSION SILO, dead VERSION SILO, see VERSION, wake GRAIN, close GRAIN, cancel GRAIN, offer GRAIN SILO, find GRAIN, forget GRAIN, nudge, nudge GRAIN, nudge ranges, letter FROM TO VERSION KIND and what its kind says, ping WORD, owner GRAIN, place GRAIN POLICY, status, show or dump";
 
 /// The fault of a line: the first that it has, in the order of `docs/RULES.md#lines-of-a-silos-process`.
 #[derive(Clone, Copy, Debug, PartialEq, Eq, Error)]

@@ -11,7 +11,7 @@ ghost use Rattle.process_lines.specs.Known.{other_commands};
 ghost use Rattle.process_lines.specs.Memory.{LineNeedsMemory, WordsNeedMemory};
 
 use crate::changes::{dead, joined, leaving};
-use crate::questions::{dump, owner, ping, place, show};
+use crate::questions::{dump, figures, owner, ping, place, show};
 use crate::steps::{see, step_under};
 use crate::{Asked, LineError, LineFault, read_letter};
 use hash_ring::Hashing;
@@ -58,6 +58,7 @@ fn other_asked<'a>(name: &[u8], words: &'a [u8]) -> Option<Result<Asked<'a>, Lin
         b"ping" => Some(ping(words)),
         b"owner" => Some(owner(words)),
         b"place" => Some(place(words)),
+        b"status" => Some(figures(words)),
         b"show" => Some(show(words)),
         b"dump" => Some(dump(words)),
         _ => None,

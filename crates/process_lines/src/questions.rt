@@ -42,6 +42,13 @@ pub(crate) fn place(words: &[u8]) -> Result<Asked<'_>, LineFault>
     Ok(Asked::Place { grain, policy })
 }
 
+pub(crate) fn figures(words: &[u8]) -> Result<Asked<'_>, LineFault>
+    ensures { told asked_of result ≡ script.no_word rule.Figures (words_in words.now) }
+{
+    no_word(words)?;
+    Ok(Asked::Figures)
+}
+
 pub(crate) fn show(words: &[u8]) -> Result<Asked<'_>, LineFault>
     ensures { told asked_of result ≡ script.no_word rule.Show (words_in words.now) }
 {

@@ -1,7 +1,7 @@
 //! Letters of transfers and recoveries.
 
 ghost use Rattle.std.specs.Prelude.{◌≡◌, true, IsErrOf};
-ghost use Rattle.directory_rules.specs.Letter as letters;
+ghost use Rattle.directory_rules.specs.State as letters;
 ghost use Rattle.texts.specs.Words.{words_in};
 ghost use Rattle.process_rules.specs.ReadLetter as rule;
 ghost use Rattle.process_lines.specs.Made.{OfARange};

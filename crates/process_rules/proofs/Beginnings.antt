@@ -23,7 +23,8 @@ has_piece : (bytes : List ℕ) → HasPiece (pieces_at line_feed bytes)
 has_piece [] = ([], [], refl)
 has_piece (byte ∷ bytes) = with_byte_has (byte == line_feed) byte (pieces_at line_feed bytes) (has_piece bytes)
 
-byte_in_front : (ends : Bool) (byte : ℕ) (first : List ℕ) (rest more : List (List ℕ)) → with_byte ends byte ((first ∷ rest) ++ more) ≡ with_byte ends byte (first ∷ rest) ++ more
+byte_in_front : (ends : Bool) (byte : ℕ) (first : List ℕ) (rest more : List (List ℕ))
+    → with_byte ends byte ((first ∷ rest) ++ more) ≡ with_byte ends byte (first ∷ rest) ++ more
 byte_in_front true byte first rest more = refl
 byte_in_front false byte first rest more = refl
 
@@ -37,26 +38,34 @@ cut (byte ∷ front) more =
 
 -- ---- more lines go on
 onto_begins : (front beginning whole : List ℕ) → Begins beginning whole → Begins (front ++ beginning) (front ++ whole)
-onto_begins front beginning whole begins = (begins.0, ap (λ (text : List ℕ). front ++ text) begins.1 ∙ sym (append_assoc front beginning begins.0))
+onto_begins front beginning whole begins =
+    (begins.0, ap (λ (text : List ℕ). front ++ text) begins.1 ∙ sym (append_assoc front beginning begins.0))
 
-unless_ended_begins : (ends : Bool) (less more : SiloValue → List ℕ) (s : SiloValue) → Begins (less s) (more s) → Begins (unless_ended ends less s) (unless_ended ends more s)
+unless_ended_begins : (ends : Bool) (less more : SiloValue → List ℕ) (s : SiloValue) → Begins (less s) (more s)
+    → Begins (unless_ended ends less s) (unless_ended ends more s)
 unless_ended_begins true less more s begins = ([], refl)
 unless_ended_begins false less more s begins = begins
 
-after_line_begins : (it : Answered) (less more : SiloValue → List ℕ) → ((s : SiloValue) → Begins (less s) (more s)) → Begins (after_line it less) (after_line it more)
+after_line_begins : (it : Answered) (less more : SiloValue → List ℕ) → ((s : SiloValue) → Begins (less s) (more s))
+    → Begins (after_line it less) (after_line it more)
 after_line_begins it less more begins =
-    onto_begins (text_of_lines it.lines) (unless_ended it.ends less it.silo) (unless_ended it.ends more it.silo) (unless_ended_begins it.ends less more it.silo (begins it.silo))
+    onto_begins (text_of_lines it.lines) (unless_ended it.ends less it.silo) (unless_ended it.ends more it.silo)
+    (unless_ended_begins it.ends less more it.silo (begins it.silo))
 
 module _ (token : Option (List ℕ)) where
-  lines_begin : (lines : List (List ℕ)) (last : List ℕ) (rest : List (List ℕ)) (s : SiloValue) → Begins (written_on token (lines ++ [] ∷ []) s) (written_on token (lines ++ last ∷ rest) s)
+  lines_begin : (lines : List (List ℕ)) (last : List ℕ) (rest : List (List ℕ)) (s : SiloValue)
+      → Begins (written_on token (lines ++ [] ∷ []) s) (written_on token (lines ++ last ∷ rest) s)
   unfolding written_on unended_fault
   lines_begin [] last rest s = (written_on token (last ∷ rest) s, refl)
   lines_begin (line ∷ []) last rest s =
-      after_line_begins (answered_to token (said line s) s) (written_on token ([] ∷ [])) (written_on token (last ∷ rest)) (λ t. lines_begin [] last rest t)
+      after_line_begins (answered_to token (said line s) s) (written_on token ([] ∷ [])) (written_on token (last ∷ rest))
+      (λ t. lines_begin [] last rest t)
   lines_begin (line ∷ next ∷ lines) last rest s =
-      after_line_begins (answered_to token (said line s) s) (written_on token (next ∷ (lines ++ [] ∷ []))) (written_on token (next ∷ (lines ++ last ∷ rest))) (λ t. lines_begin (next ∷ lines) last rest t)
+      after_line_begins (answered_to token (said line s) s) (written_on token (next ∷ (lines ++ [] ∷ [])))
+      (written_on token (next ∷ (lines ++ last ∷ rest))) (λ t. lines_begin (next ∷ lines) last rest t)
 
-  cut_begins : (settings : Settings) (silo : Silo) (front more : List ℕ) (last : List ℕ) (rest : List (List ℕ)) → pieces_at line_feed more ≡ last ∷ rest
+  cut_begins : (settings : Settings) (silo : Silo) (front more : List ℕ) (last : List ℕ) (rest : List (List ℕ))
+      → pieces_at line_feed more ≡ last ∷ rest
       → Begins (written settings silo token (front ++ line_feed ∷ [])) (written settings silo token (front ++ line_feed ∷ more))
   cut_begins settings silo front more last rest is =
       let start = first_silo settings silo in
@@ -64,7 +73,8 @@ module _ (token : Option (List ℕ)) where
       let less : written settings silo token (front ++ line_feed ∷ []) ≡ written_on token (pieces_at line_feed front ++ [] ∷ []) start =
       ap (λ (pieces : List (List ℕ)). written_on token pieces start) (cut front []) in
       let whole : written settings silo token (front ++ line_feed ∷ more) ≡ written_on token (pieces_at line_feed front ++ last ∷ rest) start =
-      ap (λ (pieces : List (List ℕ)). written_on token pieces start) (cut front more ∙ ap (λ (pieces : List (List ℕ)). pieces_at line_feed front ++ pieces) is) in
+      ap (λ (pieces : List (List ℕ)). written_on token pieces start)
+      (cut front more ∙ ap (λ (pieces : List (List ℕ)). pieces_at line_feed front ++ pieces) is) in
       (begins.0, whole ∙ begins.1 ∙ ap (λ (text : List ℕ). text ++ begins.0) (sym less))
 
   pub beginning_begins : (settings : Settings) (silo : Silo) (front more : List ℕ)

@@ -19,10 +19,12 @@ one_said make (Ok p) a first = ap make first
 one_said make (Err fault) a first = tt
 
 module _ {A B X : Type 0} (make : A → B → X) where
-  pub two_again : (x : Result A ℕ) (y : Result B ℕ) (a : A) (b : B) → x ≡ Ok a → y ≡ Ok b → (x >>= λ p. y >>= λ q. Ok (make p q)) ≡ Ok (make a b)
+  pub two_again : (x : Result A ℕ) (y : Result B ℕ) (a : A) (b : B) → x ≡ Ok a → y ≡ Ok b
+      → (x >>= λ p. y >>= λ q. Ok (make p q)) ≡ Ok (make a b)
   two_again x y a b first second = ap (λ o. o >>= λ p. y >>= λ q. Ok (make p q)) first ∙ ap (λ o. o >>= λ q. Ok (make a q)) second
 
-  pub two_said : (x : Result A ℕ) (y : Result B ℕ) (a : A) (b : B) → IsSaid x a → IsSaid y b → IsSaid (x >>= λ p. y >>= λ q. Ok (make p q)) (make a b)
+  pub two_said : (x : Result A ℕ) (y : Result B ℕ) (a : A) (b : B) → IsSaid x a → IsSaid y b
+      → IsSaid (x >>= λ p. y >>= λ q. Ok (make p q)) (make a b)
   two_said (Ok p) y a b first second = subst (λ m. IsSaid (y >>= λ q. Ok (make p q)) (make m b)) first (one_said (make p) y b second)
   two_said (Err fault) y a b first second = tt
 
@@ -40,7 +42,8 @@ module _ {A B C X : Type 0} (make : A → B → C → X) where
 
   pub three_said : (x : Result A ℕ) (y : Result B ℕ) (z : Result C ℕ) (a : A) (b : B) (c : C) → IsSaid x a → IsSaid y b → IsSaid z c
       → IsSaid (x >>= λ p. y >>= λ q. z >>= λ r. Ok (make p q r)) (make a b c)
-  three_said (Ok p) y z a b c first second third = subst (λ m. IsSaid (y >>= λ q. z >>= λ r. Ok (make p q r)) (make m b c)) first (two_said (make p) y z b c second third)
+  three_said (Ok p) y z a b c first second third =
+      subst (λ m. IsSaid (y >>= λ q. z >>= λ r. Ok (make p q r)) (make m b c)) first (two_said (make p) y z b c second third)
   three_said (Err fault) y z a b c first second third = tt
 
   pub three_gave : (x : Result A ℕ) (y : Result B ℕ) (z : Result C ℕ) (w : X) → (x >>= λ p. y >>= λ q. z >>= λ r. Ok (make p q r)) ≡ Ok w
@@ -49,24 +52,30 @@ module _ {A B C X : Type 0} (make : A → B → C → X) where
   three_gave (Err fault) y z w is = cc is
 
 module _ {A B C D X : Type 0} (make : A → B → C → D → X) where
-  pub four_again : (x : Result A ℕ) (y : Result B ℕ) (z : Result C ℕ) (w : Result D ℕ) (a : A) (b : B) (c : C) (d : D) → x ≡ Ok a → y ≡ Ok b → z ≡ Ok c → w ≡ Ok d
+  pub four_again : (x : Result A ℕ) (y : Result B ℕ) (z : Result C ℕ) (w : Result D ℕ) (a : A) (b : B) (c : C) (d : D) → x ≡ Ok a → y ≡ Ok b
+      → z ≡ Ok c → w ≡ Ok d
       → (x >>= λ p. y >>= λ q. z >>= λ r. w >>= λ s. Ok (make p q r s)) ≡ Ok (make a b c d)
   four_again x y z w a b c d first second third fourth =
       ap (λ o. o >>= λ p. y >>= λ q. z >>= λ r. w >>= λ s. Ok (make p q r s)) first ∙ three_again (make a) y z w b c d second third fourth
 
-  pub four_said : (x : Result A ℕ) (y : Result B ℕ) (z : Result C ℕ) (w : Result D ℕ) (a : A) (b : B) (c : C) (d : D) → IsSaid x a → IsSaid y b → IsSaid z c → IsSaid w d
+  pub four_said : (x : Result A ℕ) (y : Result B ℕ) (z : Result C ℕ) (w : Result D ℕ) (a : A) (b : B) (c : C) (d : D) → IsSaid x a
+      → IsSaid y b → IsSaid z c → IsSaid w d
       → IsSaid (x >>= λ p. y >>= λ q. z >>= λ r. w >>= λ s. Ok (make p q r s)) (make a b c d)
   four_said (Ok p) y z w a b c d first second third fourth =
-      subst (λ m. IsSaid (y >>= λ q. z >>= λ r. w >>= λ s. Ok (make p q r s)) (make m b c d)) first (three_said (make p) y z w b c d second third fourth)
+      subst (λ m. IsSaid (y >>= λ q. z >>= λ r. w >>= λ s. Ok (make p q r s)) (make m b c d)) first
+      (three_said (make p) y z w b c d second third fourth)
   four_said (Err fault) y z w a b c d first second third fourth = tt
 
-  pub four_gave : (x : Result A ℕ) (y : Result B ℕ) (z : Result C ℕ) (w : Result D ℕ) (v : X) → (x >>= λ p. y >>= λ q. z >>= λ r. w >>= λ s. Ok (make p q r s)) ≡ Ok v
+  pub four_gave : (x : Result A ℕ) (y : Result B ℕ) (z : Result C ℕ) (w : Result D ℕ) (v : X)
+      → (x >>= λ p. y >>= λ q. z >>= λ r. w >>= λ s. Ok (make p q r s)) ≡ Ok v
       → (a : A) × (b : B) × (c : C) × (d : D) × (x ≡ Ok a) × (y ≡ Ok b) × (z ≡ Ok c) × (w ≡ Ok d) × (make a b c d ≡ v)
-  four_gave (Ok a) y z w v is = let rest = three_gave (make a) y z w v is in (a, rest.0, rest.1, rest.2, refl, rest.3, rest.4, rest.5, rest.6)
+  four_gave (Ok a) y z w v is =
+      let rest = three_gave (make a) y z w v is in (a, rest.0, rest.1, rest.2, refl, rest.3, rest.4, rest.5, rest.6)
   four_gave (Err fault) y z w v is = cc is
 
 module _ {A B C D E F X : Type 0} (make : A → B → C → D → E → F → X) where
-  pub six_again : (x : Result A ℕ) (y : Result B ℕ) (z : Result C ℕ) (w : Result D ℕ) (v : Result E ℕ) (u : Result F ℕ) (a : A) (b : B) (c : C) (d : D) (e : E) (f : F)
+  pub six_again : (x : Result A ℕ) (y : Result B ℕ) (z : Result C ℕ) (w : Result D ℕ) (v : Result E ℕ) (u : Result F ℕ) (a : A) (b : B)
+      (c : C) (d : D) (e : E) (f : F)
       → x ≡ Ok a → y ≡ Ok b → z ≡ Ok c → w ≡ Ok d → v ≡ Ok e → u ≡ Ok f
       → (x >>= λ p. y >>= λ q. z >>= λ r. w >>= λ s. v >>= λ t. u >>= λ o. Ok (make p q r s t o)) ≡ Ok (make a b c d e f)
   six_again x y z w v u a b c d e f first second third fourth fifth sixth =
@@ -74,18 +83,21 @@ module _ {A B C D E F X : Type 0} (make : A → B → C → D → E → F → X)
       ∙ ap (λ i. i >>= λ q. z >>= λ r. w >>= λ s. v >>= λ t. u >>= λ o. Ok (make a q r s t o)) second
       ∙ four_again (make a b) z w v u c d e f third fourth fifth sixth
 
-  pub six_said : (x : Result A ℕ) (y : Result B ℕ) (z : Result C ℕ) (w : Result D ℕ) (v : Result E ℕ) (u : Result F ℕ) (a : A) (b : B) (c : C) (d : D) (e : E) (f : F)
+  pub six_said : (x : Result A ℕ) (y : Result B ℕ) (z : Result C ℕ) (w : Result D ℕ) (v : Result E ℕ) (u : Result F ℕ) (a : A) (b : B)
+      (c : C) (d : D) (e : E) (f : F)
       → IsSaid x a → IsSaid y b → IsSaid z c → IsSaid w d → IsSaid v e → IsSaid u f
       → IsSaid (x >>= λ p. y >>= λ q. z >>= λ r. w >>= λ s. v >>= λ t. u >>= λ o. Ok (make p q r s t o)) (make a b c d e f)
   six_said (Ok p) (Ok q) z w v u a b c d e f first second third fourth fifth sixth =
       subst (λ m. IsSaid (z >>= λ r. w >>= λ s. v >>= λ t. u >>= λ o. Ok (make p q r s t o)) (make m b c d e f)) first
-      (subst (λ n. IsSaid (z >>= λ r. w >>= λ s. v >>= λ t. u >>= λ o. Ok (make p q r s t o)) (make p n c d e f)) second (four_said (make p q) z w v u c d e f third fourth fifth sixth))
+      (subst (λ n. IsSaid (z >>= λ r. w >>= λ s. v >>= λ t. u >>= λ o. Ok (make p q r s t o)) (make p n c d e f)) second
+      (four_said (make p q) z w v u c d e f third fourth fifth sixth))
   six_said (Ok p) (Err fault) z w v u a b c d e f first second third fourth fifth sixth = tt
   six_said (Err fault) y z w v u a b c d e f first second third fourth fifth sixth = tt
 
   pub six_gave : (x : Result A ℕ) (y : Result B ℕ) (z : Result C ℕ) (w : Result D ℕ) (v : Result E ℕ) (u : Result F ℕ) (i : X)
       → (x >>= λ p. y >>= λ q. z >>= λ r. w >>= λ s. v >>= λ t. u >>= λ o. Ok (make p q r s t o)) ≡ Ok i
-      → (a : A) × (b : B) × (c : C) × (d : D) × (e : E) × (f : F) × (x ≡ Ok a) × (y ≡ Ok b) × (z ≡ Ok c) × (w ≡ Ok d) × (v ≡ Ok e) × (u ≡ Ok f) × (make a b c d e f ≡ i)
+      → (a : A) × (b : B) × (c : C) × (d : D) × (e : E) × (f : F) × (x ≡ Ok a) × (y ≡ Ok b) × (z ≡ Ok c) × (w ≡ Ok d) × (v ≡ Ok e) ×
+      (u ≡ Ok f) × (make a b c d e f ≡ i)
   six_gave (Ok a) (Ok b) z w v u i is =
       let rest = four_gave (make a b) z w v u i is in
       (a, b, rest.0, rest.1, rest.2, rest.3, refl, refl, rest.4, rest.5, rest.6, rest.7, rest.8)

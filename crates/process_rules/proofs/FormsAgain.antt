@@ -18,7 +18,8 @@ use Rattle.directory_rules.specs.declared.reply.Reply.{Reply}
 use Rattle.directory_rules.specs.declared.reply.Reply.TheVariants as reply
 use Rattle.directory_rules.specs.declared.letter_kind.LetterKind.{LetterKind}
 use Rattle.directory_rules.specs.declared.letter_kind.LetterKind.TheVariants as kind
-use Rattle.directory_rules.specs.Letter.{Letter, Body, Request_letter, Reply_letter, Ask_letter, Page_letter, Missing_letter, Done_letter, Query_letter, Report_letter, Behind_letter, Ahead_letter, Offer_letter, kind_of, act_kind, reply_kind}
+use Rattle.directory_rules.specs.State.{Letter, Body, Request_letter, Reply_letter, Ask_letter, Page_letter, Missing_letter, Done_letter, Query_letter, Report_letter, Behind_letter, Ahead_letter, Offer_letter}
+use Rattle.directory_rules.specs.Letter.{kind_of, act_kind, reply_kind}
 use Rattle.script_rules.specs.Script.{grain_word, number_word, ◌>>=◌}
 use Rattle.process_rules.specs.LetterText.{entry_words, entries_words, act_words, why_words, reply_words, body_words}
 use Rattle.process_rules.specs.ReadLetter.{activation_word, range_word, digest_word, entry_of_words, entries_in, are_pairs, Head, letter_of, request_of, a_register, a_number_and_an_entry, a_find, a_number, with_number, alone, retry_for, retry_by, a_retry, an_ask, page_for, a_page, a_range, report_for, a_report, an_offer, reply_of, form_of}
@@ -48,13 +49,21 @@ ask_made head range page = letter_of head (Ask_letter range page)
 
 abbrev pub page_made : Head → Range → ℕ → ℕ → List ℕ → List Entry → Letter
 page_made head range page pages digest entries =
-    letter_of head (Page_letter (record { version = head.version; range = range; page = page; pages = pages; digest = digest; entries = entries }))
+    letter_of head (Page_letter (record {
+      version = head.version;
+      range = range;
+      page = page;
+      pages = pages;
+      digest = digest;
+      entries = entries;
+    }))
 
 abbrev pub range_made : (Range → Body) → Head → Range → Letter
 range_made of head range = letter_of head (of range)
 
 abbrev pub report_made : Head → Range → List Entry → Letter
-report_made head range entries = letter_of head (Report_letter (record { version = head.version; range = range; silo = head.from; entries = entries }))
+report_made head range entries =
+    letter_of head (Report_letter (record { version = head.version; range = range; silo = head.from; entries = entries }))
 
 abbrev pub offer_made : Head → Entry → Letter
 offer_made head entry = letter_of head (Offer_letter entry)
@@ -64,36 +73,50 @@ module _ (hashing : Hashing) (head : Head) (read : Result Head ℕ) (reads : rea
   entry_form_again : (of : Head → ℕ → Entry → Letter) (number : ℕ) (entry : Entry) → IsNumber number → IsEntry IsNumber entry
       → a_number_and_an_entry of read (decimal number ∷ entry_words entry) ≡ Ok (of head number entry)
   entry_form_again of number entry is is_entry =
-      three_again of read (number_word (decimal number)) (entry_of_words (grain_text entry.grain) (activation_text entry.activation)) head number entry
+      three_again of read (number_word (decimal number)) (entry_of_words (grain_text entry.grain) (activation_text entry.activation)) head
+      number entry
       reads (number_again number is) (entry_again entry is_entry)
 
-  number_form_again : (reply : Reply) (number : ℕ) → IsNumber number → a_number reply read (decimal number ∷ []) ≡ Ok (reply_made reply head number)
-  number_form_again reply number is = two_again (reply_made reply) read (number_word (decimal number)) head number reads (number_again number is)
+  number_form_again : (reply : Reply) (number : ℕ) → IsNumber number
+      → a_number reply read (decimal number ∷ []) ≡ Ok (reply_made reply head number)
+  number_form_again reply number is =
+      two_again (reply_made reply) read (number_word (decimal number)) head number reads (number_again number is)
 
-  range_form_again : (of : Range → Body) (range : Range) → IsRange range → a_range of read (range_text range ∷ []) ≡ Ok (letter_of head (of range))
+  range_form_again : (of : Range → Body) (range : Range) → IsRange range
+      → a_range of read (range_text range ∷ []) ≡ Ok (letter_of head (of range))
   range_form_again of range is = two_again (range_made of) read (range_word (range_text range)) head range reads (range_again range is)
 
-  pub act_again : (number : ℕ) (act : Act) → IsNumber number → IsAct IsNumber act → form_of hashing (act_kind act) read (decimal number ∷ act_words act) ≡ Ok (request_of hashing head number act)
+  pub act_again : (number : ℕ) (act : Act) → IsNumber number → IsAct IsNumber act
+      → form_of hashing (act_kind act) read (decimal number ∷ act_words act) ≡ Ok (request_of hashing head number act)
   act_again number (act.Register entry None) is is_act =
-      three_again (first_register hashing) read (number_word (decimal number)) (entry_of_words (grain_text entry.grain) (activation_text entry.activation)) head number entry
+      three_again (first_register hashing) read (number_word (decimal number))
+      (entry_of_words (grain_text entry.grain) (activation_text entry.activation)) head number entry
       reads (number_again number is) (entry_again entry is_act.0)
   act_again number (act.Register entry (Some previous)) is is_act =
-      four_again (next_register hashing) read (number_word (decimal number)) (entry_of_words (grain_text entry.grain) (activation_text entry.activation))
+      four_again (next_register hashing) read (number_word (decimal number))
+      (entry_of_words (grain_text entry.grain) (activation_text entry.activation))
       (activation_word (activation_text previous)) head number entry previous
       reads (number_again number is) (entry_again entry is_act.0) (activation_again previous is_act.1)
-  act_again number (act.Deregister entry) is is_act = entry_form_again (λ h n e. request_of hashing h n (act.Deregister e)) number entry is is_act
+  act_again number (act.Deregister entry) is is_act =
+      entry_form_again (λ h n e. request_of hashing h n (act.Deregister e)) number entry is is_act
   act_again number (act.Find grain) is is_act =
-      three_again (find_made hashing) read (number_word (decimal number)) (grain_word (grain_text grain)) head number grain reads (number_again number is) (grain_again grain is_act)
+      three_again (find_made hashing) read (number_word (decimal number)) (grain_word (grain_text grain)) head number grain reads
+      (number_again number is) (grain_again grain is_act)
 
-  retry_with : (number : ℕ) (why : Why) (given : Result Why ℕ) → IsNumber number → given ≡ Ok why → retry_for read (decimal number) (Some given) ≡ Ok (retry_made head number why)
-  retry_with number why given is is_why = three_again retry_made read (number_word (decimal number)) given head number why reads (number_again number is) is_why
+  retry_with : (number : ℕ) (why : Why) (given : Result Why ℕ) → IsNumber number → given ≡ Ok why
+      → retry_for read (decimal number) (Some given) ≡ Ok (retry_made head number why)
+  retry_with number why given is is_why =
+      three_again retry_made read (number_word (decimal number)) given head number why reads (number_again number is) is_why
 
-  retry_again : (number : ℕ) (why : Why) → IsNumber number → IsWhy IsNumber why → a_retry read (decimal number ∷ why_words why) ≡ Ok (retry_made head number why)
+  retry_again : (number : ℕ) (why : Why) → IsNumber number → IsWhy IsNumber why
+      → a_retry read (decimal number ∷ why_words why) ≡ Ok (retry_made head number why)
   retry_again number (why.View seen) is is_why =
-      retry_with number (why.View seen) (number_word (decimal seen) >>= λ n. Ok (why.View n)) is (ap (λ o. o >>= λ n. Ok (why.View n)) (number_again seen is_why))
+      retry_with number (why.View seen) (number_word (decimal seen) >>= λ n. Ok (why.View n)) is
+      (ap (λ o. o >>= λ n. Ok (why.View n)) (number_again seen is_why))
   retry_again number why.Unsettled is is_why = retry_with number why.Unsettled (Ok why.Unsettled) is refl
   retry_again number (why.OldNumber last) is is_why =
-      retry_with number (why.OldNumber last) (number_word (decimal last) >>= λ n. Ok (why.OldNumber n)) is (ap (λ o. o >>= λ n. Ok (why.OldNumber n)) (number_again last is_why))
+      retry_with number (why.OldNumber last) (number_word (decimal last) >>= λ n. Ok (why.OldNumber n)) is
+      (ap (λ o. o >>= λ n. Ok (why.OldNumber n)) (number_again last is_why))
   retry_again number why.NotOwner is is_why = retry_with number why.NotOwner (Ok why.NotOwner) is refl
 
   pub reply_again : (number : ℕ) (reply : Reply) → IsNumber number → IsReply IsNumber reply
@@ -107,29 +130,56 @@ module _ (hashing : Hashing) (head : Head) (read : Result Head ℕ) (reads : rea
   reply_again number (reply.Retry why) is is_reply = retry_again number why is is_reply
 
   -- what is the letter's sender's, of its version or its grain's hash is left out, and put back
-  pub body_again : (body : Body) → IsToldBody IsNumber IsRange hashing head.from head.version body → form_of hashing (kind_of body) read (body_words body) ≡ Ok (letter_of head body)
+  pub body_again : (body : Body) → IsToldBody IsNumber IsRange hashing head.from head.version body
+      → form_of hashing (kind_of body) read (body_words body) ≡ Ok (letter_of head body)
   body_again (Request_letter request) is =
       act_again request.number request.act is.number is.act
-      ∙ (λ i. Ok (letter_of head (Request_letter (record { sender = sym is.sender i; version = sym is.version i; number = request.number; hash = sym is.hash i; act = request.act }))))
+      ∙ (λ i. Ok (letter_of head (Request_letter (record {
+        sender = sym is.sender i;
+        version = sym is.version i;
+        number = request.number;
+        hash = sym is.hash i;
+        act = request.act;
+      }))))
   body_again (Reply_letter number reply) is = reply_again number reply is.0 is.1
-  body_again (Ask_letter range page) is = three_again ask_made read (range_word (range_text range)) (number_word (decimal page)) head range page reads (range_again range is.0) (number_again page is.1)
+  body_again (Ask_letter range page) is =
+      three_again ask_made read (range_word (range_text range)) (number_word (decimal page)) head range page reads (range_again range is.0)
+      (number_again page is.1)
   body_again (Page_letter page) is =
-      ap (λ (b : Bool). page_for b read (range_text page.range) (decimal page.page) (decimal page.pages) (encode_lower page.digest) (entries_words page.entries)) (pairs_again page.entries)
-      ∙ six_again page_made read (range_word (range_text page.range)) (number_word (decimal page.page)) (number_word (decimal page.pages)) (digest_word (encode_lower page.digest))
+      ap (λ (b : Bool). page_for b read (range_text page.range) (decimal page.page) (decimal page.pages) (encode_lower page.digest)
+      (entries_words page.entries)) (pairs_again page.entries)
+      ∙ six_again page_made read (range_word (range_text page.range)) (number_word (decimal page.page)) (number_word (decimal page.pages))
+      (digest_word (encode_lower page.digest))
       (entries_in (entries_words page.entries)) head page.range page.page page.pages page.digest page.entries
-      reads (range_again page.range is.range) (number_again page.page is.page) (number_again page.pages is.pages) (digest_again page.digest is.digest) (entries_again page.entries is.entries)
-      ∙ (λ i. Ok (letter_of head (Page_letter (record { version = sym is.version i; range = page.range; page = page.page; pages = page.pages; digest = page.digest; entries = page.entries }))))
+      reads (range_again page.range is.range) (number_again page.page is.page) (number_again page.pages is.pages)
+      (digest_again page.digest is.digest) (entries_again page.entries is.entries)
+      ∙ (λ i. Ok (letter_of head (Page_letter (record {
+        version = sym is.version i;
+        range = page.range;
+        page = page.page;
+        pages = page.pages;
+        digest = page.digest;
+        entries = page.entries;
+      }))))
   body_again (Missing_letter range) is = range_form_again Missing_letter range is
   body_again (Done_letter range) is = range_form_again Done_letter range is
   body_again (Query_letter range) is = range_form_again Query_letter range is
   body_again (Report_letter report) is =
       ap (λ (b : Bool). report_for b read (range_text report.range) (entries_words report.entries)) (pairs_again report.entries)
-      ∙ three_again report_made read (range_word (range_text report.range)) (entries_in (entries_words report.entries)) head report.range report.entries
+      ∙ three_again report_made read (range_word (range_text report.range)) (entries_in (entries_words report.entries)) head report.range
+      report.entries
       reads (range_again report.range is.range) (entries_again report.entries is.entries)
-      ∙ (λ i. Ok (letter_of head (Report_letter (record { version = sym is.version i; range = report.range; silo = sym is.silo i; entries = report.entries }))))
+      ∙ (λ i. Ok (letter_of head (Report_letter (record {
+        version = sym is.version i;
+        range = report.range;
+        silo = sym is.silo i;
+        entries = report.entries;
+      }))))
   body_again (Behind_letter range) is = range_form_again Behind_letter range is
   body_again (Ahead_letter range) is = range_form_again Ahead_letter range is
-  body_again (Offer_letter entry) is = two_again offer_made read (entry_of_words (grain_text entry.grain) (activation_text entry.activation)) head entry reads (entry_again entry is)
+  body_again (Offer_letter entry) is =
+      two_again offer_made read (entry_of_words (grain_text entry.grain) (activation_text entry.activation)) head entry reads
+      (entry_again entry is)
 
 -- ---- what was read is what was written
 abbrev pub head_in : Letter → Head
@@ -152,7 +202,9 @@ moved hashing read head named words says made letter reads writes makes gave = r
 }
 
 module _ (hashing : Hashing) (read : Result Head ℕ) (letter : Letter) where
-  entry_form_gave : (of : Head → ℕ → Entry → Letter) (named : LetterKind) → ((head : Head) (number : ℕ) (entry : Entry) → IsNumber number → IsEntry IsNumber entry → Gave hashing (Ok head) named (decimal number ∷ entry_words entry) (of head number entry))
+  entry_form_gave : (of : Head → ℕ → Entry → Letter) (named : LetterKind)
+      → ((head : Head) (number : ℕ) (entry : Entry) → IsNumber number → IsEntry IsNumber entry
+      → Gave hashing (Ok head) named (decimal number ∷ entry_words entry) (of head number entry))
       → (words : List (List ℕ)) → a_number_and_an_entry of read words ≡ Ok letter → Gave hashing read named words letter
   entry_form_gave of named gives [] given = cc given
   entry_form_gave of named gives (one ∷ []) given = cc given
@@ -165,20 +217,29 @@ module _ (hashing : Hashing) (read : Result Head ℕ) (letter : Letter) where
       (gives p.0 p.1 p.2 (number_told number p.1 p.4) (entry_told grain activation p.2 p.5))
   entry_form_gave of named gives (one ∷ two ∷ three ∷ four ∷ words) given = cc given
 
-  number_form_gave : (reply : Reply) → IsReply IsNumber reply → reply_words reply ≡ [] → (words : List (List ℕ)) → a_number reply read words ≡ Ok letter → Gave hashing read (reply_kind reply) words letter
+  number_form_gave : (reply : Reply) → IsReply IsNumber reply → reply_words reply ≡ [] → (words : List (List ℕ))
+      → a_number reply read words ≡ Ok letter → Gave hashing read (reply_kind reply) words letter
   number_form_gave reply is says [] given = cc given
   number_form_gave reply is says (number ∷ []) given =
       let p = two_gave (reply_made reply) read (number_word number) letter given in
-      moved hashing read p.0 (reply_kind reply) (number ∷ []) (decimal p.1 ∷ []) (reply_made reply p.0 p.1) letter p.2 (λ i. number_gave number p.1 p.3 i ∷ []) p.4
-      (record { head_is = refl; kind_is = refl; words_are = ap (λ (ws : List (List ℕ)). decimal p.1 ∷ ws) (sym says); body = (number_told number p.1 p.3, is) })
+      moved hashing read p.0 (reply_kind reply) (number ∷ []) (decimal p.1 ∷ []) (reply_made reply p.0 p.1) letter p.2
+      (λ i. number_gave number p.1 p.3 i ∷ []) p.4
+      (record {
+        head_is = refl;
+        kind_is = refl;
+        words_are = ap (λ (ws : List (List ℕ)). decimal p.1 ∷ ws) (sym says);
+        body = (number_told number p.1 p.3, is);
+      })
   number_form_gave reply is says (one ∷ two ∷ words) given = cc given
 
-  range_form_gave : (of : Range → Body) (named : LetterKind) → ((head : Head) (range : Range) → IsRange range → Gave hashing (Ok head) named (range_text range ∷ []) (range_made of head range))
+  range_form_gave : (of : Range → Body) (named : LetterKind)
+      → ((head : Head) (range : Range) → IsRange range → Gave hashing (Ok head) named (range_text range ∷ []) (range_made of head range))
       → (words : List (List ℕ)) → a_range of read words ≡ Ok letter → Gave hashing read named words letter
   range_form_gave of named gives [] given = cc given
   range_form_gave of named gives (range ∷ []) given =
       let p = two_gave (range_made of) read (range_word range) letter given in
-      moved hashing read p.0 named (range ∷ []) (range_text p.1 ∷ []) (range_made of p.0 p.1) letter p.2 (λ i. range_gave range p.1 p.3 i ∷ []) p.4
+      moved hashing read p.0 named (range ∷ []) (range_text p.1 ∷ []) (range_made of p.0 p.1) letter p.2
+      (λ i. range_gave range p.1 p.3 i ∷ []) p.4
       (gives p.0 p.1 (range_told range p.1 p.3))
   range_form_gave of named gives (one ∷ two ∷ words) given = cc given
 
@@ -189,13 +250,41 @@ module _ (hashing : Hashing) (read : Result Head ℕ) (letter : Letter) where
   register_gave (number ∷ grain ∷ activation ∷ []) given =
       let p = three_gave (first_register hashing) read (number_word number) (entry_of_words grain activation) letter given in
       let entry = entry_gave grain activation p.2 p.5 in
-      moved hashing read p.0 kind.Register (number ∷ grain ∷ activation ∷ []) (decimal p.1 ∷ entry_words p.2) (first_register hashing p.0 p.1 p.2) letter p.3
-      (λ i. number_gave number p.1 p.4 i ∷ entry.0 i ∷ entry.1 i ∷ []) p.6 (record { head_is = refl; kind_is = refl; words_are = refl; body = record { sender = refl; version = refl; number = number_told number p.1 p.4; hash = refl; act = (entry_told grain activation p.2 p.5, tt) } })
+      moved hashing read p.0 kind.Register (number ∷ grain ∷ activation ∷ []) (decimal p.1 ∷ entry_words p.2)
+      (first_register hashing p.0 p.1 p.2) letter p.3
+      (λ i. number_gave number p.1 p.4 i ∷ entry.0 i ∷ entry.1 i ∷ []) p.6
+      (record {
+        head_is = refl;
+        kind_is = refl;
+        words_are = refl;
+        body =
+            record {
+              sender = refl;
+              version = refl;
+              number = number_told number p.1 p.4;
+              hash = refl;
+              act = (entry_told grain activation p.2 p.5, tt);
+            };
+      })
   register_gave (number ∷ grain ∷ activation ∷ previous ∷ []) given =
       let p = four_gave (next_register hashing) read (number_word number) (entry_of_words grain activation) (activation_word previous) letter given in
       let entry = entry_gave grain activation p.2 p.6 in
-      moved hashing read p.0 kind.Register (number ∷ grain ∷ activation ∷ previous ∷ []) (decimal p.1 ∷ (entry_words p.2 ++ activation_text p.3 ∷ [])) (next_register hashing p.0 p.1 p.2 p.3) letter p.4
-      (λ i. number_gave number p.1 p.5 i ∷ entry.0 i ∷ entry.1 i ∷ activation_gave previous p.3 p.7 i ∷ []) p.8 (record { head_is = refl; kind_is = refl; words_are = refl; body = record { sender = refl; version = refl; number = number_told number p.1 p.5; hash = refl; act = (entry_told grain activation p.2 p.6, activation_told previous p.3 p.7) } })
+      moved hashing read p.0 kind.Register (number ∷ grain ∷ activation ∷ previous ∷ [])
+      (decimal p.1 ∷ (entry_words p.2 ++ activation_text p.3 ∷ [])) (next_register hashing p.0 p.1 p.2 p.3) letter p.4
+      (λ i. number_gave number p.1 p.5 i ∷ entry.0 i ∷ entry.1 i ∷ activation_gave previous p.3 p.7 i ∷ []) p.8
+      (record {
+        head_is = refl;
+        kind_is = refl;
+        words_are = refl;
+        body =
+            record {
+              sender = refl;
+              version = refl;
+              number = number_told number p.1 p.5;
+              hash = refl;
+              act = (entry_told grain activation p.2 p.6, activation_told previous p.3 p.7);
+            };
+      })
   register_gave (one ∷ two ∷ three ∷ four ∷ five ∷ words) given = cc given
 
   find_gave : (words : List (List ℕ)) → a_find hashing read words ≡ Ok letter → Gave hashing read kind.Find words letter
@@ -204,7 +293,13 @@ module _ (hashing : Hashing) (read : Result Head ℕ) (letter : Letter) where
   find_gave (number ∷ grain ∷ []) given =
       let p = three_gave (find_made hashing) read (number_word number) (grain_word grain) letter given in
       moved hashing read p.0 kind.Find (number ∷ grain ∷ []) (decimal p.1 ∷ grain_text p.2 ∷ []) (find_made hashing p.0 p.1 p.2) letter p.3
-      (λ i. number_gave number p.1 p.4 i ∷ grain_gave grain p.2 p.5 i ∷ []) p.6 (record { head_is = refl; kind_is = refl; words_are = refl; body = record { sender = refl; version = refl; number = number_told number p.1 p.4; hash = refl; act = grain_told grain p.2 p.5 } })
+      (λ i. number_gave number p.1 p.4 i ∷ grain_gave grain p.2 p.5 i ∷ []) p.6
+      (record {
+        head_is = refl;
+        kind_is = refl;
+        words_are = refl;
+        body = record { sender = refl; version = refl; number = number_told number p.1 p.4; hash = refl; act = grain_told grain p.2 p.5 };
+      })
   find_gave (one ∷ two ∷ three ∷ words) given = cc given
 
   ask_gave : (words : List (List ℕ)) → an_ask read words ≡ Ok letter → Gave hashing read kind.Ask words letter
@@ -213,7 +308,8 @@ module _ (hashing : Hashing) (read : Result Head ℕ) (letter : Letter) where
   ask_gave (range ∷ page ∷ []) given =
       let p = three_gave ask_made read (range_word range) (number_word page) letter given in
       moved hashing read p.0 kind.Ask (range ∷ page ∷ []) (range_text p.1 ∷ decimal p.2 ∷ []) (ask_made p.0 p.1 p.2) letter p.3
-      (λ i. range_gave range p.1 p.4 i ∷ number_gave page p.2 p.5 i ∷ []) p.6 (record { head_is = refl; kind_is = refl; words_are = refl; body = (range_told range p.1 p.4, number_told page p.2 p.5) })
+      (λ i. range_gave range p.1 p.4 i ∷ number_gave page p.2 p.5 i ∷ []) p.6
+      (record { head_is = refl; kind_is = refl; words_are = refl; body = (range_told range p.1 p.4, number_told page p.2 p.5) })
   ask_gave (one ∷ two ∷ three ∷ words) given = cc given
 
   offer_gave : (words : List (List ℕ)) → an_offer read words ≡ Ok letter → Gave hashing read kind.Offer words letter
@@ -223,17 +319,39 @@ module _ (hashing : Hashing) (read : Result Head ℕ) (letter : Letter) where
       let p = two_gave offer_made read (entry_of_words grain activation) letter given in
       let entry = entry_gave grain activation p.1 p.3 in
       moved hashing read p.0 kind.Offer (grain ∷ activation ∷ []) (entry_words p.1) (offer_made p.0 p.1) letter p.2
-      (λ i. entry.0 i ∷ entry.1 i ∷ []) p.4 (record { head_is = refl; kind_is = refl; words_are = refl; body = entry_told grain activation p.1 p.3 })
+      (λ i. entry.0 i ∷ entry.1 i ∷ []) p.4 (record {
+        head_is = refl;
+        kind_is = refl;
+        words_are = refl;
+        body = entry_told grain activation
+            p.1 p.3;
+      })
   offer_gave (one ∷ two ∷ three ∷ words) given = cc given
 
-  page_by : (pairs : Bool) (range page pages digest : List ℕ) (words : List (List ℕ)) → page_for pairs read range page pages digest words ≡ Ok letter
+  page_by : (pairs : Bool) (range page pages digest : List ℕ) (words : List (List ℕ))
+      → page_for pairs read range page pages digest words ≡ Ok letter
       → Gave hashing read kind.Page (range ∷ page ∷ pages ∷ digest ∷ words) letter
   page_by false range page pages digest words given = cc given
   page_by true range page pages digest words given =
       let p = six_gave page_made read (range_word range) (number_word page) (number_word pages) (digest_word digest) (entries_in words) letter given in
-      moved hashing read p.0 kind.Page (range ∷ page ∷ pages ∷ digest ∷ words) (range_text p.1 ∷ decimal p.2 ∷ decimal p.3 ∷ encode_lower p.4 ∷ entries_words p.5) (page_made p.0 p.1 p.2 p.3 p.4 p.5) letter p.6
-      (λ i. range_gave range p.1 p.7 i ∷ number_gave page p.2 p.8 i ∷ number_gave pages p.3 p.9 i ∷ digest_gave digest p.4 p.10 i ∷ entries_gave words p.5 p.11 i) p.12
-      (record { head_is = refl; kind_is = refl; words_are = refl; body = record { version = refl; range = range_told range p.1 p.7; page = number_told page p.2 p.8; pages = number_told pages p.3 p.9; digest = digest_told digest p.4 p.10; entries = entries_told words p.5 p.11 } })
+      moved hashing read p.0 kind.Page (range ∷ page ∷ pages ∷ digest ∷ words)
+      (range_text p.1 ∷ decimal p.2 ∷ decimal p.3 ∷ encode_lower p.4 ∷ entries_words p.5) (page_made p.0 p.1 p.2 p.3 p.4 p.5) letter p.6
+      (λ i. range_gave range p.1 p.7 i ∷ number_gave page p.2 p.8 i ∷ number_gave pages p.3 p.9 i ∷ digest_gave digest p.4 p.10 i ∷
+      entries_gave words p.5 p.11 i) p.12
+      (record {
+        head_is = refl;
+        kind_is = refl;
+        words_are = refl;
+        body =
+            record {
+              version = refl;
+              range = range_told range p.1 p.7;
+              page = number_told page p.2 p.8;
+              pages = number_told pages p.3 p.9;
+              digest = digest_told digest p.4 p.10;
+              entries = entries_told words p.5 p.11;
+            };
+      })
 
   page_gave : (words : List (List ℕ)) → a_page read words ≡ Ok letter → Gave hashing read kind.Page words letter
   page_gave [] given = cc given
@@ -242,12 +360,19 @@ module _ (hashing : Hashing) (read : Result Head ℕ) (letter : Letter) where
   page_gave (one ∷ two ∷ three ∷ []) given = cc given
   page_gave (range ∷ page ∷ pages ∷ digest ∷ words) given = page_by (are_pairs words) range page pages digest words given
 
-  report_by : (pairs : Bool) (range : List ℕ) (words : List (List ℕ)) → report_for pairs read range words ≡ Ok letter → Gave hashing read kind.Report (range ∷ words) letter
+  report_by : (pairs : Bool) (range : List ℕ) (words : List (List ℕ)) → report_for pairs read range words ≡ Ok letter
+      → Gave hashing read kind.Report (range ∷ words) letter
   report_by false range words given = cc given
   report_by true range words given =
       let p = three_gave report_made read (range_word range) (entries_in words) letter given in
       moved hashing read p.0 kind.Report (range ∷ words) (range_text p.1 ∷ entries_words p.2) (report_made p.0 p.1 p.2) letter p.3
-      (λ i. range_gave range p.1 p.4 i ∷ entries_gave words p.2 p.5 i) p.6 (record { head_is = refl; kind_is = refl; words_are = refl; body = record { version = refl; range = range_told range p.1 p.4; silo = refl; entries = entries_told words p.2 p.5 } })
+      (λ i. range_gave range p.1 p.4 i ∷ entries_gave words p.2 p.5 i) p.6
+      (record {
+        head_is = refl;
+        kind_is = refl;
+        words_are = refl;
+        body = record { version = refl; range = range_told range p.1 p.4; silo = refl; entries = entries_told words p.2 p.5 };
+      })
 
   report_gave : (words : List (List ℕ)) → a_report read words ≡ Ok letter → Gave hashing read kind.Report words letter
   report_gave [] given = cc given
@@ -262,9 +387,12 @@ module _ (hashing : Hashing) (read : Result Head ℕ) (letter : Letter) where
       let p = three_gave retry_made read (number_word number) why letter given in
       let told_why = says why p.2 refl p.5 in
       moved hashing read p.0 kind.Retry (number ∷ reason ∷ words) (decimal p.1 ∷ why_words p.2) (retry_made p.0 p.1 p.2) letter p.3
-      (λ i. number_gave number p.1 p.4 i ∷ told_why.0 i) p.6 (record { head_is = refl; kind_is = refl; words_are = refl; body = (number_told number p.1 p.4, told_why.1) })
+      (λ i. number_gave number p.1 p.4 i ∷ told_why.0 i) p.6
+      (record { head_is = refl; kind_is = refl; words_are = refl; body = (number_told number p.1 p.4, told_why.1) })
 
-  numbered : (of : ℕ → Why) (name reason : List ℕ) → ((n : ℕ) → IsNumber n → (name ∷ decimal n ∷ [] ≡ why_words (of n)) × IsWhy IsNumber (of n)) → reason ≡ name → (words : List (List ℕ)) (given : Result Why ℕ) (made : Why)
+  numbered : (of : ℕ → Why) (name reason : List ℕ) →
+      ((n : ℕ) → IsNumber n → (name ∷ decimal n ∷ [] ≡ why_words (of n)) × IsWhy IsNumber (of n)) → reason ≡ name
+      → (words : List (List ℕ)) (given : Result Why ℕ) (made : Why)
       → with_number of words ≡ Some given → given ≡ Ok made → (reason ∷ words ≡ why_words made) × IsWhy IsNumber made
   numbered of name reason writes is [] given made some gives = cc some
   numbered of name reason writes is (number ∷ []) given made some gives = by (number_word number) refl (some_is some ∙ gives)
@@ -272,17 +400,25 @@ module _ (hashing : Hashing) (read : Result Head ℕ) (letter : Letter) where
       some_is : {a b : Result Why ℕ} → Some a ≡ Some b → a ≡ b
       some_is same = cc
 
-      by : (read : Result ℕ ℕ) → number_word number ≡ read → (read >>= λ n. Ok (of n)) ≡ Ok made → (reason ∷ number ∷ [] ≡ why_words made) × IsWhy IsNumber made
+      by : (read : Result ℕ ℕ) → number_word number ≡ read → (read >>= λ n. Ok (of n)) ≡ Ok made
+          → (reason ∷ number ∷ [] ≡ why_words made) × IsWhy IsNumber made
       by (Ok n) reads makes =
-          let says = writes n (number_told number n reads) in
-          ((λ i. is i ∷ number_gave number n reads i ∷ []) ∙ says.0 ∙ ap why_words (ok_is makes), subst (IsWhy IsNumber) (ok_is makes) says.1)
+          let says = writes n (number_told number n reads) in (
+            (λ i. is i ∷ number_gave number n reads i ∷ []) ∙ says.0
+                ∙ ap why_words (ok_is makes),
+            subst (IsWhy IsNumber) (ok_is makes) says.1,
+          )
       by (Err fault) reads makes = cc makes
   numbered of name reason writes is (one ∷ two ∷ words) given made some gives = cc some
 
-  lone : (of : Why) (name reason : List ℕ) → (name ∷ [] ≡ why_words of) × IsWhy IsNumber of → reason ≡ name → (words : List (List ℕ)) (given : Result Why ℕ) (made : Why)
+  lone : (of : Why) (name reason : List ℕ) → (name ∷ [] ≡ why_words of) × IsWhy IsNumber of → reason ≡ name
+      → (words : List (List ℕ)) (given : Result Why ℕ) (made : Why)
       → alone of words ≡ Some given → given ≡ Ok made → (reason ∷ words ≡ why_words made) × IsWhy IsNumber made
-  lone of name reason writes is [] given made some gives =
-      ((λ i. is i ∷ []) ∙ writes.0 ∙ ap why_words (ok_is (some_is some ∙ gives)), subst (IsWhy IsNumber) (ok_is (some_is some ∙ gives)) writes.1)
+  lone of name reason writes is [] given made some gives = (
+    (λ i. is i ∷ []) ∙ writes.0 ∙ ap why_words (ok_is (some_is some ∙ gives)),
+    subst (IsWhy IsNumber) (ok_is (some_is some ∙ gives))
+        writes.1,
+  )
     where
       some_is : {a b : Result Why ℕ} → Some a ≡ Some b → a ≡ b
       some_is same = cc
@@ -296,49 +432,80 @@ module _ (hashing : Hashing) (read : Result Head ℕ) (letter : Letter) where
       same : (name : List ℕ) → bytes_eq reason name ≡ true → reason ≡ name
       same name is = (bytes_eq-Decides reason name).0 is
 
-      fourth : (is : Bool) → bytes_eq reason (codes "604") ≡ is → retry_by (cond is (Some (alone why.NotOwner)) None) read number words ≡ Ok letter → Gave hashing read kind.Retry (number ∷ reason ∷ words) letter
-      fourth true is given = retry_of number reason words (alone why.NotOwner words) (lone why.NotOwner (codes "604") reason (refl, tt) (same (codes "604") is) words) given
+      fourth : (is : Bool) → bytes_eq reason (codes "604") ≡ is
+          → retry_by (cond is (Some (alone why.NotOwner)) None) read number words ≡ Ok letter
+          → Gave hashing read kind.Retry (number ∷ reason ∷ words) letter
+      fourth true is given =
+          retry_of number reason words (alone why.NotOwner words)
+          (lone why.NotOwner (codes "604") reason (refl, tt) (same (codes "604") is) words) given
       fourth false is given = cc given
 
       third : (is : Bool) → bytes_eq reason (codes "603") ≡ is
-          → retry_by (cond is (Some (with_number why.OldNumber)) (cond (bytes_eq reason (codes "604")) (Some (alone why.NotOwner)) None)) read number words ≡ Ok letter → Gave hashing read kind.Retry (number ∷ reason ∷ words) letter
-      third true is given = retry_of number reason words (with_number why.OldNumber words) (numbered why.OldNumber (codes "603") reason (λ n is. (refl, is)) (same (codes "603") is) words) given
+          → retry_by (cond is (Some (with_number why.OldNumber)) (cond (bytes_eq reason (codes "604")) (Some (alone why.NotOwner)) None))
+          read number words ≡ Ok letter → Gave hashing read kind.Retry (number ∷ reason ∷ words) letter
+      third true is given =
+          retry_of number reason words (with_number why.OldNumber words)
+          (numbered why.OldNumber (codes "603") reason (λ n is. (refl, is)) (same (codes "603") is) words) given
       third false is given = fourth (bytes_eq reason (codes "604")) refl given
 
       second : (is : Bool) → bytes_eq reason (codes "602") ≡ is
-          → retry_by (cond is (Some (alone why.Unsettled)) (cond (bytes_eq reason (codes "603")) (Some (with_number why.OldNumber)) (cond (bytes_eq reason (codes "604")) (Some (alone why.NotOwner)) None))) read number words ≡ Ok letter
+          → retry_by (cond is (Some (alone why.Unsettled))
+          (cond (bytes_eq reason (codes "603")) (Some (with_number why.OldNumber))
+          (cond (bytes_eq reason (codes "604")) (Some (alone why.NotOwner)) None))) read number words ≡ Ok letter
           → Gave hashing read kind.Retry (number ∷ reason ∷ words) letter
-      second true is given = retry_of number reason words (alone why.Unsettled words) (lone why.Unsettled (codes "602") reason (refl, tt) (same (codes "602") is) words) given
+      second true is given =
+          retry_of number reason words (alone why.Unsettled words)
+          (lone why.Unsettled (codes "602") reason (refl, tt) (same (codes "602") is) words) given
       second false is given = third (bytes_eq reason (codes "603")) refl given
 
       first : (is : Bool) → bytes_eq reason (codes "601") ≡ is
-          → retry_by (cond is (Some (with_number why.View)) (cond (bytes_eq reason (codes "602")) (Some (alone why.Unsettled)) (cond (bytes_eq reason (codes "603")) (Some (with_number why.OldNumber)) (cond (bytes_eq reason (codes "604")) (Some (alone why.NotOwner)) None)))) read number words ≡ Ok letter
+          → retry_by (cond is (Some (with_number why.View))
+          (cond (bytes_eq reason (codes "602")) (Some (alone why.Unsettled))
+          (cond (bytes_eq reason (codes "603")) (Some (with_number why.OldNumber))
+          (cond (bytes_eq reason (codes "604")) (Some (alone why.NotOwner)) None)))) read number words ≡ Ok letter
           → Gave hashing read kind.Retry (number ∷ reason ∷ words) letter
-      first true is given = retry_of number reason words (with_number why.View words) (numbered why.View (codes "601") reason (λ n is. (refl, is)) (same (codes "601") is) words) given
+      first true is given =
+          retry_of number reason words (with_number why.View words)
+          (numbered why.View (codes "601") reason (λ n is. (refl, is)) (same (codes "601") is) words) given
       first false is given = second (bytes_eq reason (codes "602")) refl given
 
-  as_told : (head : Head) (letter : Letter) → head_in letter ≡ head → IsToldBody IsNumber IsRange hashing letter.from letter.version letter.body
+  as_told : (head : Head) (letter : Letter) → head_in letter ≡ head
+      → IsToldBody IsNumber IsRange hashing letter.from letter.version letter.body
       → Gave hashing (Ok head) (kind_of letter.body) (body_words letter.body) letter
   as_told head letter is body = record { head_is = ap Ok (sym is); kind_is = refl; words_are = refl; body = body }
 
-  pub form_gave : (kind : LetterKind) (words : List (List ℕ)) → form_of hashing kind read words ≡ Ok letter → Gave hashing read kind words letter
+  pub form_gave : (kind : LetterKind) (words : List (List ℕ)) → form_of hashing kind read words ≡ Ok letter
+      → Gave hashing read kind words letter
   form_gave kind.Register words given = register_gave words given
   form_gave kind.Deregister words given =
-      entry_form_gave (λ h n e. request_of hashing h n (act.Deregister e)) kind.Deregister (λ h n e is is_entry. as_told h (request_of hashing h n (act.Deregister e)) refl (record { sender = refl; version = refl; number = is; hash = refl; act = is_entry })) words given
+      entry_form_gave (λ h n e. request_of hashing h n (act.Deregister e)) kind.Deregister
+      (λ h n e is is_entry. as_told h (request_of hashing h n (act.Deregister e)) refl
+      (record { sender = refl; version = refl; number = is; hash = refl; act = is_entry })) words given
   form_gave kind.Find words given = find_gave words given
-  form_gave kind.Registered words given = entry_form_gave (reply_of reply.Registered) kind.Registered (λ h n e is is_entry. as_told h (reply_of reply.Registered h n e) refl (is, is_entry)) words given
-  form_gave kind.Taken words given = entry_form_gave (reply_of reply.Taken) kind.Taken (λ h n e is is_entry. as_told h (reply_of reply.Taken h n e) refl (is, is_entry)) words given
+  form_gave kind.Registered words given =
+      entry_form_gave (reply_of reply.Registered) kind.Registered
+      (λ h n e is is_entry. as_told h (reply_of reply.Registered h n e) refl (is, is_entry)) words given
+  form_gave kind.Taken words given =
+      entry_form_gave (reply_of reply.Taken) kind.Taken (λ h n e is is_entry. as_told h (reply_of reply.Taken h n e) refl (is, is_entry))
+      words given
   form_gave kind.Removed words given = number_form_gave reply.Removed tt refl words given
   form_gave kind.Absent words given = number_form_gave reply.Absent tt refl words given
-  form_gave kind.Found words given = entry_form_gave (reply_of reply.Found) kind.Found (λ h n e is is_entry. as_told h (reply_of reply.Found h n e) refl (is, is_entry)) words given
+  form_gave kind.Found words given =
+      entry_form_gave (reply_of reply.Found) kind.Found (λ h n e is is_entry. as_told h (reply_of reply.Found h n e) refl (is, is_entry))
+      words given
   form_gave kind.Nothing words given = number_form_gave reply.Nothing tt refl words given
   form_gave kind.Retry words given = retry_gave words given
   form_gave kind.Ask words given = ask_gave words given
   form_gave kind.Page words given = page_gave words given
-  form_gave kind.Missing words given = range_form_gave Missing_letter kind.Missing (λ h range is. as_told h (range_made Missing_letter h range) refl is) words given
-  form_gave kind.Done words given = range_form_gave Done_letter kind.Done (λ h range is. as_told h (range_made Done_letter h range) refl is) words given
-  form_gave kind.Query words given = range_form_gave Query_letter kind.Query (λ h range is. as_told h (range_made Query_letter h range) refl is) words given
+  form_gave kind.Missing words given =
+      range_form_gave Missing_letter kind.Missing (λ h range is. as_told h (range_made Missing_letter h range) refl is) words given
+  form_gave kind.Done words given =
+      range_form_gave Done_letter kind.Done (λ h range is. as_told h (range_made Done_letter h range) refl is) words given
+  form_gave kind.Query words given =
+      range_form_gave Query_letter kind.Query (λ h range is. as_told h (range_made Query_letter h range) refl is) words given
   form_gave kind.Report words given = report_gave words given
-  form_gave kind.Behind words given = range_form_gave Behind_letter kind.Behind (λ h range is. as_told h (range_made Behind_letter h range) refl is) words given
-  form_gave kind.Ahead words given = range_form_gave Ahead_letter kind.Ahead (λ h range is. as_told h (range_made Ahead_letter h range) refl is) words given
+  form_gave kind.Behind words given =
+      range_form_gave Behind_letter kind.Behind (λ h range is. as_told h (range_made Behind_letter h range) refl is) words given
+  form_gave kind.Ahead words given =
+      range_form_gave Ahead_letter kind.Ahead (λ h range is. as_told h (range_made Ahead_letter h range) refl is) words given
   form_gave kind.Offer words given = offer_gave words given

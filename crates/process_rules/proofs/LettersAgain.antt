@@ -7,7 +7,8 @@ use Rattle.silo_address.specs.SiloText.{silo_text}
 use Rattle.hash_ring.specs.declared.hashing.Hashing.{Hashing}
 use Rattle.directory_rules.specs.declared.letter_kind.LetterKind.{LetterKind}
 use Rattle.directory_rules.specs.declared.letter_kind.LetterKind.TheVariants as kind
-use Rattle.directory_rules.specs.Letter.{Letter, kind_of}
+use Rattle.directory_rules.specs.State.{Letter}
+use Rattle.directory_rules.specs.Letter.{kind_of}
 use Rattle.script_rules.specs.Lines.{kind_word}
 use Rattle.script_rules.specs.Script.{silo_word, number_word}
 use Rattle.process_rules.specs.LetterText.{body_words, letter_words}
@@ -73,8 +74,10 @@ pub record WasTold (hashing : Hashing) (words : List (List ℕ)) (letter : Lette
   pub words_are : words ≡ letter_words letter
   pub told : IsTold hashing letter
 
-told_by : (hashing : Hashing) (from to version kind : List ℕ) (words : List (List ℕ)) (letter : Letter) (found : Option LetterKind) → kind_among kinds kind ≡ found
-    → letter_by found hashing (head_of_words from to version) words ≡ Ok letter → WasTold hashing (from ∷ to ∷ version ∷ kind ∷ words) letter
+told_by : (hashing : Hashing) (from to version kind : List ℕ) (words : List (List ℕ)) (letter : Letter) (found : Option LetterKind)
+    → kind_among kinds kind ≡ found
+    → letter_by found hashing (head_of_words from to version) words ≡ Ok letter
+    → WasTold hashing (from ∷ to ∷ version ∷ kind ∷ words) letter
 told_by hashing from to version kind words letter None is given = cc given
 told_by hashing from to version kind words letter (Some found) is given =
     let gave = form_gave hashing (head_of_words from to version) letter found words given in
@@ -94,10 +97,12 @@ told_by hashing from to version kind words letter (Some found) is given =
       };
     }
 
-pub was_told : (hashing : Hashing) (words : List (List ℕ)) (letter : Letter) → read_letter hashing words ≡ Ok letter → WasTold hashing words letter
+pub was_told : (hashing : Hashing) (words : List (List ℕ)) (letter : Letter) → read_letter hashing words ≡ Ok letter
+    → WasTold hashing words letter
 unfolding read_letter
 was_told hashing [] letter given = cc given
 was_told hashing (one ∷ []) letter given = cc given
 was_told hashing (one ∷ two ∷ []) letter given = cc given
 was_told hashing (one ∷ two ∷ three ∷ []) letter given = cc given
-was_told hashing (from ∷ to ∷ version ∷ kind ∷ words) letter given = told_by hashing from to version kind words letter (kind_among kinds kind) refl given
+was_told hashing (from ∷ to ∷ version ∷ kind ∷ words) letter given =
+    told_by hashing from to version kind words letter (kind_among kinds kind) refl given

@@ -31,7 +31,8 @@ use Rattle.directory_rules.specs.declared.reply.Reply.{Reply}
 use Rattle.directory_rules.specs.declared.reply.Reply.TheVariants as reply
 use Rattle.directory_rules.specs.declared.letter_kind.LetterKind.{LetterKind}
 use Rattle.directory_rules.specs.declared.letter_kind.LetterKind.TheVariants as kind
-use Rattle.directory_rules.specs.Letter.{Letter, Body, Request_letter, Reply_letter, Ask_letter, Page_letter, Missing_letter, Done_letter, Query_letter, Report_letter, Behind_letter, Ahead_letter, Offer_letter, kind_of}
+use Rattle.directory_rules.specs.State.{Letter, Body, Request_letter, Reply_letter, Ask_letter, Page_letter, Missing_letter, Done_letter, Query_letter, Report_letter, Behind_letter, Ahead_letter, Offer_letter}
+use Rattle.directory_rules.specs.Letter.{kind_of}
 use Rattle.script_rules.specs.Lines.{kind_word}
 use Rattle.script_rules.specs.Script.{is_text}
 use Rattle.process_rules.specs.LetterText.{entry_words, entries_words, previous_words, act_words, why_words, reply_words, body_words, letter_words, letter_line}
@@ -65,7 +66,8 @@ pieces_alone (byte ∷ word) seen =
     ap (λ (b : Bool). with_byte b byte (pieces_at space word)) (no_space byte (All-head IsVisible byte word seen))
     ∙ ap (onto_first byte) (pieces_alone word (All-tail IsVisible byte word seen))
 
-kept : (word : List ℕ) (pieces : List (List ℕ)) → 0 < length word → filter is_some_bytes (word ∷ pieces) ≡ word ∷ filter is_some_bytes pieces
+kept : (word : List ℕ) (pieces : List (List ℕ)) → 0 < length word
+    → filter is_some_bytes (word ∷ pieces) ≡ word ∷ filter is_some_bytes pieces
 kept word pieces some = rw (lt-ltb 0 (length word) some) refl
 
 words_again : (words : List (List ℕ)) → AreWhole words → words_in (sentence words) ≡ words
@@ -108,7 +110,9 @@ kind_whole kind.Offer = refl
 
 -- ---- texts
 numeral_seen : (word : List ℕ) → IsNumeral word → IsSeen word
-numeral_seen word numeral = All-weaker IsDigit IsVisible (λ byte digit. let least = digit.0 in let most = digit.1 in (omega (arith, least), omega (arith, most))) word numeral.digits
+numeral_seen word numeral =
+    All-weaker IsDigit IsVisible (λ byte digit. let least = digit.0 in let most = digit.1 in (omega (arith, least), omega (arith, most)))
+    word numeral.digits
 
 number_whole : (number : ℕ) → IsWhole (decimal number)
 number_whole number = record { some = decimal_some number; seen = decimal_visible number }
@@ -126,10 +130,12 @@ words_seen words n =
     (marked words.second dot _ (numeral_seen words.second n.second) (omega arith, omega arith)
     (marked words.third dot _ (numeral_seen words.third n.third) (omega arith, omega arith)
     (marked words.fourth colon _ (numeral_seen words.fourth n.fourth) (omega arith, omega arith)
-    (marked words.port at_sign _ (numeral_seen words.port n.port) (omega arith, omega arith) (numeral_seen words.generation n.generation)))))
+    (marked words.port at_sign _ (numeral_seen words.port n.port) (omega arith, omega arith)
+    (numeral_seen words.generation n.generation)))))
 
 silo_whole : (silo : Silo) → IsSilo silo → IsWhole (silo_text silo)
-silo_whole silo is = record { some = some_marked (words_of silo).first dot _; seen = words_seen (words_of silo) (words_are_numerals silo is) }
+silo_whole silo is =
+    record { some = some_marked (words_of silo).first dot _; seen = words_seen (words_of silo) (words_are_numerals silo is) }
 
 grain_whole : (grain : Grain) → IsGrain grain → IsWhole (grain_text grain)
 grain_whole grain is = record {
@@ -140,13 +146,17 @@ grain_whole grain is = record {
 activation_whole : (activation : ActivationId) → IsSilo activation.silo → IsWhole (activation_text activation)
 activation_whole activation is = record {
   some = some_marked (silo_text activation.silo) exclamation_mark (decimal activation.count);
-  seen = marked (silo_text activation.silo) exclamation_mark (decimal activation.count) (silo_whole activation.silo is).seen (omega arith, omega arith) (number_whole activation.count).seen;
+  seen =
+      marked (silo_text activation.silo) exclamation_mark (decimal activation.count) (silo_whole activation.silo is).seen
+      (omega arith, omega arith) (number_whole activation.count).seen;
 }
 
 range_whole : (range : Range) → IsWhole (range_text range)
 range_whole range = record {
   some = some_marked (decimal range.start) plus_sign (decimal range.size);
-  seen = marked (decimal range.start) plus_sign (decimal range.size) (number_whole range.start).seen (omega arith, omega arith) (number_whole range.size).seen;
+  seen =
+      marked (decimal range.start) plus_sign (decimal range.size) (number_whole range.start).seen (omega arith, omega arith)
+      (number_whole range.size).seen;
 }
 
 digits_seen : IsSeen lower_digits
@@ -159,8 +169,10 @@ digest_seen (byte ∷ bytes) are =
     let fits : byte < 256 = are 0 in
     let high : byte / 16 < 16 = omega arith in
     let low : byte % 16 < 16 = omega arith in
-    All-cons IsVisible (slice_index lower_digits (byte / 16)) (slice_index lower_digits (byte % 16) ∷ encode_lower bytes) (digits_seen (byte / 16) 0 high)
-    (All-cons IsVisible (slice_index lower_digits (byte % 16)) (encode_lower bytes) (digits_seen (byte % 16) 0 low) (digest_seen bytes (λ k. are (suc k))))
+    All-cons IsVisible (slice_index lower_digits (byte / 16)) (slice_index lower_digits (byte % 16) ∷ encode_lower bytes)
+    (digits_seen (byte / 16) 0 high)
+    (All-cons IsVisible (slice_index lower_digits (byte % 16)) (encode_lower bytes) (digits_seen (byte % 16) 0 low)
+    (digest_seen bytes (λ k. are (suc k))))
 
 digest_whole : (digest : List ℕ) → IsDigest digest → IsWhole (encode_lower digest)
 digest_whole digest is =
@@ -209,7 +221,8 @@ module _ (Fits : ℕ → Type 0) where
   entries_whole : (entries : List Entry) → All (IsEntry Fits) entries → AreWhole (entries_words entries)
   entries_whole [] are = none
   entries_whole (entry ∷ entries) are =
-      entry_then entry (entries_words entries) (All-head (IsEntry Fits) entry entries are) (entries_whole entries (All-tail (IsEntry Fits) entry entries are))
+      entry_then entry (entries_words entries) (All-head (IsEntry Fits) entry entries are)
+      (entries_whole entries (All-tail (IsEntry Fits) entry entries are))
 
   previous_whole : (previous : Option ActivationId) → IfSome previous (IsActivation Fits) → AreWhole (previous_words previous)
   previous_whole None is = none
@@ -221,9 +234,11 @@ module _ (Fits : ℕ → Type 0) where
   act_whole (act.Find grain) is = cons (grain_text grain) [] (grain_whole grain is) none
 
   why_whole : (why : Why) → IsWhy Fits why → AreWhole (why_words why)
-  why_whole (why.View seen) is = cons (codes "601") (decimal seen ∷ []) (whole_by (codes "601") refl) (cons (decimal seen) [] (number_whole seen) none)
+  why_whole (why.View seen) is =
+      cons (codes "601") (decimal seen ∷ []) (whole_by (codes "601") refl) (cons (decimal seen) [] (number_whole seen) none)
   why_whole why.Unsettled is = cons (codes "602") [] (whole_by (codes "602") refl) none
-  why_whole (why.OldNumber last) is = cons (codes "603") (decimal last ∷ []) (whole_by (codes "603") refl) (cons (decimal last) [] (number_whole last) none)
+  why_whole (why.OldNumber last) is =
+      cons (codes "603") (decimal last ∷ []) (whole_by (codes "603") refl) (cons (decimal last) [] (number_whole last) none)
   why_whole why.NotOwner is = cons (codes "604") [] (whole_by (codes "604") refl) none
 
   reply_whole : (reply : Reply) → IsReply Fits reply → AreWhole (reply_words reply)
@@ -239,10 +254,14 @@ module _ (Fits : ℕ → Type 0) where
   range_alone range = cons (range_text range) [] (range_whole range) none
 
   module _ (Lies : Range → Type 0) where
-    body_whole : (hashing : Hashing) (from : Silo) (version : ℕ) (body : Body) → IsToldBody Fits Lies hashing from version body → AreWhole (body_words body)
-    body_whole hashing from version (Request_letter request) is = cons (decimal request.number) (act_words request.act) (number_whole request.number) (act_whole request.act is.act)
-    body_whole hashing from version (Reply_letter number reply) is = cons (decimal number) (reply_words reply) (number_whole number) (reply_whole reply is.1)
-    body_whole hashing from version (Ask_letter range page) is = cons (range_text range) (decimal page ∷ []) (range_whole range) (cons (decimal page) [] (number_whole page) none)
+    body_whole : (hashing : Hashing) (from : Silo) (version : ℕ) (body : Body) → IsToldBody Fits Lies hashing from version body
+        → AreWhole (body_words body)
+    body_whole hashing from version (Request_letter request) is =
+        cons (decimal request.number) (act_words request.act) (number_whole request.number) (act_whole request.act is.act)
+    body_whole hashing from version (Reply_letter number reply) is =
+        cons (decimal number) (reply_words reply) (number_whole number) (reply_whole reply is.1)
+    body_whole hashing from version (Ask_letter range page) is =
+        cons (range_text range) (decimal page ∷ []) (range_whole range) (cons (decimal page) [] (number_whole page) none)
     body_whole hashing from version (Page_letter page) is =
         let entries : List (List ℕ) = entries_words page.entries in
         let behind : List (List ℕ) = encode_lower page.digest ∷ entries in
@@ -254,12 +273,14 @@ module _ (Fits : ℕ → Type 0) where
     body_whole hashing from version (Missing_letter range) is = range_alone range
     body_whole hashing from version (Done_letter range) is = range_alone range
     body_whole hashing from version (Query_letter range) is = range_alone range
-    body_whole hashing from version (Report_letter report) is = cons (range_text report.range) (entries_words report.entries) (range_whole report.range) (entries_whole report.entries is.entries)
+    body_whole hashing from version (Report_letter report) is =
+        cons (range_text report.range) (entries_words report.entries) (range_whole report.range) (entries_whole report.entries is.entries)
     body_whole hashing from version (Behind_letter range) is = range_alone range
     body_whole hashing from version (Ahead_letter range) is = range_alone range
     body_whole hashing from version (Offer_letter entry) is = entry_whole entry is
 
-    letter_whole : (hashing : Hashing) (letter : Letter) → IsLetterWith Fits Lies hashing letter → AreWhole (codes "letter" ∷ letter_words letter)
+    letter_whole : (hashing : Hashing) (letter : Letter) → IsLetterWith Fits Lies hashing letter
+        → AreWhole (codes "letter" ∷ letter_words letter)
     letter_whole hashing letter is =
         let kind : List ℕ = kind_word (kind_of letter.body) in
         let says : List (List ℕ) = body_words letter.body in
@@ -268,12 +289,15 @@ module _ (Fits : ℕ → Type 0) where
         (cons (silo_text letter.from) (silo_text letter.to ∷ version ∷ kind ∷ says) (silo_whole letter.from is.from)
         (cons (silo_text letter.to) (version ∷ kind ∷ says) (silo_whole letter.to is.to)
         (cons version (kind ∷ says) (number_whole letter.version)
-        (cons kind says (whole_by kind (kind_whole (kind_of letter.body))) (body_whole hashing letter.from letter.version letter.body is.body)))))
+        (cons kind says (whole_by kind (kind_whole (kind_of letter.body)))
+        (body_whole hashing letter.from letter.version letter.body is.body)))))
 
-    pub line_is_text : (hashing : Hashing) (letter : Letter) → IsLetterWith Fits Lies hashing letter → list_all is_text (letter_line letter) ≡ true
+    pub line_is_text : (hashing : Hashing) (letter : Letter) → IsLetterWith Fits Lies hashing letter
+        → list_all is_text (letter_line letter) ≡ true
     unfolding letter_line
     line_is_text hashing letter is = text_sentence (codes "letter" ∷ letter_words letter) (letter_whole hashing letter is)
 
-    pub line_words : (hashing : Hashing) (letter : Letter) → IsLetterWith Fits Lies hashing letter → words_in (letter_line letter) ≡ codes "letter" ∷ letter_words letter
+    pub line_words : (hashing : Hashing) (letter : Letter) → IsLetterWith Fits Lies hashing letter
+        → words_in (letter_line letter) ≡ codes "letter" ∷ letter_words letter
     unfolding letter_line
     line_words hashing letter is = words_again (codes "letter" ∷ letter_words letter) (letter_whole hashing letter is)

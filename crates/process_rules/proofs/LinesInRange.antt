@@ -15,9 +15,9 @@ use Rattle.hash_ring.specs.declared.hashing.Hashing.{Hashing}
 use Rattle.directory_rules.specs.declared.own_step.OwnStep.{OwnStep}
 use Rattle.directory_rules.specs.declared.own_step.OwnStep.TheVariants as own
 use Rattle.directory_rules.specs.OwnStep.{IsOwnStep}
-use Rattle.script_rules.specs.Script.{silo_word, grain_word, number_word, number_or_fault, hash_word, places_in, Grammar, no_word, a_grain, a_grain_and_a_silo, is_text, is_remark, ◌>>=◌}
+use Rattle.script_rules.specs.Script.{silo_word, grain_word, number_word, number_or_fault, hash_word, places_in, Grammar, no_word, a_grain, a_part, ranges_word, a_grain_and_a_silo, is_text, is_remark, ◌>>=◌}
 use Rattle.process_rules.specs.ReadLetter.{read_letter}
-use Rattle.process_rules.specs.ReadLine.{Asked, Joined, Leaving, Dead, See, Do, Receive, Owner, Place, Show, Dump, a_word, token_in, behind_token, a_join, a_version_and_a_silo, a_version, own_policy_word, a_grain_and_a_policy, a_letter, a_step, step_commands, commands, longest_line, asked_if_known, asked_of_words, read_silo_line}
+use Rattle.process_rules.specs.ReadLine.{Asked, Joined, Leaving, Dead, See, Do, Receive, Owner, Place, Figures, Show, Dump, a_word, token_in, behind_token, a_join, a_version_and_a_silo, a_version, own_policy_word, a_grain_and_a_policy, a_letter, a_step, step_commands, commands, longest_line, asked_if_known, asked_of_words, read_silo_line}
 use Rattle.process_rules.specs.Told.{IsNumber, IsTold}
 use Rattle.process_rules.specs.InRange.{IsInRange}
 use Rattle.process_rules.proofs.LettersAgain.{was_told}
@@ -34,13 +34,15 @@ module _ {A X : Type 0} (P : A → Type 0) (Is : X → Type 0) (make : A → X) 
   one_in (Err fault) makes first = tt
 
 module _ {A B X : Type 0} (P : A → Type 0) (Q : B → Type 0) (Is : X → Type 0) (make : A → B → X) where
-  two_in : (x : Result A ℕ) (y : Result B ℕ) → ((a : A) (b : B) → P a → Q b → Is (make a b)) → IfOk x P → IfOk y Q → IfOk (x >>= λ p. y >>= λ q. Ok (make p q)) Is
+  two_in : (x : Result A ℕ) (y : Result B ℕ) → ((a : A) (b : B) → P a → Q b → Is (make a b)) → IfOk x P → IfOk y Q
+      → IfOk (x >>= λ p. y >>= λ q. Ok (make p q)) Is
   two_in (Ok a) (Ok b) makes first second = makes a b first second
   two_in (Ok a) (Err fault) makes first second = tt
   two_in (Err fault) y makes first second = tt
 
 module _ {A B C X : Type 0} (P : A → Type 0) (Q : B → Type 0) (R : C → Type 0) (Is : X → Type 0) (make : A → B → C → X) where
-  three_in : (x : Result A ℕ) (y : Result B ℕ) (z : Result C ℕ) → ((a : A) (b : B) (c : C) → P a → Q b → R c → Is (make a b c)) → IfOk x P → IfOk y Q → IfOk z R
+  three_in : (x : Result A ℕ) (y : Result B ℕ) (z : Result C ℕ) → ((a : A) (b : B) (c : C) → P a → Q b → R c → Is (make a b c)) → IfOk x P
+      → IfOk y Q → IfOk z R
       → IfOk (x >>= λ p. y >>= λ q. z >>= λ r. Ok (make p q r)) Is
   three_in (Ok a) (Ok b) (Ok c) makes first second third = makes a b c first second third
   three_in (Ok a) (Ok b) (Err fault) makes first second third = tt
@@ -60,7 +62,8 @@ grain_in word = of_given IsGrain (grain_word word) (grain_told word)
 abbrev IsHash : ℕ → Type 0
 IsHash place = place < circle
 
-hash_by : (value : ℕ) (numeral within : Bool) → nat_le value 4294967295 ≡ within → IfOk (number_or_fault (cond numeral (cond within (Ok value) (Err number_fault.OutOfRange)) (Err number_fault.NotANumber))) IsHash
+hash_by : (value : ℕ) (numeral within : Bool) → nat_le value 4294967295 ≡ within
+    → IfOk (number_or_fault (cond numeral (cond within (Ok value) (Err number_fault.OutOfRange)) (Err number_fault.NotANumber))) IsHash
 hash_by value true true is = let most = leb-true value 4294967295 is in omega (arith, most)
 hash_by value true false is = tt
 hash_by value false within is = tt
@@ -73,7 +76,9 @@ more place places = place ∷ places
 
 all_in : (words : List (List ℕ)) → IfOk (places_in words) (All IsHash)
 all_in [] = All-nil IsHash
-all_in (word ∷ words) = two_in IsHash (All IsHash) (All IsHash) more (hash_word word) (places_in words) (λ place places is are. All-cons IsHash place places is are) (hash_in word) (all_in words)
+all_in (word ∷ words) =
+    two_in IsHash (All IsHash) (All IsHash) more (hash_word word) (places_in words)
+    (λ place places is are. All-cons IsHash place places is are) (hash_in word) (all_in words)
 
 -- ---- what stands behind a name
 module _ {A : Type 0} (Is : A → Type 0) where
@@ -89,11 +94,22 @@ module _ {A : Type 0} (Is : A → Type 0) where
   grain_makes of makes (grain ∷ []) = one_in IsGrain Is of (grain_word grain) makes (grain_in grain)
   grain_makes of makes (one ∷ two ∷ words) = tt
 
-  offer_makes : (of : Grain → Silo → A) → ((grain : Grain) (silo : Silo) → IsGrain grain → IsSilo silo → Is (of grain silo)) → Makes (a_grain_and_a_silo of)
+  offer_makes : (of : Grain → Silo → A) → ((grain : Grain) (silo : Silo) → IsGrain grain → IsSilo silo → Is (of grain silo))
+      → Makes (a_grain_and_a_silo of)
   offer_makes of makes [] = tt
   offer_makes of makes (one ∷ []) = tt
-  offer_makes of makes (grain ∷ silo ∷ []) = two_in IsGrain IsSilo Is of (grain_word grain) (silo_word silo) makes (grain_in grain) (silo_in silo)
+  offer_makes of makes (grain ∷ silo ∷ []) =
+      two_in IsGrain IsSilo Is of (grain_word grain) (silo_word silo) makes (grain_in grain) (silo_in silo)
   offer_makes of makes (one ∷ two ∷ three ∷ words) = tt
+
+part_makes : Makes IsOwnStep a_part
+part_makes [] = tt
+part_makes (part ∷ []) = by (bytes_eq part ranges_word)
+  where
+    by : (b : Bool) → IfOk (cond b (Ok own.NudgeRanges) (a_grain own.NudgeGrain (part ∷ []))) IsOwnStep
+    by true = tt
+    by false = grain_makes IsOwnStep own.NudgeGrain (λ g is. is) (part ∷ [])
+part_makes (one ∷ two ∷ words) = tt
 
 -- ---- commands
 module _ (hashing : Hashing) where
@@ -112,13 +128,16 @@ module _ (hashing : Hashing) where
   join_asks [] = tt
   join_asks (one ∷ []) = tt
   join_asks (version ∷ silo ∷ words) =
-      three_in IsNumber IsSilo (All IsHash) (IsInRange hashing) (λ v s p. Joined v s (token_in words) p) (number_word version) (silo_word silo) (places_in (behind_token words))
+      three_in IsNumber IsSilo (All IsHash) (IsInRange hashing) (λ v s p. Joined v s (token_in words) p) (number_word version)
+      (silo_word silo) (places_in (behind_token words))
       (λ v s p first second third. (first, second, third)) (number_in version) (silo_in silo) (all_in (behind_token words))
 
-  change_asks : (of : ℕ → Silo → Asked) → ((version : ℕ) (silo : Silo) → IsNumber version → IsSilo silo → IsInRange hashing (of version silo)) → Asks (a_version_and_a_silo of)
+  change_asks : (of : ℕ → Silo → Asked) → ((version : ℕ) (silo : Silo) → IsNumber version → IsSilo silo
+      → IsInRange hashing (of version silo)) → Asks (a_version_and_a_silo of)
   change_asks of makes [] = tt
   change_asks of makes (one ∷ []) = tt
-  change_asks of makes (version ∷ silo ∷ []) = two_in IsNumber IsSilo (IsInRange hashing) of (number_word version) (silo_word silo) makes (number_in version) (silo_in silo)
+  change_asks of makes (version ∷ silo ∷ []) =
+      two_in IsNumber IsSilo (IsInRange hashing) of (number_word version) (silo_word silo) makes (number_in version) (silo_in silo)
   change_asks of makes (one ∷ two ∷ three ∷ words) = tt
 
   version_asks : Asks a_version
@@ -136,11 +155,14 @@ module _ (hashing : Hashing) where
   policy_asks [] = tt
   policy_asks (one ∷ []) = tt
   policy_asks (grain ∷ policy ∷ []) =
-      two_in IsGrain (λ p. ⊤) (IsInRange hashing) Place (grain_word grain) (own_policy_word policy) (λ g p first second. first) (grain_in grain) (of_given (λ p. ⊤) (own_policy_word policy) (λ p given. tt))
+      two_in IsGrain (λ p. ⊤) (IsInRange hashing) Place (grain_word grain) (own_policy_word policy) (λ g p first second. first)
+      (grain_in grain) (of_given (λ p. ⊤) (own_policy_word policy) (λ p given. tt))
   policy_asks (one ∷ two ∷ three ∷ words) = tt
 
   letter_asks : Asks (a_letter hashing)
-  letter_asks words = one_in (IsTold hashing) (IsInRange hashing) Receive (read_letter hashing words) (λ l is. is) (of_given (IsTold hashing) (read_letter hashing words) (λ l given. (was_told hashing words l given).told))
+  letter_asks words =
+      one_in (IsTold hashing) (IsInRange hashing) Receive (read_letter hashing words) (λ l is. is)
+      (of_given (IsTold hashing) (read_letter hashing words) (λ l given. (was_told hashing words l given).told))
 
   abbrev AskAll : List (List ℕ × Grammar Asked) → Type 0
   AskAll [] = ⊤
@@ -152,12 +174,15 @@ module _ (hashing : Hashing) where
     (
       grain_step_asks own.Close (λ g is. is),
       (
-        grain_step_asks own.Find (λ g is. is),
+        grain_step_asks own.Cancel (λ g is. is),
         (
-          grain_step_asks own.Forget (λ g is. is),
+          grain_step_asks own.Find (λ g is. is),
           (
-            step_asks (no_word own.Nudge) (none_makes IsOwnStep own.Nudge tt),
-            (step_asks (a_grain_and_a_silo own.Offer) (offer_makes IsOwnStep own.Offer (λ g s first second. (first, second))), tt),
+            grain_step_asks own.Forget (λ g is. is),
+            (
+              step_asks a_part part_makes,
+              (step_asks (a_grain_and_a_silo own.Offer) (offer_makes IsOwnStep own.Offer (λ g s first second. (first, second))), tt),
+            ),
           ),
         ),
       ),
@@ -175,7 +200,13 @@ module _ (hashing : Hashing) where
           version_asks,
           (
             letter_asks,
-            (word_asks, (grain_makes (IsInRange hashing) Owner (λ g is. is), (policy_asks, (none_asks Show tt, (none_asks Dump tt, steps_ask))))),
+            (
+              word_asks,
+              (
+                grain_makes (IsInRange hashing) Owner (λ g is. is),
+                (policy_asks, (none_asks Figures tt, (none_asks Show tt, (none_asks Dump tt, steps_ask)))),
+              ),
+            ),
           ),
         ),
       ),
@@ -193,12 +224,14 @@ module _ (hashing : Hashing) where
       same equal = cc
   given_says (Err fault) is asked given = cc given
 
-  known_says : (test : List ℕ → Bool) (named : List (List ℕ × Grammar Asked)) → AskAll named → (words : List (List ℕ)) → Says (asked_if_known (lookup test named) words)
+  known_says : (test : List ℕ → Bool) (named : List (List ℕ × Grammar Asked)) → AskAll named → (words : List (List ℕ))
+      → Says (asked_if_known (lookup test named) words)
   known_says test [] all words asked given = cc given
   known_says test (e ∷ named) all words asked given =
       by (test e.0) (known_says test named all.1 words) asked given
     where
-      by : (b : Bool) → Says (asked_if_known (lookup test named) words) → Says (asked_if_known (cond b (Some e.1) (lookup test named)) words)
+      by : (b : Bool) → Says (asked_if_known (lookup test named) words)
+          → Says (asked_if_known (cond b (Some e.1) (lookup test named)) words)
       by true later = given_says (e.1 words) (all.0 words)
       by false later = later
 

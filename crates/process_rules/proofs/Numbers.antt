@@ -45,14 +45,17 @@ unfolding digits
 decimal_glyphs n = onto_glyphs 64 n [] (All-nil IsGlyph)
 
 pub decimal_visible : (n : ℕ) → All IsVisible (decimal n)
-decimal_visible n = All-weaker IsGlyph IsVisible (λ byte is. let least = is.0 in (omega (arith, least), is.1)) (decimal n) (decimal_glyphs n)
+decimal_visible n =
+    All-weaker IsGlyph IsVisible (λ byte is. let least = is.0 in (omega (arith, least), is.1)) (decimal n) (decimal_glyphs n)
 
 abbrev IsSome : List ℕ → Type 0
 IsSome bytes = 0 < length bytes
 
 onto_some : (k n : ℕ) (acc : List ℕ) → 0 < k + length acc → IsSome (onto k n acc)
 onto_some zero n acc some = omega (arith, some)
-onto_some (suc k) n acc some = either IsSome (n / 10 == 0) (glyph n ∷ acc) (onto k (n / 10) (glyph n ∷ acc)) (omega arith) (onto_some k (n / 10) (glyph n ∷ acc) (omega arith))
+onto_some (suc k) n acc some =
+    either IsSome (n / 10 == 0) (glyph n ∷ acc) (onto k (n / 10) (glyph n ∷ acc)) (omega arith)
+    (onto_some k (n / 10) (glyph n ∷ acc) (omega arith))
 
 pub decimal_some : (n : ℕ) → 0 < length (decimal n)
 unfolding digits
@@ -61,7 +64,8 @@ decimal_some n = onto_some 64 n [] (omega arith)
 -- ---- by many, where it is very large
 onto_long : (k n : ℕ) (acc : List ℕ) → 10 ^ k ≤ n → length (onto k n acc) ≡ k + length acc
 onto_long zero n acc large = omega arith
-onto_long (suc k) n acc large = let many = pow-suc 10 k in by (n / 10 == 0) refl (onto_long k (n / 10) (glyph n ∷ acc) (omega (arith, many, large)))
+onto_long (suc k) n acc large =
+    let many = pow-suc 10 k in by (n / 10 == 0) refl (onto_long k (n / 10) (glyph n ∷ acc) (omega (arith, many, large)))
   where
     by : (b : Bool) → (n / 10 == 0) ≡ b → length (onto k (n / 10) (glyph n ∷ acc)) ≡ k + length (glyph n ∷ acc)
         → length (cond b (glyph n ∷ acc) (onto k (n / 10) (glyph n ∷ acc))) ≡ suc k + length acc
@@ -81,7 +85,9 @@ pub same_number : (n other : ℕ) → other < 2 ^ 64 → decimal n ≡ decimal o
 same_number n other small same = by (nat_lt n (10 ^ 64)) refl
   where
     by : (b : Bool) → nat_lt n (10 ^ 64) ≡ b → n ≡ other
-    by true is = sym (decimal_is_IsNumeral_wide n (ltb-true n (10 ^ 64) is)).1 ∙ ap (digits_value 10) same ∙ (decimal_is_IsNumeral_wide other (omega (arith, small))).1
+    by true is =
+        sym (decimal_is_IsNumeral_wide n (ltb-true n (10 ^ 64) is)).1 ∙ ap (digits_value 10) same
+        ∙ (decimal_is_IsNumeral_wide other (omega (arith, small))).1
     by false is =
         let long = decimal_long n (ltb-false n (10 ^ 64) is) in
         let short = length-decimal-le_wide 20 other (omega arith) (omega (arith, small)) (omega (arith, small)) in
@@ -92,5 +98,6 @@ pub number_said : (number : ℕ) → IsSaid (number_word (decimal number)) numbe
 number_said number = by (number_word (decimal number)) refl
   where
     by : (read : Result ℕ ℕ) → number_word (decimal number) ≡ read → IsSaid read number
-    by (Ok other) reads = sym (same_number number other (number_told (decimal number) other reads) (number_gave (decimal number) other reads))
+    by (Ok other) reads =
+        sym (same_number number other (number_told (decimal number) other reads) (number_gave (decimal number) other reads))
     by (Err fault) reads = tt

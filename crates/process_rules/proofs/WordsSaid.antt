@@ -37,16 +37,22 @@ IsFree = All (λ byte. is_exclamation_mark byte ≡ false)
 free_numeral : (word : List ℕ) → IsNumeral word → IsFree word
 free_numeral word numeral = λ k d below. ne_eqb _ _ (λ same. let digit = numeral.digits k d below in absurd (omega arith))
 
-free_mark : (word : List ℕ) (mark : ℕ) (rest : List ℕ) → IsNumeral word → is_exclamation_mark mark ≡ false → IsFree rest → IsFree (word ++ mark ∷ rest)
-free_mark word mark rest numeral other free = All-append (λ byte. is_exclamation_mark byte ≡ false) word (mark ∷ rest) (free_numeral word numeral) (All-cons (λ byte. is_exclamation_mark byte ≡ false) mark rest other free)
+free_mark : (word : List ℕ) (mark : ℕ) (rest : List ℕ) → IsNumeral word → is_exclamation_mark mark ≡ false → IsFree rest
+    → IsFree (word ++ mark ∷ rest)
+free_mark word mark rest numeral other free =
+    All-append (λ byte. is_exclamation_mark byte ≡ false) word (mark ∷ rest) (free_numeral word numeral)
+    (All-cons (λ byte. is_exclamation_mark byte ≡ false) mark rest other free)
 
 free_words : (words : Words) → AreNumerals words → IsFree (words_text words)
 free_words words n =
     free_mark words.first dot _ n.first refl (free_mark words.second dot _ n.second refl (free_mark words.third dot _ n.third refl
-    (free_mark words.fourth colon _ n.fourth refl (free_mark words.port at_sign _ n.port refl (free_numeral words.generation n.generation)))))
+    (free_mark words.fourth colon _ n.fourth refl (free_mark words.port at_sign _ n.port refl
+    (free_numeral words.generation n.generation)))))
 
 -- ---- activations
-activation_reads : (activation : ActivationId) → IsSilo activation.silo → read_activation (activation_text activation) ≡ activation_of (Ok activation.silo) (read_number 18446744073709551615 (decimal activation.count))
+activation_reads : (activation : ActivationId) → IsSilo activation.silo
+    → read_activation (activation_text activation) ≡ activation_of (Ok activation.silo)
+    (read_number 18446744073709551615 (decimal activation.count))
 activation_reads activation is =
     let text = activation_text activation in
     let front = silo_text activation.silo in
@@ -58,19 +64,23 @@ activation_reads activation is =
     let before : before_first is_exclamation_mark text ≡ front = before_first-cut is_exclamation_mark front exclamation_mark back cut in
     let behind : after_first is_exclamation_mark text ≡ back = after_first-cut is_exclamation_mark front exclamation_mark back cut in
     read_activation-cut text inside
-    ∙ (λ i. activation_of (silo_only (before_first is_exclamation_mark text) activation.silo is before i) (read_number 18446744073709551615 (behind i)))
+    ∙ (λ i. activation_of (silo_only (before_first is_exclamation_mark text) activation.silo is before i)
+    (read_number 18446744073709551615 (behind i)))
 
 abbrev counted : (silo : Silo) (count : ℕ) → ActivationId
 counted silo count = record { silo = silo; count = count }
 
-counted_said : (silo : Silo) (count : ℕ) (read : Result ℕ NumberError) → IsSaid (number_or_fault read) count → IsSaid (activation_or_fault (activation_of (Ok silo) read)) (counted silo count)
+counted_said : (silo : Silo) (count : ℕ) (read : Result ℕ NumberError) → IsSaid (number_or_fault read) count
+    → IsSaid (activation_or_fault (activation_of (Ok silo) read)) (counted silo count)
 counted_said silo count (Ok other) same = ap (counted silo) same
 counted_said silo count (Err fault) same = tt
 
-pub activation_said : (activation : ActivationId) → IsSilo activation.silo → IsSaid (activation_word (activation_text activation)) activation
+pub activation_said : (activation : ActivationId) → IsSilo activation.silo
+    → IsSaid (activation_word (activation_text activation)) activation
 activation_said activation is =
     subst (λ read. IsSaid (activation_or_fault read) activation) (sym (activation_reads activation is))
-    (counted_said activation.silo activation.count (read_number 18446744073709551615 (decimal activation.count)) (number_said activation.count))
+    (counted_said activation.silo activation.count (read_number 18446744073709551615 (decimal activation.count))
+    (number_said activation.count))
 
 -- ---- ranges
 range_words : (range : Range) → HasWords (range_text range) (decimal range.start) (decimal range.size)
@@ -113,13 +123,17 @@ abbrev more : Entry → List Entry → List Entry
 more entry entries = entry ∷ entries
 
 module _ (Fits : ℕ → Type 0) where
-  pub entry_said : (entry : Entry) → IsEntry Fits entry → IsSaid (entry_of_words (grain_text entry.grain) (activation_text entry.activation)) entry
+  pub entry_said : (entry : Entry) → IsEntry Fits entry
+      → IsSaid (entry_of_words (grain_text entry.grain) (activation_text entry.activation)) entry
   entry_said entry is =
-      two_said entry_with (grain_word (grain_text entry.grain)) (activation_word (activation_text entry.activation)) entry.grain entry.activation
-      (is_said (grain_word (grain_text entry.grain)) entry.grain (grain_again entry.grain is.grain)) (activation_said entry.activation is.activation.silo)
+      two_said entry_with (grain_word (grain_text entry.grain)) (activation_word (activation_text entry.activation)) entry.grain
+      entry.activation
+      (is_said (grain_word (grain_text entry.grain)) entry.grain (grain_again entry.grain is.grain))
+      (activation_said entry.activation is.activation.silo)
 
   pub entries_said : (entries : List Entry) → All (IsEntry Fits) entries → IsSaid (entries_in (entries_words entries)) entries
   entries_said [] all = refl
   entries_said (entry ∷ entries) all =
-      two_said more (entry_of_words (grain_text entry.grain) (activation_text entry.activation)) (entries_in (entries_words entries)) entry entries
+      two_said more (entry_of_words (grain_text entry.grain) (activation_text entry.activation)) (entries_in (entries_words entries)) entry
+      entries
       (entry_said entry (All-head (IsEntry Fits) entry entries all)) (entries_said entries (All-tail (IsEntry Fits) entry entries all))

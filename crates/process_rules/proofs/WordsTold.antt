@@ -77,8 +77,10 @@ pub silo_told : (word : List ℕ) (silo : Silo) → silo_word word ≡ Ok silo �
 silo_told word silo given = silo_from silo (read_silo word) (silo_reads word) given
 
 -- ---- grains
-grain_by : (word : List ℕ) (cut short visible : Bool) → is_cut word ≡ cut → is_short_enough (grain_at_slash word) ≡ short → list_all is_visible word ≡ visible
-    → IfOk (cond cut (cond short (cond visible (Ok (grain_at_slash word)) (Err grain_fault.Byte)) (Err grain_fault.TooLong)) (Err grain_fault.Shape)) IsGrain
+grain_by : (word : List ℕ) (cut short visible : Bool) → is_cut word ≡ cut → is_short_enough (grain_at_slash word) ≡ short
+    → list_all is_visible word ≡ visible
+    → IfOk (cond cut (cond short (cond visible (Ok (grain_at_slash word)) (Err grain_fault.Byte)) (Err grain_fault.TooLong))
+    (Err grain_fault.Shape)) IsGrain
 grain_by word true true true is_cut is_short is_visible =
     let into = is_cut_takes word is_cut in record {
       cut = into.cut;
@@ -101,7 +103,8 @@ pub grain_told : (word : List ℕ) (grain : Grain) → grain_word word ≡ Ok gr
 grain_told word grain given = grain_from grain (read_grain word) (grain_reads word) given
 
 -- ---- activations
-activation_with : (silo : Result Silo SiloError) (count : Result ℕ NumberError) → IfOk silo IsSilo → IfOk count IsNumber → IfOk (activation_of silo count) (IsActivation IsNumber)
+activation_with : (silo : Result Silo SiloError) (count : Result ℕ NumberError) → IfOk silo IsSilo → IfOk count IsNumber
+    → IfOk (activation_of silo count) (IsActivation IsNumber)
 activation_with (Ok silo) (Ok count) is_silo is_count = record { silo = is_silo; count = is_count }
 activation_with (Ok silo) (Err fault) is_silo is_count = tt
 activation_with (Err fault) count is_silo is_count = tt
@@ -110,13 +113,16 @@ activation_reads : (word : List ℕ) → IfOk (read_activation word) (IsActivati
 unfolding read_activation
 activation_reads word = by (nat_lt (position_or_len is_exclamation_mark word) (length word))
   where
-    by : (marked : Bool) → IfOk (cond marked (activation_of (read_silo (before_first is_exclamation_mark word)) (read_number 18446744073709551615 (after_first is_exclamation_mark word))) (Err activation_fault.Shape)) (IsActivation IsNumber)
+    by : (marked : Bool) → IfOk (cond marked (activation_of (read_silo (before_first is_exclamation_mark word))
+        (read_number 18446744073709551615 (after_first is_exclamation_mark word))) (Err activation_fault.Shape)) (IsActivation IsNumber)
     by true =
-        activation_with (read_silo (before_first is_exclamation_mark word)) (read_number 18446744073709551615 (after_first is_exclamation_mark word))
+        activation_with (read_silo (before_first is_exclamation_mark word))
+        (read_number 18446744073709551615 (after_first is_exclamation_mark word))
         (silo_reads (before_first is_exclamation_mark word)) (number_reads (after_first is_exclamation_mark word))
     by false = tt
 
-activation_from : (activation : ActivationId) (read : Result ActivationId ActivationError) → IfOk read (IsActivation IsNumber) → activation_or_fault read ≡ Ok activation → IsActivation IsNumber activation
+activation_from : (activation : ActivationId) (read : Result ActivationId ActivationError) → IfOk read (IsActivation IsNumber)
+    → activation_or_fault read ≡ Ok activation → IsActivation IsNumber activation
 activation_from activation (Ok other) found given = subst (IsActivation IsNumber) (ok_is given) found
 activation_from activation (Err fault) found given = cc given
 
@@ -130,14 +136,17 @@ range_by range true is =
     record { start_below = ltb-true range.start circle parts.0; size_within = leb-true range.size circle parts.1 }
 range_by range false is = tt
 
-range_with : (range : Range) (words numerals : Bool) → IfOk (cond words (cond numerals (if_range range) (Err range_fault.NotANumber)) (Err range_fault.Shape)) IsRange
+range_with : (range : Range) (words numerals : Bool)
+    → IfOk (cond words (cond numerals (if_range range) (Err range_fault.NotANumber)) (Err range_fault.Shape)) IsRange
 range_with range true true = range_by range (is_range range) refl
 range_with range true false = tt
 range_with range false numerals = tt
 
 range_reads : (word : List ℕ) → IfOk (read_range word) IsRange
 unfolding read_range
-range_reads word = range_with (range_by_words (start_word word) (size_word word)) (has_words word) (is_numeral (start_word word) && is_numeral (size_word word))
+range_reads word =
+    range_with (range_by_words (start_word word) (size_word word)) (has_words word)
+    (is_numeral (start_word word) && is_numeral (size_word word))
 
 range_from : (range : Range) (read : Result Range RangeTextError) → IfOk read IsRange → range_or_fault read ≡ Ok range → IsRange range
 range_from range (Ok other) found given = subst IsRange (ok_is given) found
@@ -154,11 +163,13 @@ digest_reads word digest is =
     let half = parts.2 in
     record { long = omega (arith, twice, half); bytes = parts.3 }
 
-digest_if : (digest other : List ℕ) (same : Bool) → IsDigest other → ◌≡◌ {A = Result (List ℕ) ℕ} (cond same (Ok other) (Err 930)) (Ok digest) → IsDigest digest
+digest_if : (digest other : List ℕ) (same : Bool) → IsDigest other
+    → ◌≡◌ {A = Result (List ℕ) ℕ} (cond same (Ok other) (Err 930)) (Ok digest) → IsDigest digest
 digest_if digest other true is given = subst IsDigest (ok_is given) is
 digest_if digest other false is given = cc given
 
-digest_from : (word digest : List ℕ) (read : Result (List ℕ) FromHexError) → decode_sized word 32 ≡ read → digest_or_fault word read ≡ Ok digest → IsDigest digest
+digest_from : (word digest : List ℕ) (read : Result (List ℕ) FromHexError) → decode_sized word 32 ≡ read
+    → digest_or_fault word read ≡ Ok digest → IsDigest digest
 digest_from word digest (Ok other) is given = digest_if digest other (bytes_eq (encode_lower other) word) (digest_reads word other is) given
 digest_from word digest (Err fault) is given = cc given
 
@@ -172,7 +183,11 @@ entry_with grain activation = record { grain = grain; activation = activation }
 pub entry_told : (grain activation : List ℕ) (entry : Entry) → entry_of_words grain activation ≡ Ok entry → IsEntry IsNumber entry
 entry_told grain activation entry given =
     let parts = two_gave entry_with (grain_word grain) (activation_word activation) entry given in
-    subst (IsEntry IsNumber) parts.4 (record { grain = grain_told grain parts.0 parts.2; activation = activation_told activation parts.1 parts.3 })
+    subst (IsEntry IsNumber) parts.4 (record {
+      grain = grain_told grain parts.0 parts.2;
+      activation = activation_told activation parts.1
+          parts.3;
+    })
 
 abbrev more : Entry → List Entry → List Entry
 more entry entries = entry ∷ entries
@@ -182,4 +197,5 @@ entries_told [] entries given = subst (All (IsEntry IsNumber)) (ok_is given) (Al
 entries_told (one ∷ []) entries given = cc given
 entries_told (grain ∷ activation ∷ words) entries given =
     let parts = two_gave more (entry_of_words grain activation) (entries_in words) entries given in
-    subst (All (IsEntry IsNumber)) parts.4 (All-cons (IsEntry IsNumber) parts.0 parts.1 (entry_told grain activation parts.0 parts.2) (entries_told words parts.1 parts.3))
+    subst (All (IsEntry IsNumber)) parts.4 (All-cons (IsEntry IsNumber) parts.0 parts.1 (entry_told grain activation parts.0 parts.2)
+    (entries_told words parts.1 parts.3))

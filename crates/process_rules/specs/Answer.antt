@@ -8,7 +8,7 @@ use Rattle.directory_rules.specs.declared.effect.Effect.{Effect}
 use Rattle.directory_rules.specs.declared.outcome.Happening.TheVariants.{Saw, Did}
 use Rattle.directory_rules.specs.declared.own_step.OwnStep.{OwnStep}
 use Rattle.directory_rules.specs.Input.{Does}
-use Rattle.directory_rules.specs.Letter.{Letter}
+use Rattle.directory_rules.specs.State.{Letter}
 use Rattle.directory_rules.specs.Step.{Stepped}
 use Rattle.silo_rules.specs.declared.news.News.{News}
 use Rattle.directory_rules.specs.Membership.{Change, Join, Leave, Die}
@@ -17,9 +17,9 @@ use Rattle.silo_rules.specs.Steps.{does, sees, receives}
 use Rattle.silo_rules.specs.Told.{Heard, told}
 use Rattle.script_rules.specs.Lines.{happening_words, refusal_line}
 use Rattle.process_rules.specs.LetterText.{letter_line}
-use Rattle.process_rules.specs.ReadLine.{Asked, Joined, Leaving, Dead, See, Do, Receive, Ping, Owner, Place, Show, Dump}
+use Rattle.process_rules.specs.ReadLine.{Asked, Joined, Leaving, Dead, See, Do, Receive, Ping, Owner, Place, Figures, Show, Dump}
 use Rattle.process_rules.specs.Happened.{news_words, received_words}
-use Rattle.process_rules.specs.Show.{show_lines, dump_line, grain_owner_line, grain_place_line}
+use Rattle.process_rules.specs.Show.{show_lines, dump_line, grain_owner_line, grain_place_line, figures_line}
 
 -- what is printed, the silo after it, and whether the process ends there
 pub record Answered : Type 0 where
@@ -92,6 +92,7 @@ answered (Receive letter) s = received_so letter s
 answered (Ping word) s = printing (sentence (codes "pong" ∷ word ∷ []) ∷ []) s
 answered (Owner grain) s = printing (grain_owner_line s grain ∷ []) s
 answered (Place grain policy) s = printing (grain_place_line s grain policy ∷ []) s
+answered Figures s = printing (figures_line s ∷ []) s
 answered Show s = printing (show_lines s) s
 answered Dump s = printing (dump_line s ∷ []) s
 

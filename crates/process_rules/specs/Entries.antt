@@ -1,6 +1,6 @@
 -- Letters that tell entries.
 use Rattle.std.specs.Prelude.{◌≢◌, []}
-use Rattle.directory_rules.specs.Letter.{Body, Page_letter, Report_letter}
+use Rattle.directory_rules.specs.State.{Body, Page_letter, Report_letter}
 
 -- a page or a report that tells at least one entry
 abbrev pub TellsEntries : Body → Type 0

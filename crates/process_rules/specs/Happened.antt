@@ -14,8 +14,9 @@ use Rattle.directory_rules.specs.declared.held.Held.{Held}
 use Rattle.directory_rules.specs.declared.reply.Reply.{Reply}
 use Rattle.directory_rules.specs.declared.reply.Reply.TheVariants as reply
 use Rattle.directory_rules.specs.declared.outcome.Happening.TheVariants.{Did, Joined, Left, Died}
-use Rattle.directory_rules.specs.Host.{Host, entry_of, asking_under, closing_under}
-use Rattle.directory_rules.specs.Letter.{Letter, Body, Reply_letter, Offer_letter, kind_of}
+use Rattle.directory_rules.specs.State.{Host, Letter, Body, Reply_letter, Offer_letter}
+use Rattle.directory_rules.specs.Host.{entry_of, asking_under, closing_under}
+use Rattle.directory_rules.specs.Letter.{kind_of}
 use Rattle.silo_rules.specs.declared.news.News.{News}
 use Rattle.silo_rules.specs.declared.news.News.TheVariants.{Known, Made, Replaced}
 use Rattle.directory_rules.specs.Membership.{Change, Join, Leave, Die}

@@ -5,7 +5,7 @@ use Rattle.silo_address.specs.Grain.{IsGrain}
 use Rattle.ring_range.specs.Range.{circle}
 use Rattle.hash_ring.specs.declared.hashing.Hashing.{Hashing}
 use Rattle.directory_rules.specs.OwnStep.{IsOwnStep}
-use Rattle.process_rules.specs.ReadLine.{Asked, Joined, Leaving, Dead, See, Do, Receive, Ping, Owner, Place, Show, Dump}
+use Rattle.process_rules.specs.ReadLine.{Asked, Joined, Leaving, Dead, See, Do, Receive, Ping, Owner, Place, Figures, Show, Dump}
 use Rattle.process_rules.specs.Told.{IsNumber, IsTold}
 
 -- versions are below 2^64, silos and grains are such, places are hashes, and a letter is one that a line can tell
@@ -19,5 +19,6 @@ IsInRange hashing (Receive letter) = IsTold hashing letter
 IsInRange hashing (Ping word) = ⊤
 IsInRange hashing (Owner grain) = IsGrain grain
 IsInRange hashing (Place grain policy) = IsGrain grain
+IsInRange hashing Figures = ⊤
 IsInRange hashing Show = ⊤
 IsInRange hashing Dump = ⊤

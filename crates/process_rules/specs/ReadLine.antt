@@ -10,7 +10,7 @@ use Rattle.hash_ring.specs.declared.hashing.Hashing.{Hashing}
 use Rattle.directory_rules.specs.declared.policy.Policy.{Policy}
 use Rattle.directory_rules.specs.declared.policy.Policy.TheVariants.{LeastHeld}
 use Rattle.directory_rules.specs.declared.own_step.OwnStep.{OwnStep}
-use Rattle.directory_rules.specs.Letter.{Letter}
+use Rattle.directory_rules.specs.State.{Letter}
 use Rattle.script_rules.specs.Script.{silo_word, grain_word, number_word, places_in, policy_word, Grammar, no_word, a_grain, own_steps, is_text, is_remark, ◌>>=◌}
 use Rattle.process_rules.specs.ReadLetter.{read_letter}
 
@@ -30,6 +30,7 @@ pub data Asked : Type 0 where
   Ping : (word : List ℕ) → Asked
   Owner : Grain → Asked
   Place : Grain → Policy → Asked
+  Figures : Asked
   Show : Asked
   Dump : Asked
 
@@ -125,6 +126,7 @@ commands hashing =
     ∷ (codes "ping", a_word)
     ∷ (codes "owner", a_grain Owner)
     ∷ (codes "place", a_grain_and_a_policy)
+    ∷ (codes "status", no_word Figures)
     ∷ (codes "show", no_word Show)
     ∷ (codes "dump", no_word Dump)
     ∷ step_commands

@@ -1,4 +1,4 @@
--- What `show`, `dump`, `owner` and `place` print of one silo.
+-- What `show`, `dump`, `status`, `owner` and `place` print of one silo.
 use Rattle.std.specs.Prelude.{ℕ, List, [], ◌∷◌, ◌++◌, map, length, codes, Option, Some, None}
 use Rattle.std.specs.Fmt.{decimal}
 use Rattle.texts.specs.Words.{sentence}
@@ -12,9 +12,10 @@ use Rattle.directory_rules.specs.declared.policy.Policy.{Policy}
 use Rattle.directory_rules.specs.Placement.{silo_for}
 use Rattle.directory_rules.specs.declared.piece_state.PieceState.{PieceState}
 use Rattle.directory_rules.specs.declared.piece_state.PieceState.TheVariants as state
-use Rattle.directory_rules.specs.Piece.{Piece}
-use Rattle.directory_rules.specs.Table.{Table}
+use Rattle.directory_rules.specs.State.{Piece, Table}
 use Rattle.silo_rules.specs.SiloValue.{SiloValue, own_status}
+use Rattle.silo_rules.specs.declared.figures.Figures.{Figures}
+use Rattle.silo_rules.specs.Figures.{figures}
 use Rattle.script_rules.specs.Show.{status_word, seen_words, held_lines, owner_words, place_words}
 use Rattle.dump_rules.specs.Dump.{dump_node, node_json}
 
@@ -43,6 +44,25 @@ show_lines s =
 -- the line of `dump`: the silo's object in a dump
 unfoldable pub dump_line : SiloValue → List ℕ
 dump_line s = node_json (dump_node s.node.host.silo s.node)
+
+-- ---- In figures.
+
+-- each figure, behind its name: what was seen stands first, and has none
+abbrev pub figures_words : Figures → List (List ℕ)
+figures_words it =
+    decimal it.seen
+    ∷ codes "known" ∷ decimal it.known
+    ∷ codes "held" ∷ decimal it.held
+    ∷ codes "asking" ∷ decimal it.asking
+    ∷ codes "closing" ∷ decimal it.closing
+    ∷ codes "finding" ∷ decimal it.finding
+    ∷ codes "unsettled" ∷ decimal it.unsettled
+    ∷ codes "kept" ∷ decimal it.kept
+    ∷ []
+
+-- the line of `status`
+unfoldable pub figures_line : SiloValue → List ℕ
+figures_line s = sentence (codes "status" ∷ figures_words (figures s))
 
 -- ---- By the view that the silo has seen.
 

@@ -16,10 +16,8 @@ use Rattle.directory_rules.specs.declared.reply.Why.{Why}
 use Rattle.directory_rules.specs.declared.reply.Why.TheVariants as why
 use Rattle.directory_rules.specs.declared.reply.Reply.{Reply}
 use Rattle.directory_rules.specs.declared.reply.Reply.TheVariants as reply
-use Rattle.directory_rules.specs.Sent.{grain_of}
-use Rattle.directory_rules.specs.Snapshot.{Page}
-use Rattle.directory_rules.specs.Recovery.{Report}
-use Rattle.directory_rules.specs.Letter.{Letter, Body, Request_letter, Reply_letter, Ask_letter, Page_letter, Missing_letter, Done_letter, Query_letter, Report_letter, Behind_letter, Ahead_letter, Offer_letter}
+use Rattle.directory_rules.specs.Host.{grain_of}
+use Rattle.directory_rules.specs.State.{Page, Report, Letter, Body, Request_letter, Reply_letter, Ask_letter, Page_letter, Missing_letter, Done_letter, Query_letter, Report_letter, Behind_letter, Ahead_letter, Offer_letter}
 
 -- a version, the count of an activation, or the number of a request or a page, where a line is to tell it
 abbrev pub IsNumber : ℕ → Type 0

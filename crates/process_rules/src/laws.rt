@@ -3,7 +3,7 @@
 ghost use Rattle.std.specs.Prelude.{◌≡◌, ◌≤◌, ℕ, IfOk, List, ◌∷◌, Ok, Some, codes, length, [], ◌++◌, false, true, Option, Result, Err};
 ghost use Rattle.texts.specs.Words.{words_in, line_feed};
 ghost use Rattle.hash_ring.specs.declared.hashing.Hashing.{Hashing};
-ghost use Rattle.directory_rules.specs.Letter.{Letter};
+ghost use Rattle.directory_rules.specs.State.{Letter};
 ghost use Rattle.process_rules.specs.LetterText.{letter_line, letter_words};
 ghost use Rattle.process_rules.specs.ReadLetter.{read_letter};
 ghost use Rattle.process_rules.specs.ReadLine.{Asked, Receive, longest_line, read_silo_line};

@@ -11,9 +11,7 @@ use Rattle.std.specs.BTreeMap.{is_at}
 use Rattle.std.proofs.lemmas.List.Elements.{All-nil, All-cons}
 use Rattle.silo_address.specs.Silo.{Silo, IsSilo, silo_cmp}
 use Rattle.silo_address.proofs.Order.{silo_cmp_total, silo_cmp_exact}
-use Rattle.directory_rules.specs.Letter.{Letter}
-use Rattle.directory_rules.specs.Node.{Node}
-use Rattle.directory_rules.specs.World.{World}
+use Rattle.directory_rules.specs.State.{Letter, Node, World}
 use Rattle.directory_rules.specs.Mail.{fresh_letter}
 use Rattle.directory_rules.specs.Happens.{least_deliverable}
 use Rattle.directory_facts.proofs.Entries.{found_so, same_key}
@@ -37,18 +35,30 @@ sorted_apart (e ∷ es) sorted = AllPairs-cons (λ (a later : Silo × Node). a.0
     others : (es : List (Silo × Node)) → AllByRecursion (λ y. silo_cmp e.0 y ≡ Less) (keys_of es) → All (λ x. e.0 ≢ x.0) es
     others [] above = All-nil (λ (x : Silo × Node). e.0 ≢ x.0)
     others (x ∷ xs) above =
-        All-cons (λ (y : Silo × Node). e.0 ≢ y.0) x xs (λ same. let tied = tied_itself silo_cmp_total e.0 in let less = ap (silo_cmp e.0) same ∙ above.0 in cc (tied, less))
+        All-cons (λ (y : Silo × Node). e.0 ≢ y.0) x xs (λ same. let tied = tied_itself silo_cmp_total e.0 in
+        let less = ap (silo_cmp e.0) same ∙ above.0 in cc (tied, less))
         (others xs above.1)
 
 pub nodes_silos : (world : World) → IsResting world → All (λ e. IsSilo e.0) world.nodes
-nodes_silos world rests = subst (λ (w : World). All (λ e. IsSilo e.0) w.nodes) (sym rests.is) (silos rests.settings rests.events rests.are rests.named)
+nodes_silos world rests =
+    subst (λ (w : World). All (λ e. IsSilo e.0) w.nodes) (sym rests.is) (silos rests.settings rests.events rests.are rests.named)
 
 pub none_fly : (world : World) (k : ℕ) (l : Letter) → least_deliverable world ≡ None → Flies world k l → ⊥
-none_fly world k l none f = nothing_comes world (λ x. x ≡ l) none (record { number = k; posted = fresh_letter l; found = f.found; fresh = refl; comes = f.comes; letter = refl })
+none_fly world k l none f =
+    nothing_comes world (λ x. x ≡ l) none (record {
+      number = k;
+      posted = fresh_letter l;
+      found = f.found;
+      fresh = refl;
+      comes = f.comes;
+      letter = refl;
+    })
 
 pub begins : (world : World) → IsResting world → AreSettled world → least_deliverable world ≡ None → IsNudgingOn world.nodes world
 begins world rests all none = record {
-  apart = sorted_apart world.nodes (subst (λ w. IsStrictlySortedBy silo_cmp (keys_of w.nodes)) (sym rests.is) (peopled_after rests.settings rests.events rests.are).by_address);
+  apart =
+      sorted_apart world.nodes (subst (λ w. IsStrictlySortedBy silo_cmp (keys_of w.nodes)) (sym rests.is)
+      (peopled_after rests.settings rests.events rests.are).by_address);
   answering = record {
     rests = rests;
     settled = all;
@@ -65,5 +75,7 @@ begins world rests all none = record {
 }
 
 -- ---- all are nudged
-pub all_nudged : (world next : World) → IsResting world → AreSettled world → least_deliverable world ≡ None → plan.nudged world ≡ Ok next → IsAnswering true next [] next
-all_nudged world next rests all none made = (nudging_keeps IsNudgingOn nudge_on world.nodes world next (nodes_silos world rests) (begins world rests all none) made).answering
+pub all_nudged : (world next : World) → IsResting world → AreSettled world → least_deliverable world ≡ None → plan.nudged world ≡ Ok next
+    → IsAnswering true next [] next
+all_nudged world next rests all none made =
+    (nudging_keeps IsNudgingOn nudge_on world.nodes world next (nodes_silos world rests) (begins world rests all none) made).answering

@@ -12,8 +12,7 @@ use Rattle.directory_rules.specs.Event.{Event, IsEvent}
 use Rattle.directory_rules.specs.Answer.{is_numbered}
 use Rattle.directory_rules.specs.Host.{held_acts, find_acts, outstanding}
 use Rattle.directory_rules.specs.Laws.{requests_of}
-use Rattle.directory_rules.specs.Node.{Node}
-use Rattle.directory_rules.specs.World.{World}
+use Rattle.directory_rules.specs.State.{Node, World}
 use Rattle.directory_rules.specs.Happens.{node_of}
 use Rattle.directory_facts.specs.Laws.{world_by}
 use Rattle.progress_rules.specs.Plan.{and_then, synced, IsBack, IsBackUnowned, HasOwners}
@@ -38,7 +37,9 @@ AtMost base most world = (silo : Silo) (node : Node) → node_of world silo ≡ 
 
 -- nor a find that has an owner
 abbrev FindsNone : (base world : World) → Type 0
-FindsNone base world = (silo : Silo) (node : Node) → node_of world silo ≡ Some node → (e : ℕ × Act) → Owes node.host e → (owner : Silo) → owner_in base e.1 ≡ Some owner
+FindsNone base world =
+    (silo : Silo) (node : Node) → node_of world silo ≡ Some node → (e : ℕ × Act) → Owes node.host e → (owner : Silo)
+    → owner_in base e.1 ≡ Some owner
     → is_numbered e.1 ≡ true
 
 record IsOver (base : World) (most : ℕ) (world : World) : Type 0 where
@@ -46,7 +47,8 @@ record IsOver (base : World) (most : ℕ) (world : World) : Type 0 where
   pub at_most : AtMost base most world
   pub finds_none : FindsNone base world
 
-round_over : (base : World) (order : List ℕ) (most : ℕ) (world after : World) → IsStill base world → AtMost base (suc most) world → round_in order world ≡ Ok after
+round_over : (base : World) (order : List ℕ) (most : ℕ) (world after : World) → IsStill base world → AtMost base (suc most) world
+    → round_in order world ≡ Ok after
     → IsOver base most after
 round_over base order most world after still at_most is =
     let so = round_falls base order world after still is in
@@ -61,19 +63,23 @@ round_over base order most world after still at_most is =
     }
 
 -- what each round of so many more keeps, they keep
-rounds_keep : (I : ℕ → World → Type 0) → ((order : List ℕ) (more : ℕ) (world after : World) → I (suc more) world → round_in order world ≡ Ok after → I more after)
+rounds_keep : (I : ℕ → World → Type 0) → ((order : List ℕ) (more : ℕ) (world after : World) → I (suc more) world
+    → round_in order world ≡ Ok after → I more after)
     → (orders : List (List ℕ)) (world after : World) → I (length orders) world → rounds_in orders world ≡ Ok after
     → I 0 after
 rounds_keep I k [] world after holds is = let same : world ≡ after = cc (is) in subst (I 0) same holds
-rounds_keep I k (order ∷ orders) world after holds is = by (round_in order world) refl (λ next now rest. rounds_keep I k orders next after now rest) is
+rounds_keep I k (order ∷ orders) world after holds is =
+    by (round_in order world) refl (λ next now rest. rounds_keep I k orders next after now rest) is
   where
-    by : (r : Result World ℕ) → round_in order world ≡ r → ((next : World) → I (length orders) next → rounds_in orders next ≡ Ok after → I 0 after)
+    by : (r : Result World ℕ) → round_in order world ≡ r
+        → ((next : World) → I (length orders) next → rounds_in orders next ≡ Ok after → I 0 after)
         → and_then r (λ next. rounds_in orders next) ≡ Ok after → I 0 after
     by (Err number) made later is = absurd (cc (is))
     by (Ok next) made later is = later next (k order (length orders) world next holds made) is
 
 -- ---- then nobody waits
-none_waits : (base after : World) → IsOver base 0 after → HasOwners after → (silo : Silo) (node : Node) → node_of after silo ≡ Some node → outstanding node.host ≡ []
+none_waits : (base after : World) → IsOver base 0 after → HasOwners after → (silo : Silo) (node : Node) → node_of after silo ≡ Some node
+    → outstanding node.host ≡ []
 none_waits base after over owned silo node there =
     let many = (node_facts after over.still.rests silo node there).numbered.many in
     let none = by (requests_of node.host) refl in
@@ -115,18 +121,22 @@ comes_back_in_any_order settings events first orders settled after are named is 
       delivered = over.still.none;
     }
 
-    further : (order : List ℕ) (orders : List (List ℕ)) → AreAtMost (length (order ∷ orders)) settled → (r : Result World ℕ) → round_in order settled ≡ r
+    further : (order : List ℕ) (orders : List (List ℕ)) → AreAtMost (length (order ∷ orders)) settled → (r : Result World ℕ)
+        → round_in order settled ≡ r
         → and_then r (λ next. rounds_in orders next) ≡ Ok after → IsBack after
     further order orders at_most (Err number) made is_rounds = absurd (cc (is_rounds))
     further order orders at_most (Ok next) made is_rounds =
         let still = still_first settings events first settled are named is in
         let over =
         round_over settled order (length orders) settled next still
-        (λ silo node there owner. let few = at_most silo node owner there in let here = asked_same settled still.rests silo node there owner in omega (arith, few, here)) made in
+        (λ silo node there owner. let few = at_most silo node owner there in
+        let here = asked_same settled still.rests silo node there owner in omega (arith, few, here)) made in
         back (rounds_keep (IsOver settled)
-        (λ order more world after over made. round_over settled order more world after over.still over.at_most made) orders next after over is_rounds)
+        (λ order more world after over made. round_over settled order more world after over.still over.at_most made) orders next after over
+        is_rounds)
 
-    by : (orders : List (List ℕ)) → AreAtMost (length orders) settled → 1 ≤ length orders → rounds_in orders settled ≡ Ok after → IsBack after
+    by : (orders : List (List ℕ)) → AreAtMost (length orders) settled → 1 ≤ length orders → rounds_in orders settled ≡ Ok after
+        → IsBack after
     by [] at_most some rounds = absurd (omega (arith, some))
     by (order ∷ orders) at_most some rounds = further order orders at_most (round_in order settled) refl rounds
 
@@ -142,13 +152,15 @@ comes_back_in_any_order_unowned settings events first orders after are named is 
         let last = rounds_keep (λ more w. IsStill settled w) (λ order more world after now ok. (round_falls settled order world after now ok).0) orders settled after still is in
         record { seen = seen_still settled after last; pieces = last.settled; delivered = last.none }
 
-    by : (r : Result World ℕ) → synced (world_by settings events) ≡ r → and_then r (λ world. rounds_in (first ∷ orders) world) ≡ Ok after → IsBackUnowned after
+    by : (r : Result World ℕ) → synced (world_by settings events) ≡ r → and_then r (λ world. rounds_in (first ∷ orders) world) ≡ Ok after
+        → IsBackUnowned after
     by (Err number) seen is = absurd (cc (is))
     by (Ok world) seen is = further world seen (round_in first world) refl is
 
 -- ---- each round serves
 pub rounds_serve : RoundsServe
-rounds_serve settings events order after are named have all none is owned silo before node there here = (no_finds node.host.finds refl, λ owner. fewer_asked owner)
+rounds_serve settings events order after are named have all none is owned silo before node there here =
+    (no_finds node.host.finds refl, λ owner. fewer_asked owner)
   where
     still : IsStill (world_by settings events) (world_by settings events)
     still = record { rests = starts settings events are named have; settled = all; none = none; owners = λ act. refl }
@@ -161,7 +173,8 @@ rounds_serve settings events order after are named have all none is owned silo b
     no_finds (x ∷ xs) are =
         let owes : Owes node.host (x.0, act.Find x.1) =
         Contains-append_right (held_acts node.host) (find_acts node.host) (x.0, act.Find x.1)
-        (subst (λ (l : List (ℕ × Grain)). Contains {X = ℕ × Act} (map (λ (e : ℕ × Grain). (e.0, act.Find e.1)) l) (x.0, act.Find x.1)) (sym are)
+        (subst (λ (l : List (ℕ × Grain)). Contains {X = ℕ × Act} (map (λ (e : ℕ × Grain). (e.0, act.Find e.1)) l) (x.0, act.Find x.1))
+        (sym are)
         (some_in {X = ℕ × Act} (x.0, act.Find x.1) _)) in
         let owner = some_of (owner_in after (act.Find x.1)) (owned _) in
         let fell = so.1 silo node here (x.0, act.Find x.1) owes owner.0 (sym (so.0.owners (act.Find x.1)) ∙ owner.1) in

@@ -7,7 +7,7 @@ use Rattle.ring_range.specs.Cut.{cut_parts}
 use Rattle.directory_rules.specs.Happens.{happens}
 use Rattle.directory_rules.specs.Run.{run}
 use Rattle.progress_rules.specs.Worked.{LimitsCompute, PlanComputes}
-use Rattle.progress_rules.specs.Hasty.{HastyNudgesWait}
+use Rattle.progress_rules.specs.Hasty.{HastyNudgesWait, PartNudgesDoNot}
 use Rattle.progress_rules.specs.RoomWorked.{BoundIsReached}
 use Rattle.progress_rules.specs.Reversed.{ReversedNeedsTwo}
 use Rattle.progress_rules.specs.Wrong.{ComesBackAlone, QueryOfTheVersionIsBehind, ReportIsNotStruckOff}
@@ -23,6 +23,10 @@ limits_computed = refl
 pub hasty_nudges_computed : HastyNudgesWait
 unfolding run happens cut_parts stated_hash digits sha256 hash_after compress rounds schedule first_words digest_bytes
 hasty_nudges_computed = record { waits = refl; ends = refl }
+
+pub part_nudges_computed : PartNudgesDoNot
+unfolding run happens cut_parts stated_hash digits sha256 hash_after compress rounds schedule first_words digest_bytes
+part_nudges_computed = refl
 
 pub bound_reached : BoundIsReached
 unfolding run happens cut_parts stated_hash digits sha256 hash_after compress rounds schedule first_words digest_bytes

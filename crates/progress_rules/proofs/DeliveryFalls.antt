@@ -10,16 +10,14 @@ use Rattle.std.proofs.lemmas.List.Sums.{sum_by-cons}
 use Rattle.silo_address.specs.Silo.{silo_cmp}
 use Rattle.membership_view.specs.View.{ViewValue}
 use Rattle.directory_rules.specs.Members.{members_of}
-use Rattle.directory_rules.specs.Snapshot.{Page}
-use Rattle.directory_rules.specs.Gatherings.{Gathering, Refuses, gathered}
+use Rattle.directory_rules.specs.State.{Page, Gathering, Letter, Page_letter, Node, World, Posted}
+use Rattle.directory_rules.specs.Gatherings.{Refuses, gathered}
 use Rattle.directory_rules.specs.Host.{outstanding}
-use Rattle.directory_rules.specs.Letter.{Letter, Page_letter}
-use Rattle.directory_rules.specs.Node.{Node}
 use Rattle.directory_rules.specs.Sent.{gathering_of}
 use Rattle.directory_rules.specs.Step.{Stepped}
 use Rattle.directory_rules.specs.Receive.{received}
 use Rattle.directory_rules.specs.Transfer.{is_page_awaited}
-use Rattle.directory_rules.specs.World.{World, Posted, current_view}
+use Rattle.directory_rules.specs.World.{current_view}
 use Rattle.directory_rules.specs.Mail.{letter_of, with_delivered}
 use Rattle.directory_rules.specs.Happens.{node_of, with_node}
 use Rattle.directory_facts.proofs.Reached.{found_node}
@@ -41,12 +39,15 @@ use Rattle.progress_rules.proofs.Potential.{due_to, potential, need_less, over_s
 
 pub all_sent : (letters : List Letter) → sent_with (λ body. true) letters ≡ length letters
 all_sent [] = refl
-all_sent (letter ∷ letters) = let rest = all_sent letters in let parts = sum_by-cons (λ (l : Letter). cond {A = ℕ} true 1 0) letter letters in omega (arith, rest, parts)
+all_sent (letter ∷ letters) =
+    let rest = all_sent letters in let parts = sum_by-cons (λ (l : Letter). cond {A = ℕ} true 1 0) letter letters in
+    omega (arith, rest, parts)
 
 pub nodes_sorted : (world : World) → IsResting world → IsStrictlySortedBy silo_cmp (keys_of world.nodes)
 nodes_sorted world r = (rest_carried world r).facts.peopled.by_address
 
-module _ (n : ℕ) (world : World) (r : IsResting world) (few : length (members_of (current_view world)) ≤ n) (number : ℕ) (posted : Posted) (node : Node)
+module _ (n : ℕ) (world : World) (r : IsResting world) (few : length (members_of (current_view world)) ≤ n) (number : ℕ) (posted : Posted)
+    (node : Node)
     (found : lookup (is_at (nat_cmp number)) world.mail ≡ Some posted) (fresh : posted.fresh ≡ true)
     (its : node_of world posted.letter.to ≡ Some node) where
   abbrev letter : Letter
@@ -68,19 +69,23 @@ module _ (n : ℕ) (world : World) (r : IsResting world) (few : length (members_
   by_silo = (found_node all_facts world letter.to node (rest_facts world r) its).0.0.0.0.by_silo
 
   -- as many pages are due as a page that comes says
-  told : (page : Page) → letter.body ≡ Page_letter page → is_page_awaited node letter page ≡ true → page.pages ≤ due_to world node letter.from page.range
+  told : (page : Page) → letter.body ≡ Page_letter page → is_page_awaited node letter page ≡ true
+      → page.pages ≤ due_to world node letter.from page.range
   told page body counts =
       let has = pieces world r letter.to node its in
-      shelved_so world r number letter in_mail page body node its (of_version (due_to world node) n world.settings.hashing node has letter page counts)
+      shelved_so world r number letter in_mail page body node its
+      (of_version (due_to world node) n world.settings.hashing node has letter page counts)
       (waits (due_to world node) n world.settings.hashing node has letter page counts)
 
   kept : (page : Page) (left : Gathering) → letter.body ≡ Page_letter page → is_page_awaited node letter page ≡ true
       → gathered (gathering_of node page.range) page ≡ Refuses 701 left → ⊥
   kept page left body counts is =
       let has = pieces world r letter.to node its in
-      never_dropped world r letter.to node its number letter in_mail page body (of_version (due_to world node) n world.settings.hashing node has letter page counts
+      never_dropped world r letter.to node its number letter in_mail page body
+      (of_version (due_to world node) n world.settings.hashing node has letter page counts
       ∙ seen world r letter.to node its)
-      (refused_so (gathering_of node page.range) page left is).2 letter.from (waits (due_to world node) n world.settings.hashing node has letter page counts) left is
+      (refused_so (gathering_of node page.range) page left is).2 letter.from
+      (waits (due_to world node) n world.settings.hashing node has letter page counts) left is
 
   falls : Falls (due_to world node) n node letter.body stepped
   falls =

@@ -3,8 +3,7 @@ use Rattle.std.proofs.Common.{arith, ◌≡◌, refl, ap, ℕ}
 use Rattle.std.specs.Prelude.{true, false, is_some, option_map, Option, Some}
 use Rattle.std.proofs.lemmas.List.Sums.{count_by-le-length}
 use Rattle.texts.proofs.Decided.{both}
-use Rattle.directory_rules.specs.Node.{Node}
-use Rattle.directory_rules.specs.World.{Posted, World}
+use Rattle.directory_rules.specs.State.{Node, Posted, World}
 use Rattle.directory_rules.specs.Mail.{letter_of}
 use Rattle.directory_rules.specs.Laws.{IsMail}
 use Rattle.directory_rules.specs.Happens.{node_of, is_deliverable}
@@ -35,7 +34,8 @@ pub record IsNextLetter (world : World) (e : ℕ × Posted) : Type 0 where
   pub node : Node
   pub its : node_of world e.1.letter.to ≡ Some node
 
-pub next_letter : (world : World) (e : ℕ × Posted) → IsMail world.settings world.mail world.sent → find_in world world.mail ≡ Some e → IsNextLetter world e
+pub next_letter : (world : World) (e : ℕ × Posted) → IsMail world.settings world.mail world.sent → find_in world world.mail ≡ Some e
+    → IsNextLetter world e
 next_letter world e is found =
     let next = found_next world 0 world.sent world.mail e is.rising found in
     let deliverable : is_deliverable world e.1 ≡ true = found_test (λ (x : ℕ × Posted). is_deliverable world x.1) world.mail e found in

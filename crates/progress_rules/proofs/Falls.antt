@@ -14,11 +14,8 @@ use Rattle.hash_ring.specs.declared.Hashing.{Hashing}
 use Rattle.directory_rules.specs.declared.effect.Effect.{Effect}
 use Rattle.directory_rules.specs.declared.piece_state.PieceState.{PieceState}
 use Rattle.directory_rules.specs.declared.piece_state.PieceState.TheVariants as state
-use Rattle.directory_rules.specs.Table.{Table}
-use Rattle.directory_rules.specs.Piece.{Piece}
-use Rattle.directory_rules.specs.Gatherings.{Gathering, new_gathering}
-use Rattle.directory_rules.specs.Letter.{Letter, Body}
-use Rattle.directory_rules.specs.Node.{Node}
+use Rattle.directory_rules.specs.State.{Table, Piece, Gathering, Letter, Body, Node}
+use Rattle.directory_rules.specs.Gatherings.{new_gathering}
 use Rattle.directory_rules.specs.Sent.{gathering_of}
 use Rattle.directory_rules.specs.Step.{Stepped, silently}
 use Rattle.directory_rules.specs.Transfer.{answering, with_settled, turned_to_recovery}
@@ -49,15 +46,18 @@ pub record Falls (due : Silo → Range → ℕ) (n : ℕ) (node : Node) (body : 
   pub sends : length stepped.letters + sent_with is_question stepped.letters + need due n stepped.node ≤ weight body + need due n node
   pub begins : length (requests_of stepped.node.host) ≤ begun body + length (requests_of node.host)
   pub no_offers : sent_with is_offer stepped.letters ≡ 0
-  pub shelves : (silo : Silo) (version : ℕ) (range : Range) → pages_shelved (Some stepped.node) silo version range ≤ pages_shelved (Some node) silo version range
+  pub shelves : (silo : Silo) (version : ℕ) (range : Range)
+      → pages_shelved (Some stepped.node) silo version range ≤ pages_shelved (Some node) silo version range
   pub silo_is : stepped.node.host.silo ≡ node.host.silo
   pub view_is : stepped.node.view ≡ node.view
 
 -- ---- steps
 module _ (due : Silo → Range → ℕ) (n : ℕ) (node : Node) (body : Body) where
   -- nothing goes out
-  pub quietly : (after : Node) (its : Effect) → need due n after ≤ need due n node → length (requests_of after.host) ≤ length (requests_of node.host)
-      → ((silo : Silo) (version : ℕ) (range : Range) → pages_shelved (Some after) silo version range ≤ pages_shelved (Some node) silo version range)
+  pub quietly : (after : Node) (its : Effect) → need due n after ≤ need due n node
+      → length (requests_of after.host) ≤ length (requests_of node.host)
+      → ((silo : Silo) (version : ℕ) (range : Range) → pages_shelved (Some after) silo version range ≤ pages_shelved (Some node) silo
+      version range)
       → after.host.silo ≡ node.host.silo → after.view ≡ node.view → Falls due n node body (silently after its)
   quietly after its less fewer shelved silo view = record {
     sends = omega (arith, less);
@@ -89,9 +89,11 @@ module _ (due : Silo → Range → ℕ) (n : ℕ) (node : Node) (body : Body) wh
 pub settled_beside : (node : Node) (range other : Range) (table : Table) → other.start ≢ range.start
     → gathering_of (with_settled node range table) other ≡ gathering_of node other
 settled_beside node range other table apart =
-    ap (λ o. unwrap_or o (new_gathering node.view.version other)) (found_beside_removed nat_cmp nat_cmp_total exact_unsigned range.start node.gatherings other.start apart)
+    ap (λ o. unwrap_or o (new_gathering node.view.version other))
+    (found_beside_removed nat_cmp nat_cmp_total exact_unsigned range.start node.gatherings other.start apart)
 
-pub turned_beside : (node : Node) (range other : Range) → other.start ≢ range.start → gathering_of (turned_to_recovery node range) other ≡ gathering_of node other
+pub turned_beside : (node : Node) (range other : Range) → other.start ≢ range.start
+    → gathering_of (turned_to_recovery node range) other ≡ gathering_of node other
 turned_beside node range other apart = ap (λ o. unwrap_or o (new_gathering node.view.version other))
     (found_beside_removed nat_cmp nat_cmp_total exact_unsigned range.start node.gatherings other.start apart)
 
@@ -107,7 +109,8 @@ module _ (due : Silo → Range → ℕ) (n : ℕ) (hashing : Hashing) (node : No
       → ((other : Range) → other.start ≢ range.start → gathering_of after other ≡ gathering_of node other)
       → need due n after + need_of due n node old.state old.range ≤ need due n node + need_of due n after new.state new.range
   need_set after range old new found set gathers =
-      subst (λ (ps : List (ℕ × Piece)). over_all ps + need_of due n node old.state old.range ≤ need due n node + need_of due n after new.state new.range) (sym set)
+      subst (λ (ps : List (ℕ × Piece)). over_all ps + need_of due n node old.state old.range ≤ need due n node + need_of due n after
+      new.state new.range) (sym set)
       (sum_set (λ (p : Piece). need_of due n node p.state p.range) (λ (p : Piece). need_of due n after p.state p.range) range.start old new
       (λ p apart. need_same after p.range (gathers p.range apart) p.state) node.holding.pieces
       (All-weaker (λ (e : ℕ × Piece). IsPiece hashing e.0 e.1) (λ (e : ℕ × Piece). e.0 ≡ e.1.range.start)

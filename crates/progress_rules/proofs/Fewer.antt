@@ -19,7 +19,8 @@ module _ {X : Type 0} where
   split_at (y ∷ ys) x has =
       elim (Contains-append_cases (y ∷ []) ys x has) [
         | inl here ↦ record { before = []; after = ys; is = ap (λ z. z ∷ ys) (only_one y x here) }
-        | inr there ↦ let rest = split_at ys x there in record { before = y ∷ rest.before; after = rest.after; is = ap (λ zs. y ∷ zs) rest.is }
+        | inr there ↦ let rest = split_at ys x there in
+            record { before = y ∷ rest.before; after = rest.after; is = ap (λ zs. y ∷ zs) rest.is }
       ]
 
   -- another element is before it or after it
@@ -27,7 +28,8 @@ module _ {X : Type 0} where
   beside before after x y apart has =
       elim (Contains-append_cases before (x ∷ after) y has) [
         | inl front ↦ Contains-append_left before after y front
-        | inr back ↦ elim (Contains-append_cases (x ∷ []) after y back) [ inl here ↦ absurd (apart (only_one x y here)) | inr there ↦ Contains-append_right before after y there ]
+        | inr back ↦ elim (Contains-append_cases (x ∷ []) after y back)
+            [ inl here ↦ absurd (apart (only_one x y here)) | inr there ↦ Contains-append_right before after y there ]
       ]
 
   pub some_in : (x : X) (xs : List X) → Contains (x ∷ xs) x
@@ -38,7 +40,8 @@ module _ {X : Type 0} where
     counted x xs = sum_by-cons (λ y. cond {A = ℕ} (p y) 1 0) x xs
 
     -- of distinct elements that are all in another list, no more pass than there
-    pub no_more : (xs ys : List X) → AllPairs (λ x later. x ≢ later) xs → ((x : X) → Contains xs x → Contains ys x) → count_by p xs ≤ count_by p ys
+    pub no_more : (xs ys : List X) → AllPairs (λ x later. x ≢ later) xs → ((x : X) → Contains xs x → Contains ys x)
+        → count_by p xs ≤ count_by p ys
     no_more [] ys apart within = omega arith
     no_more (x ∷ xs) ys apart within =
         let split = split_at ys x (within x (some_in x xs)) in
@@ -53,12 +56,15 @@ module _ {X : Type 0} where
         omega (arith, rest, first, all, other, here)
 
     -- and fewer where one that passes is in the other alone
-    pub fewer : (xs ys : List X) (x : X) → AllPairs (λ x later. x ≢ later) xs → ((y : X) → Contains xs y → Contains ys y) → Contains ys x → p x ≡ true → (Contains xs x → ⊥)
+    pub fewer : (xs ys : List X) (x : X) → AllPairs (λ x later. x ≢ later) xs → ((y : X) → Contains xs y → Contains ys y) → Contains ys x
+        → p x ≡ true → (Contains xs x → ⊥)
         → count_by p xs + 1 ≤ count_by p ys
     fewer xs ys x apart within there passes not =
         let more = no_more (x ∷ xs) ys
-        (AllPairs-cons (λ y later. y ≢ later) x xs (λ k d below same. not (subst (λ z. Contains xs z) (sym same) (All-contains_itself xs k d below))) apart)
-        (λ y has. elim (Contains-append_cases (x ∷ []) xs y has) [ inl here ↦ subst (λ z. Contains ys z) (only_one x y here) there | inr rest ↦ within y rest ]) in
+        (AllPairs-cons (λ y later. y ≢ later) x xs (λ k d below same. not
+        (subst (λ z. Contains xs z) (sym same) (All-contains_itself xs k d below))) apart)
+        (λ y has. elim (Contains-append_cases (x ∷ []) xs y has)
+        [ inl here ↦ subst (λ z. Contains ys z) (only_one x y here) there | inr rest ↦ within y rest ]) in
         let first = counted x xs in
         let one = ap (λ b. cond {A = ℕ} b 1 0) passes in
         omega (arith, more, first, one)

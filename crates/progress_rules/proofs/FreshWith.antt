@@ -8,8 +8,7 @@ use Rattle.std.specs.BTreeMap.{is_at}
 use Rattle.std.proofs.lemmas.List.{map-append}
 use Rattle.std.proofs.lemmas.List.Sums.{sum_by-cons, sum_by-append}
 use Rattle.std.proofs.lemmas.Map.Entries.{sum_by-set_value}
-use Rattle.directory_rules.specs.Letter.{Letter, Body}
-use Rattle.directory_rules.specs.World.{World, Posted}
+use Rattle.directory_rules.specs.State.{Letter, Body, World, Posted}
 use Rattle.directory_rules.specs.Mail.{fresh_letter, numbered, with_sent, with_delivered}
 use Rattle.progress_rules.specs.Room.{fresh_with}
 
@@ -21,7 +20,8 @@ module _ (test : Body → Bool) where
   sent_with letters = count_by (λ letter. test letter.body) letters
 
   numbered_with : (from : ℕ) (letters : List Letter)
-      → count_by (λ posted. posted.fresh && test posted.letter.body) (values_of (map (λ e. (e.0, fresh_letter e.1)) (enumerate_from from letters))) ≡ sent_with letters
+      → count_by (λ posted. posted.fresh && test posted.letter.body)
+      (values_of (map (λ e. (e.0, fresh_letter e.1)) (enumerate_from from letters))) ≡ sent_with letters
   numbered_with from [] = refl
   numbered_with from (letter ∷ letters) =
       let rest = numbered_with (from + 1) letters in
@@ -30,13 +30,17 @@ module _ (test : Body → Bool) where
       omega (arith, rest, here, its)
 
   -- letters that are sent are fresh
-  pub fresh_after : (world : World) (letters : List Letter) → fresh_with test (with_sent world letters) ≡ fresh_with test world + sent_with letters
+  pub fresh_after : (world : World) (letters : List Letter)
+      → fresh_with test (with_sent world letters) ≡ fresh_with test world + sent_with letters
   fresh_after world letters =
-      ap (count_by (λ (posted : Posted). posted.fresh && test posted.letter.body)) (map-append (λ (e : ℕ × Posted). e.1) world.mail (numbered world letters))
-      ∙ sum_by-append one (values_of world.mail) (values_of (numbered world letters)) ∙ ap (λ n. fresh_with test world + n) (numbered_with (world.sent + 1) letters)
+      ap (count_by (λ (posted : Posted). posted.fresh && test posted.letter.body))
+      (map-append (λ (e : ℕ × Posted). e.1) world.mail (numbered world letters))
+      ∙ sum_by-append one (values_of world.mail) (values_of (numbered world letters))
+      ∙ ap (λ n. fresh_with test world + n) (numbered_with (world.sent + 1) letters)
 
   -- and one that is delivered isn't any more
-  pub fresh_before : (world : World) (number : ℕ) (posted : Posted) → lookup (is_at (nat_cmp number)) world.mail ≡ Some posted → posted.fresh ≡ true
+  pub fresh_before : (world : World) (number : ℕ) (posted : Posted) → lookup (is_at (nat_cmp number)) world.mail ≡ Some posted
+      → posted.fresh ≡ true
       → fresh_with test (with_delivered world number posted.letter) + cond (test posted.letter.body) 1 0 ≡ fresh_with test world
   fresh_before world number posted found fresh =
       let set = sum_by-set_value one (is_at (nat_cmp number)) world.mail posted (record { letter = posted.letter; fresh = false }) found in

@@ -14,18 +14,17 @@ use Rattle.directory_rules.specs.declared.act.Act.TheVariants as act
 use Rattle.directory_rules.specs.declared.effect.Effect.{Effect}
 use Rattle.directory_rules.specs.declared.effect.Effect.TheVariants as effect
 use Rattle.directory_rules.specs.declared.piece_state.PieceState.TheVariants as state
-use Rattle.directory_rules.specs.Table.{Table, table_of}
-use Rattle.directory_rules.specs.Snapshot.{Snapshot, Page, ShelfAnswer, Hands_page, Is_behind, is_snapshot, has_snapshot, shelf_answer, shelf_without}
+use Rattle.directory_rules.specs.State.{Table, Snapshot, Page, Letter, Body, Page_letter, Done_letter, Node}
+use Rattle.directory_rules.specs.Table.{table_of}
+use Rattle.directory_rules.specs.Snapshot.{ShelfAnswer, Hands_page, Is_behind, is_snapshot, has_snapshot, shelf_answer, shelf_without}
 use Rattle.directory_rules.specs.Host as host
 use Rattle.directory_rules.specs.Host.{next_held, entry_of}
-use Rattle.directory_rules.specs.Letter.{Letter, Body, Page_letter, Done_letter}
-use Rattle.directory_rules.specs.Node.{Node}
-use Rattle.directory_rules.specs.Sent.{request_letters, all_requests, all_wants}
+use Rattle.directory_rules.specs.Sent.{request_letters, all_requests, requests_of_grain, all_wants}
 use Rattle.directory_rules.specs.Step.{Stepped, silently, sight, started}
 use Rattle.directory_rules.specs.Sight.{is_next}
 use Rattle.directory_rules.specs.Input.{Input, Does, Receives, step}
 use Rattle.directory_rules.specs.Transfer.{answer_to, with_settled, with_gathering, turned_to_recovery}
-use Rattle.directory_rules.specs.declared.own_step.OwnStep.TheVariants.{Wake, Close, Find, Forget, Nudge, Offer}
+use Rattle.directory_rules.specs.declared.own_step.OwnStep.TheVariants.{Wake, Close, Cancel, Find, Forget, Nudge, NudgeGrain, NudgeRanges, Offer}
 use Rattle.directory_rules.proofs.Cases.{on_bool}
 use Rattle.directory_facts.proofs.Ways.{Ways}
 use Rattle.directory_facts.proofs.EachStep.{by_way}
@@ -33,7 +32,7 @@ use Rattle.progress_rules.specs.Gathers.{AwaitsFrom}
 use Rattle.progress_rules.specs.Room.{is_question}
 use Rattle.progress_rules.proofs.Gathers.{set_awaits}
 use Rattle.progress_rules.proofs.TakesPage.{found_test}
-use Rattle.progress_rules.proofs.Questions.{IsQuestion, sent_question, query_questions, request_questions, want_questions}
+use Rattle.progress_rules.proofs.Questions.{IsQuestion, sent_question, query_questions, request_questions, grain_questions, want_questions}
 use Rattle.progress_rules.proofs.ShelfFalls.{is_for, handed}
 
 -- ---- what is said
@@ -68,7 +67,8 @@ pub record Says (node : Node) (input : Input) (stepped : Stepped) : Type 0 where
 -- ---- shelves
 any_found : (test : Snapshot → Bool) (shelf : List Snapshot) (x : Snapshot) → find test shelf ≡ Some x → list_any test shelf ≡ true
 any_found test [] x found = absurd (cc (found))
-any_found test (y ∷ ys) x found = on_bool (λ b. cond b (Some y) (find test ys) ≡ Some x → (b || list_any test ys) ≡ true) (test y) (λ t is. refl)
+any_found test (y ∷ ys) x found =
+    on_bool (λ b. cond b (Some y) (find test ys) ≡ Some x → (b || list_any test ys) ≡ true) (test y) (λ t is. refl)
     (λ f later. any_found test ys x later) found
 
 -- who hands a page has seen its version
@@ -81,11 +81,14 @@ any_left : (p q : Snapshot → Bool) (shelf : List Snapshot) → list_any p shel
     → (list_any p (filter (λ s. not (q s)) shelf) ≡ true) ⊎ ((x : Snapshot) × (p x ≡ true) × (q x ≡ true))
 any_left p q [] there = absurd (cc (there))
 any_left p q (x ∷ xs) there =
-    on_bool (λ b. q x ≡ b → (list_any p (cond (not b) (x ∷ filter (λ s. not (q s)) xs) (filter (λ s. not (q s)) xs)) ≡ true) ⊎ ((y : Snapshot) × (p y ≡ true) × (q y ≡ true)))
+    on_bool (λ b. q x ≡ b → (list_any p (cond (not b) (x ∷ filter (λ s. not (q s)) xs) (filter (λ s. not (q s)) xs)) ≡ true)
+    ⊎ ((y : Snapshot) × (p y ≡ true) × (q y ≡ true)))
     (q x)
-    (λ t goes. on_bool (λ b. p x ≡ b → (b || list_any p xs) ≡ true → (list_any p (filter (λ s. not (q s)) xs) ≡ true) ⊎ ((y : Snapshot) × (p y ≡ true) × (q y ≡ true))) (p x)
+    (λ t goes. on_bool (λ b. p x ≡ b → (b || list_any p xs) ≡ true → (list_any p (filter (λ s. not (q s)) xs) ≡ true)
+    ⊎ ((y : Snapshot) × (p y ≡ true) × (q y ≡ true))) (p x)
     (λ t passes is. inr (x, passes, goes)) (λ f fails is. any_left p q xs is) refl there)
-    (λ f stays. on_bool (λ b. (b || list_any p xs) ≡ true → ((b || list_any p (filter (λ s. not (q s)) xs)) ≡ true) ⊎ ((y : Snapshot) × (p y ≡ true) × (q y ≡ true))) (p x)
+    (λ f stays. on_bool (λ b. (b || list_any p xs) ≡ true → ((b || list_any p (filter (λ s. not (q s)) xs)) ≡ true)
+    ⊎ ((y : Snapshot) × (p y ≡ true) × (q y ≡ true))) (p x)
     (λ t is. inl refl) (λ g is. any_left p q xs is) there) refl
 
 -- ---- each step
@@ -105,9 +108,11 @@ module _ (node : Node) where
   one_tells after letter tells = All-cons (λ l. Tells l.body l node after) letter [] tells (none_tell after)
 
   ask_tell : (after : Node) (letters : List Letter) → All IsQuestion letters → AllTell after letters
-  ask_tell after letters all = All-weaker IsQuestion (λ l. Tells l.body l node after) (λ l asks. question_tells l.body l node after asks) letters all
+  ask_tell after letters all =
+      All-weaker IsQuestion (λ l. Tells l.body l node after) (λ l asks. question_tells l.body l node after asks) letters all
 
-  page_tells : (letter : Letter) (range : Range) (number : ℕ) (page : Page) → shelf_answer node.shelf node.view.version letter.version range letter.from number ≡ Hands_page page
+  page_tells : (letter : Letter) (range : Range) (number : ℕ) (page : Page)
+      → shelf_answer node.shelf node.view.version letter.version range letter.from number ≡ Hands_page page
       → Tells (Page_letter page) (answer_to letter node (Page_letter page)) node node
   page_tells letter range number page is =
       let h = handed (nat_lt node.view.version letter.version) (find (is_snapshot letter.version range letter.from) node.shelf) number page is in
@@ -118,12 +123,14 @@ module _ (node : Node) where
       let seen = ltb-false node.view.version letter.version le in (
         refl,
         omega (arith, seen, version),
-        subst (λ v. has_snapshot node.shelf v page.range letter.from ≡ true) version (subst (λ (r : Range). has_snapshot node.shelf letter.version r letter.from ≡ true) ranges
+        subst (λ v. has_snapshot node.shelf v page.range letter.from ≡ true) version
+            (subst (λ (r : Range). has_snapshot node.shelf letter.version r letter.from ≡ true) ranges
             (any_found (is_snapshot letter.version range letter.from) node.shelf h.snapshot h.found)),
       )
 
   done_tells : (letter : Letter) (range : Range) (table : Table) → letter.version ≡ node.view.version
-      → Tells (Done_letter range) (answer_to letter (with_settled node range table) (Done_letter range)) node (with_settled node range table)
+      → Tells (Done_letter range) (answer_to letter (with_settled node range table) (Done_letter range)) node
+      (with_settled node range table)
   done_tells letter range table seen = (
     refl,
     record {
@@ -136,17 +143,23 @@ module _ (node : Node) where
 
   same_shelf : (input : Input) (after : Node) (letters : List Letter) (its : Effect) → after.shelf ≡ node.shelf
       → KeepsShelf node input (record { node = after; letters = letters; effect = its })
-  same_shelf input after letters its same version range to there = inl (ap (λ (s : List Snapshot). has_snapshot s version range to) same ∙ there)
+  same_shelf input after letters its same version range to there =
+      inl (ap (λ (s : List Snapshot). has_snapshot s version range to) same ∙ there)
 
-  silent : (input : Input) (after : Node) (its : Effect) → after.shelf ≡ node.shelf → after.view ≡ node.view → Says node input (silently after its)
-  silent input after its same seen = record { tells = none_tell after; keeps = λ still. same_shelf input after [] its same; view = inr seen }
+  silent : (input : Input) (after : Node) (its : Effect) → after.shelf ≡ node.shelf → after.view ≡ node.view
+      → Says node input (silently after its)
+  silent input after its same seen =
+      record { tells = none_tell after; keeps = λ still. same_shelf input after [] its same; view = inr seen }
 
-  sends : (input : Input) (after : Node) (letters : List Letter) (its : Effect) → after.shelf ≡ node.shelf → after.view ≡ node.view → AllTell after letters
+  sends : (input : Input) (after : Node) (letters : List Letter) (its : Effect) → after.shelf ≡ node.shelf → after.view ≡ node.view
+      → AllTell after letters
       → Says node input (record { node = after; letters = letters; effect = its })
-  sends input after letters its same seen tell = record { tells = tell; keeps = λ still. same_shelf input after letters its same; view = inr seen }
+  sends input after letters its same seen tell =
+      record { tells = tell; keeps = λ still. same_shelf input after letters its same; view = inr seen }
 
   forgone : (letter : Letter) (range : Range) → letter.body ≡ Done_letter range
-      → Says node (Receives letter) (silently (record node { shelf = shelf_without node.shelf letter.version range letter.from }) effect.Deleted)
+      → Says node (Receives letter) (silently (record node { shelf = shelf_without node.shelf letter.version range letter.from })
+      effect.Deleted)
   forgone letter range body = record {
     tells = none_tell (record node { shelf = shelf_without node.shelf letter.version range letter.from });
     keeps = λ seen version other to there.
@@ -174,7 +187,8 @@ module _ (node : Node) where
       (ask_tell after (request_letters node node.host.next_number act) (sent_question node node.host.next_number act))
 
   begins : (input : Input) (grain : Grain) (previous : Option ActivationId) → Says node input (started node grain previous)
-  begins input grain previous = requests input _ (act.Register (entry_of node.host grain (next_held node.host previous)) previous) _ refl refl
+  begins input grain previous =
+      requests input _ (act.Register (entry_of node.host grain (next_held node.host previous)) previous) _ refl refl
 
   ways : Ways node (Says node)
   ways = record {
@@ -182,13 +196,16 @@ module _ (node : Node) where
     sees = λ before view places newer numbers.
         let after = (sight (is_next node.view before view node.host.silo) node before view places).node in
         record {
-          tells = ask_tell after (all_wants after ++ all_requests after) (All-append IsQuestion (all_wants after) (all_requests after) (want_questions after)
+          tells =
+              ask_tell after (all_wants after ++ all_requests after)
+              (All-append IsQuestion (all_wants after) (all_requests after) (want_questions after)
               (request_questions after));
           keeps = λ seen. let same = ap (λ (v : ViewValue). v.version) seen in absurd (omega (arith, same, newer));
           view = inl newer;
         };
     wakes = λ grain may. begins (Does (Wake grain)) grain None;
     closes = λ grain its may. requests (Does (Close grain)) _ (act.Deregister (entry_of node.host grain its)) _ refl refl;
+    cancels = λ grain its may. requests (Does (Cancel grain)) _ (act.Deregister (entry_of node.host grain its)) _ refl refl;
     offers = λ grain its to may active other. sends (Does (Offer grain to)) _ _ _ refl refl (one_tells _ _ tt);
     uses_hint = λ grain activation hint. silent (Does (Find grain)) _ _ refl refl;
     finds = λ grain room numbers. requests (Does (Find grain)) _ (act.Find grain) _ refl refl;
@@ -196,8 +213,15 @@ module _ (node : Node) where
     nudges = λ numbers.
         let after = record node { host = host.renewed node.host } in
         sends (Does Nudge) after (all_requests after ++ all_wants after) effect.Nudged refl refl
-        (ask_tell after (all_requests after ++ all_wants after) (All-append IsQuestion (all_requests after) (all_wants after) (request_questions after)
+        (ask_tell after (all_requests after ++ all_wants after)
+        (All-append IsQuestion (all_requests after) (all_wants after) (request_questions after)
         (want_questions after)));
+    nudges_grain = λ grain numbers.
+        let after = record node { host = host.renewed_about grain node.host } in
+        sends (Does (NudgeGrain grain)) after (requests_of_grain after grain) effect.Nudged refl refl
+        (ask_tell after (requests_of_grain after grain) (grain_questions after grain));
+    nudges_ranges =
+        sends (Does NudgeRanges) node (all_wants node) effect.Nudged refl refl (ask_tell node (all_wants node) (want_questions node));
     answers = λ letter request body sender version. sends (Receives letter) _ _ _ refl refl (one_tells _ _ tt);
     confirms = λ letter number entry e is there. silent (Receives letter) _ _ refl refl;
     yields = λ letter number entry e is there. silent (Receives letter) _ _ refl refl;
@@ -205,13 +229,17 @@ module _ (node : Node) where
     misses = λ letter number e is there. silent (Receives letter) _ _ refl refl;
     learns = λ letter number entry is there. silent (Receives letter) _ _ refl refl;
     notes = λ letter number is there. silent (Receives letter) _ _ refl refl;
-    hands = λ letter range number page body is. sends (Receives letter) node _ _ refl refl (one_tells node _ (page_tells letter range number page is));
+    hands =
+        λ letter range number page body is. sends (Receives letter) node _ _ refl refl
+        (one_tells node _ (page_tells letter range number page is));
     lacks = λ letter range number body is. sends (Receives letter) node _ _ refl refl (one_tells node _ tt);
     forgoes = λ letter range body there. forgone letter range body;
     lags = λ letter range. sends (Receives letter) node _ _ refl refl (one_tells node _ tt);
     passed = λ letter range. sends (Receives letter) node _ _ refl refl (one_tells node _ tt);
     reports = λ letter range body seen. sends (Receives letter) node _ _ refl refl (one_tells node _ tt);
-    gathers = λ letter page gathering taken is. sends (Receives letter) (with_gathering node gathering) _ _ refl refl (one_tells (with_gathering node gathering) _ tt);
+    gathers =
+        λ letter page gathering taken is. sends (Receives letter) (with_gathering node gathering) _ _ refl refl
+        (one_tells (with_gathering node gathering) _ tt);
     installs = λ letter page entries taken is. sends (Receives letter) (with_settled node page.range (table_of entries)) _ _ refl refl
         (one_tells (with_settled node page.range (table_of entries)) _ (done_tells letter page.range (table_of entries) taken.has.seen));
     drops = λ letter page gathering taken is. silent (Receives letter) (with_gathering node gathering) _ refl refl;

@@ -1,6 +1,6 @@
 -- A host keeps to its limits at each step, and takes at most one number for each request that it may have outstanding, and one more.
-use Rattle.std.proofs.Common.{arith, ◌≡◌, refl, ℕ, ◌+◌, ◌≤◌, List, [], ◌∷◌}
-use Rattle.std.specs.Prelude.{Bool, false, cond, fold, length, Option, Some, None, Ok}
+use Rattle.std.proofs.Common.{arith, ◌≡◌, refl, ◌∙◌, ℕ, ◌+◌, ◌≤◌, List, [], ◌∷◌, ◌++◌}
+use Rattle.std.specs.Prelude.{Bool, false, cond, not, map, filter, fold, length, Option, Some, None, Ok}
 use Rattle.std.specs.Ordering.{nat_cmp, match_ordering}
 use Rattle.std.specs.declared.cmp.Ordering.{Ordering}
 use Rattle.std.specs.declared.cmp.Ordering.TheVariants.{Less, Equal, Greater}
@@ -10,15 +10,15 @@ use Rattle.std.specs.BTreeMap.{is_at, insert_entry}
 use Rattle.std.proofs.lemmas.Bool.{leb-false}
 use Rattle.std.proofs.lemmas.List.{length-map, length-append}
 use Rattle.std.proofs.lemmas.Map.{length-set_value}
-use Rattle.silo_address.specs.Grain.{Grain, grain_cmp}
+use Rattle.silo_address.specs.Grain.{Grain, grain_cmp, grain_eq}
 use Rattle.silo_address.specs.declared.ActivationId.{ActivationId}
 use Rattle.directory_rules.specs.declared.act.Act.{Act}
 use Rattle.directory_rules.specs.declared.act.Act.TheVariants as act
 use Rattle.directory_rules.specs.declared.held.Held.{Held}
-use Rattle.directory_rules.specs.declared.held.Phase.TheVariants.{Firm, Closing}
+use Rattle.directory_rules.specs.declared.held.Phase.TheVariants.{Firm}
 use Rattle.directory_rules.specs.Settings.{Settings}
-use Rattle.directory_rules.specs.Host.{Host, outstanding, held_acts, find_acts, act_in, is_full_of_activations, is_full_of_finds, next_held, with_started, with_closing, with_find, confirmed, without_held, without_find, renewed, renewed_phase, new_number}
-use Rattle.directory_rules.specs.Node.{Node}
+use Rattle.directory_rules.specs.State.{Host, Node}
+use Rattle.directory_rules.specs.Host.{grain_of, outstanding, held_acts, find_acts, act_in, is_full_of_activations, is_full_of_finds, next_held, with_started, next_closing, with_closing, with_find, confirmed, without_held, without_find, renewed, renewed_phase, new_number, renewed_about, held_renewed_about, new_number_about}
 use Rattle.directory_rules.specs.Step.{Stepped}
 use Rattle.directory_rules.specs.Input.{Input, step}
 use Rattle.directory_rules.proofs.Cases.{on_bool}
@@ -32,7 +32,8 @@ removed_few test (e ∷ es) =
     let rest = removed_few test es in
     on_bool (λ b. length (cond b es (e ∷ remove_entry test es)) ≤ length (e ∷ es)) (test e.0) (λ t. omega arith) (λ f. omega (arith, rest))
 
-pub put_few : {K X : Type 0} (R : K → K → Ordering) (es : List (K × X)) (key : K) (value : X) → length (insert_entry R es key value) ≤ length es + 1
+pub put_few : {K X : Type 0} (R : K → K → Ordering) (es : List (K × X)) (key : K) (value : X)
+    → length (insert_entry R es key value) ≤ length es + 1
 put_few R [] key value = omega arith
 put_few R (e ∷ es) key value = by (R key e.0) (put_few R es key value)
   where
@@ -56,6 +57,26 @@ one_few (Some x) xs = omega arith
 picked_few : {X Y : Type 0} (f : X → Option Y) (xs : List X) → length (filter_map f xs) ≤ length xs
 picked_few f [] = omega arith
 picked_few f (x ∷ xs) = let one = one_few (f x) (filter_map f xs) in let rest = picked_few f xs in omega (arith, one, rest)
+
+pub filtered_few : {X : Type 0} (test : X → Bool) (xs : List X) → length (filter test xs) ≤ length xs
+filtered_few test [] = omega arith
+filtered_few test (x ∷ xs) =
+    let rest = filtered_few test xs in
+    on_bool (λ b. length (cond b (x ∷ filter test xs) (filter test xs)) ≤ length (x ∷ xs)) (test x) (λ t. omega (arith, rest))
+    (λ f. omega (arith, rest))
+
+-- some stay in front, and the others follow, changed
+module _ {X : Type 0} (test : X → Bool) (f : X → X) where
+  both_parts : (xs : List X) → length (filter (λ x. not (test x)) xs) + length (map f (filter test xs)) ≡ length xs
+  both_parts [] = refl
+  both_parts (x ∷ xs) =
+      let rest = both_parts xs in
+      on_bool (λ b. length (cond (not b) (x ∷ filter (λ y. not (test y)) xs) (filter (λ y. not (test y)) xs)) + length
+      (map f (cond b (x ∷ filter test xs) (filter test xs))) ≡ length (x ∷ xs)) (test x)
+      (λ t. omega (arith, rest)) (λ g. omega (arith, rest))
+
+  pub parted_as_many : (xs : List X) → length (filter (λ x. not (test x)) xs ++ map f (filter test xs)) ≡ length xs
+  parted_as_many xs = length-append (filter (λ x. not (test x)) xs) (map f (filter test xs)) ∙ both_parts xs
 
 -- as many requests are outstanding as the host has activations and finds, at most
 pub outstanding_few : (host : Host) → length (outstanding host) ≤ length host.held + length host.finds
@@ -83,7 +104,8 @@ module _ (settings : Settings) (host : Host) (is : IsWithin settings host) where
   still : GoesOn settings host host
   still = record { within = is; used = omega arith }
 
-  begun : (grain : Grain) (previous : Option ActivationId) → is_full_of_activations settings host ≡ false → GoesOn settings host (with_started host grain previous)
+  begun : (grain : Grain) (previous : Option ActivationId) → is_full_of_activations settings host ≡ false
+      → GoesOn settings host (with_started host grain previous)
   begun grain previous room =
       let free = leb-false settings.activations (length host.held) room in
       let more = length-append host.held ((grain, next_held host previous) ∷ []) in
@@ -91,7 +113,7 @@ module _ (settings : Settings) (host : Host) (is : IsWithin settings host) where
 
   closed : (grain : Grain) (its : Held) → GoesOn settings host (with_closing host grain its)
   closed grain its =
-      let same = length-set_value (is_at (grain_cmp grain)) host.held (record its { phase = Closing host.next_number }) in
+      let same = length-set_value (is_at (grain_cmp grain)) host.held (next_closing host its) in
       let few = is.held in
       record { within = record { held = omega (arith, same, few); finds = is.finds }; used = omega arith }
 
@@ -126,7 +148,25 @@ module _ (settings : Settings) (host : Host) (is : IsWithin settings host) where
       let all = outstanding_few host in
       let few = is.held in
       let few_finds = is.finds in
-      record { within = record { held = omega (arith, held, few); finds = omega (arith, finds, few_finds) }; used = omega (arith, all, few, few_finds) }
+      record {
+        within = record { held = omega (arith, held, few); finds = omega (arith, finds, few_finds) };
+        used = omega
+            (arith, all, few, few_finds);
+      }
+
+  renews_about : (grain : Grain) → GoesOn settings host (renewed_about grain host)
+  renews_about grain =
+      let held = length-map {B = Grain × Held} host.held (λ (e : Grain × Held). (e.0, held_renewed_about grain host e.0 e.1)) in
+      let finds = parted_as_many (λ (e : ℕ × Grain). grain_eq e.1 grain) (λ (e : ℕ × Grain). (new_number_about grain host e.0, e.1)) host.finds in
+      let about = filtered_few (λ (e : ℕ × Act). grain_eq (grain_of e.1) grain) (outstanding host) in
+      let all = outstanding_few host in
+      let few = is.held in
+      let few_finds = is.finds in
+      record {
+        within = record { held = omega (arith, held, few); finds = omega (arith, finds, few_finds) };
+        used = omega
+            (arith, about, all, few, few_finds);
+      }
 
 -- ---- so it is after each step
 abbrev pub StepGoesOn : Node → Node → Type 0
@@ -142,11 +182,14 @@ module _ (node : Node) (is : IsWithin node.settings node.host) where
     sees = λ before view places newer numbers. (refl, renews node.settings node.host is);
     wakes = λ grain may. (refl, begun node.settings node.host is grain None may.room);
     closes = λ grain its may. (refl, closed node.settings node.host is grain its);
+    cancels = λ grain its may. (refl, closed node.settings node.host is grain its);
     offers = λ grain its to may active other. (refl, closed node.settings node.host is grain its);
     uses_hint = λ grain activation hint. stays;
     finds = λ grain room numbers. (refl, sought node.settings node.host is grain room);
     forgets = λ grain activation hint. stays;
     nudges = λ numbers. (refl, renews node.settings node.host is);
+    nudges_grain = λ grain numbers. (refl, renews_about node.settings node.host is grain);
+    nudges_ranges = stays;
     answers = λ letter request body sender version. stays;
     confirms = λ letter number entry e of_it there. (refl, firm node.settings node.host is e.0 e.1);
     yields = λ letter number entry e of_it there. (refl, ended node.settings node.host is e.0);
@@ -169,5 +212,6 @@ module _ (node : Node) (is : IsWithin node.settings node.host) where
     takes_over = λ letter entry body seen may. (refl, begun node.settings node.host is entry.grain (Some entry.activation) may.room);
   }
 
-pub step_goes_on : (node : Node) (input : Input) (stepped : Stepped) → IsWithin node.settings node.host → step node input ≡ Ok stepped → StepGoesOn node stepped.node
+pub step_goes_on : (node : Node) (input : Input) (stepped : Stepped) → IsWithin node.settings node.host → step node input ≡ Ok stepped
+    → StepGoesOn node stepped.node
 step_goes_on node input stepped within is = by_way node (λ its result. StepGoesOn node result.node) (ways node within) input stepped is

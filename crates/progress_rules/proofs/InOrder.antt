@@ -5,9 +5,8 @@ use Rattle.std.specs.Ordering.{nat_cmp}
 use Rattle.std.specs.Map.{lookup}
 use Rattle.std.specs.BTreeMap.{is_at}
 use Rattle.texts.proofs.Decided.{both}
-use Rattle.directory_rules.specs.Letter.{Letter}
+use Rattle.directory_rules.specs.State.{Letter, World, Posted, Accepted}
 use Rattle.directory_rules.specs.Event.{Deliver}
-use Rattle.directory_rules.specs.World.{World, Posted, Accepted}
 use Rattle.directory_rules.specs.Happens.{happens, least_deliverable}
 use Rattle.progress_rules.specs.Plan.{then_on, ended}
 use Rattle.progress_rules.specs.Second.{Flies}
@@ -25,7 +24,8 @@ flies_so world number (Some posted) found may =
     (posted.letter, record { found = found ∙ ap Some (fresh_is posted so.0); comes = so.1 })
 
 pub settled_in_keeps : (I : World → Type 0)
-    → ((world : World) (number : ℕ) (letter : Letter) (accepted : Accepted) → I world → Flies world number letter → happens world (Deliver number) ≡ Ok accepted
+    → ((world : World) (number : ℕ) (letter : Letter) (accepted : Accepted) → I world → Flies world number letter
+    → happens world (Deliver number) ≡ Ok accepted
     → I accepted.world)
     → (order : List ℕ) (world after : World) → I world → settled_in order world ≡ Ok after → IsEnded I after
 settled_in_keeps I k [] world after holds is = by (least_deliverable world) refl is
@@ -39,7 +39,8 @@ settled_in_keeps I k (number ∷ order) world after holds is = by (may_come (loo
     Later : Type 0
     Later = (next : World) → I next → settled_in order next ≡ Ok after → IsEnded I after
 
-    further : may_come (lookup (is_at (nat_cmp number)) world.mail) world ≡ true → (r : Result Accepted ℕ) → happens world (Deliver number) ≡ r → Later
+    further : may_come (lookup (is_at (nat_cmp number)) world.mail) world ≡ true → (r : Result Accepted ℕ)
+        → happens world (Deliver number) ≡ r → Later
         → then_on r (λ next. settled_in order next) ≡ Ok after → IsEnded I after
     further may (Err refusal) happened on is = absurd (cc (is))
     further may (Ok accepted) happened on is =
@@ -47,12 +48,14 @@ settled_in_keeps I k (number ∷ order) world after holds is = by (may_come (loo
         on accepted.world (k world number flight.0 accepted holds flight.1 happened) is
 
     by : (b : Bool) → may_come (lookup (is_at (nat_cmp number)) world.mail) world ≡ b → Later
-        → cond {A = Result World ℕ} b (then_on (happens world (Deliver number)) (λ next. settled_in order next)) (Err 0) ≡ Ok after → IsEnded I after
+        → cond {A = Result World ℕ} b (then_on (happens world (Deliver number)) (λ next. settled_in order next)) (Err 0) ≡ Ok after
+        → IsEnded I after
     by true may on is = further may (happens world (Deliver number)) refl on is
     by false not on is = absurd (cc (is))
 
 pub any_settles : (order : List ℕ) → Settles (λ world. settled_in order world)
-any_settles order I k world after holds is = settled_in_keeps I (λ now number letter accepted kept flies ok. k now number accepted kept ok) order world after holds is
+any_settles order I k world after holds is =
+    settled_in_keeps I (λ now number letter accepted kept flies ok. k now number accepted kept ok) order world after holds is
 
 -- ---- so each piece is settled after one round
 pub pieces_come_back_in_any_order : PiecesComeBackInAnyOrder

@@ -5,7 +5,7 @@ use Rattle.std.specs.Ordering.{nat_cmp}
 use Rattle.std.specs.Map.{lookup}
 use Rattle.std.specs.BTreeMap.{is_at}
 use Rattle.directory_rules.specs.Event.{Event, Deliver}
-use Rattle.directory_rules.specs.World.{World, Accepted}
+use Rattle.directory_rules.specs.State.{World, Accepted}
 use Rattle.directory_rules.specs.Happens.{happens, least_deliverable}
 use Rattle.directory_rules.specs.Laws.{IsMail}
 use Rattle.directory_rules.proofs.Mails.{mail_there}
@@ -24,7 +24,8 @@ turn_mail : (events : List Event) (world after : World) → HasMail world → in
 turn_mail [] world after mail is = let same : world ≡ after = cc (is) in subst HasMail same mail
 turn_mail (event ∷ events) world after mail is = by (happens world event) refl (λ next now rest. turn_mail events next after now rest) is
   where
-    by : (r : Result Accepted ℕ) → happens world event ≡ r → ((next : World) → HasMail next → in_turn events next ≡ Ok after → HasMail after)
+    by : (r : Result Accepted ℕ) → happens world event ≡ r
+        → ((next : World) → HasMail next → in_turn events next ≡ Ok after → HasMail after)
         → then_on r (λ next. in_turn events next) ≡ Ok after → HasMail after
     by (Err number) happened on is = absurd (cc (is))
     by (Ok accepted) happened on is = on accepted.world (mail_after world event accepted mail happened) is
@@ -59,7 +60,8 @@ order_of (suc more) world after mail is = by (least_deliverable world) refl (λ 
               ∙ ap (λ (r : Result Accepted ℕ). then_on r (λ next. settled_in rest.0 next)) happened ∙ rest.1,
         )
 
-    by : (o : Option ℕ) → least_deliverable world ≡ o → Later → delivering o world (λ next. settled_within more next) ≡ Ok after → IsOrdered world after
+    by : (o : Option ℕ) → least_deliverable world ≡ o → Later → delivering o world (λ next. settled_within more next) ≡ Ok after
+        → IsOrdered world after
     by None none on is = none_left world after none is
     by (Some number) some on is = further number some (happens world (Deliver number)) refl on is
 

@@ -8,10 +8,8 @@ use Rattle.std.proofs.lemmas.Bool.{eqb-true, eqb-false}
 use Rattle.silo_address.specs.Silo.{Silo, silo_eq}
 use Rattle.silo_address.proofs.Same.{Decides-silo}
 use Rattle.directory_rules.specs.declared.act.Act.{Act}
-use Rattle.directory_rules.specs.Letter.{Letter}
-use Rattle.directory_rules.specs.Node.{Node}
+use Rattle.directory_rules.specs.State.{Letter, Node, World, Posted}
 use Rattle.directory_rules.specs.Receive.{received}
-use Rattle.directory_rules.specs.World.{World, Posted}
 use Rattle.directory_rules.specs.Mail.{letter_of, with_delivered, fresh_letter}
 use Rattle.directory_rules.specs.Happens.{node_of}
 use Rattle.directory_rules.proofs.Cases.{on_bool}
@@ -30,12 +28,14 @@ pub record IsComing (world : World) (number : ℕ) (letter : Letter) (node : Nod
   pub flew_before : (k : ℕ) (l : Letter) → Flies (world_after world number letter node) k l
       → (Flies world k l × (k ≢ number)) ⊎ IsNew world.sent (received node letter).letters k l
   -- what flew is this letter, or still flies
-  pub by_flight : (T : Type 0) (k : ℕ) (l : Letter) → Flies world k l → (l ≡ letter → T) → (Flies (world_after world number letter node) k l → T) → T
+  pub by_flight : (T : Type 0) (k : ℕ) (l : Letter) → Flies world k l → (l ≡ letter → T)
+      → (Flies (world_after world number letter node) k l → T) → T
   -- at one of the nodes after
   pub at_node : (P : Node → Type 0) (silo : Silo) (own : Node) → node_of (world_after world number letter node) silo ≡ Some own
       → (silo ≡ letter.to → P (received node letter).node) → (silo ≢ letter.to → node_of world silo ≡ Some own → P own) → P own
 
-module _ (world : World) (number : ℕ) (letter : Letter) (node : Node) (flies : Flies world number letter) (found : letter_of world number ≡ Some letter)
+module _ (world : World) (number : ℕ) (letter : Letter) (node : Node) (flies : Flies world number letter)
+    (found : letter_of world number ≡ Some letter)
     (its : node_of world letter.to ≡ Some node) where
   abbrev base : World
   base = with_delivered world number letter
@@ -43,9 +43,11 @@ module _ (world : World) (number : ℕ) (letter : Letter) (node : Node) (flies :
   abbrev after : World
   after = world_after world number letter node
 
-  came_before : (k : ℕ) (l : Letter) → Flies after k l → (Flies world k l × (k ≢ number)) ⊎ IsNew world.sent (received node letter).letters k l
+  came_before : (k : ℕ) (l : Letter) → Flies after k l → (Flies world k l × (k ≢ number))
+      ⊎ IsNew world.sent (received node letter).letters k l
   came_before k l f =
-      elim (flew base letter.to node (received node letter) its k l f) [ inl was ↦ inl (flies_back world number letter k l found was) | inr new ↦ inr new ]
+      elim (flew base letter.to node (received node letter) its k l f)
+      [ inl was ↦ inl (flies_back world number letter k l found was) | inr new ↦ inr new ]
 
   -- the letter under the number is this one
   same_letter : (k : ℕ) (l : Letter) → Flies world k l → k ≡ number → l ≡ letter
@@ -61,9 +63,11 @@ module _ (world : World) (number : ℕ) (letter : Letter) (node : Node) (flies :
   this_or_still : (T : Type 0) (k : ℕ) (l : Letter) → Flies world k l → (l ≡ letter → T) → (Flies after k l → T) → T
   this_or_still T k l f mine other =
       on_bool (λ b. (k == number) ≡ b → T) (k == number) (λ t at. mine (same_letter k l f (eqb-true k number at)))
-      (λ g at. other (still_flies base letter.to node (received node letter) its k l (flies_past world number letter k l (eqb-false k number at) f))) refl
+      (λ g at. other (still_flies base letter.to node (received node letter) its k l
+      (flies_past world number letter k l (eqb-false k number at) f))) refl
 
-  mine_or_other : (P : Node → Type 0) (silo : Silo) (own : Node) → node_of after silo ≡ Some own → (silo ≡ letter.to → P (received node letter).node)
+  mine_or_other : (P : Node → Type 0) (silo : Silo) (own : Node) → node_of after silo ≡ Some own
+      → (silo ≡ letter.to → P (received node letter).node)
       → (silo ≢ letter.to → node_of world silo ≡ Some own → P own) → P own
   mine_or_other P silo own there mine other =
       on_bool (λ b. silo_eq silo letter.to ≡ b → P own) (silo_eq silo letter.to)
@@ -81,13 +85,16 @@ module _ (world : World) (number : ℕ) (letter : Letter) (node : Node) (flies :
   coming = record { flew_before = came_before; by_flight = this_or_still; at_node = mine_or_other }
 
 -- ---- what was served stays served, where nothing new is asked for, and what the letter ends is outstanding no more
-module _ (start world : World) (number : ℕ) (letter : Letter) (node : Node) (its : node_of world letter.to ≡ Some node) (c : IsComing world number letter node)
+module _ (start world : World) (number : ℕ) (letter : Letter) (node : Node) (its : node_of world letter.to ≡ Some node)
+    (c : IsComing world number letter node)
     (back : (e : ℕ × Act) → Owes (received node letter).node.host e → Owes node.host e) where
   pub kept_still : ((silo : Silo) (own : Node) → node_of world silo ≡ Some own → (e : ℕ × Act) → Owes own.host e → HadAsked start silo e)
-      → (silo : Silo) (own : Node) → node_of (world_after world number letter node) silo ≡ Some own → (e : ℕ × Act) → Owes own.host e → HadAsked start silo e
+      → (silo : Silo) (own : Node) → node_of (world_after world number letter node) silo ≡ Some own → (e : ℕ × Act) → Owes own.host e
+      → HadAsked start silo e
   kept_still kept silo own there e =
       c.at_node (λ (x : Node). Owes x.host e → HadAsked start silo e) silo own there
-      (λ same owes. subst (λ s. HadAsked start s e) (sym same) (kept letter.to node its e (back e owes))) (λ apart its_own. kept silo own its_own e)
+      (λ same owes. subst (λ s. HadAsked start s e) (sym same) (kept letter.to node its e (back e owes)))
+      (λ apart its_own. kept silo own its_own e)
 
   module _ (silo owner : Silo) (p : HasServed start world silo owner) where
     abbrev Gone : World → Type 0
@@ -98,7 +105,8 @@ module _ (start world : World) (number : ℕ) (letter : Letter) (node : Node) (i
         c.at_node (λ (x : Node). Owes x.host p.request → ⊥) silo own there
         (λ same owes. gone node (ap (λ s. node_of world s) same ∙ its) (back p.request owes)) (λ apart its_own. gone own its_own)
 
-    pub served_still : (IsTellOf world.views.version silo p.request letter → Gone (world_after world number letter node)) → HasServed start (world_after world number letter node) silo owner
+    pub served_still : (IsTellOf world.views.version silo p.request letter → Gone (world_after world number letter node))
+        → HasServed start (world_after world number letter node) silo owner
     served_still told = record {
       request = p.request;
       asked = p.asked;
@@ -106,7 +114,10 @@ module _ (start world : World) (number : ℕ) (letter : Letter) (node : Node) (i
       owns = p.owns;
       ends = elim p.ends [
         | inl gone ↦ inl (gone_still gone)
-        | inr flight ↦ c.by_flight (Gone (world_after world number letter node) ⊎ ((k : ℕ) × (l : Letter) × Flies (world_after world number letter node) k l × IsTellOf world.views.version silo p.request l)) flight.0 flight.1 flight.2
-            (λ one. inl (told (subst (λ (x : Letter). IsTellOf world.views.version silo p.request x) one flight.3))) (λ f. inr (flight.0, flight.1, f, flight.3))
+        | inr flight ↦ c.by_flight (Gone (world_after world number letter node)
+            ⊎ ((k : ℕ) × (l : Letter) × Flies (world_after world number letter node) k l × IsTellOf world.views.version silo p.request l))
+            flight.0 flight.1 flight.2
+            (λ one. inl (told (subst (λ (x : Letter). IsTellOf world.views.version silo p.request x) one flight.3)))
+            (λ f. inr (flight.0, flight.1, f, flight.3))
       ];
     }

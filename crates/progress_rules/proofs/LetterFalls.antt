@@ -20,16 +20,14 @@ use Rattle.directory_rules.specs.declared.effect.Effect.TheVariants as effect
 use Rattle.directory_rules.specs.declared.piece_state.PieceState.{PieceState}
 use Rattle.directory_rules.specs.declared.piece_state.PieceState.TheVariants as state
 use Rattle.directory_rules.specs.Members.{members_of}
-use Rattle.directory_rules.specs.Table.{Table, rise_by_grain, lie_in}
-use Rattle.directory_rules.specs.Piece.{Piece}
-use Rattle.directory_rules.specs.Snapshot.{Page, shelf_answer}
-use Rattle.directory_rules.specs.Gatherings.{Gathering, Refuses, gathered}
-use Rattle.directory_rules.specs.Recovery.{Report, Recovered, Awaits_more, Has_union, Rejects, recovered}
-use Rattle.directory_rules.specs.Host.{Host, asking_under, closing_under, is_finding, is_outstanding, confirmed, without_held, without_find, with_started, next_held, entry_of}
-use Rattle.directory_rules.specs.Cache.{Cache, learnt}
+use Rattle.directory_rules.specs.State.{Table, Piece, Page, Gathering, Report, Host, Cache, Letter, Body, Request_letter, Reply_letter, Ask_letter, Page_letter, Missing_letter, Done_letter, Query_letter, Report_letter, Behind_letter, Ahead_letter, Offer_letter, Node}
+use Rattle.directory_rules.specs.Table.{rise_by_grain, lie_in}
+use Rattle.directory_rules.specs.Snapshot.{shelf_answer}
+use Rattle.directory_rules.specs.Gatherings.{Refuses, gathered}
+use Rattle.directory_rules.specs.Recovery.{Recovered, Awaits_more, Has_union, Rejects, recovered}
+use Rattle.directory_rules.specs.Host.{asking_under, closing_under, is_finding, is_outstanding, confirmed, without_held, without_find, with_started, next_held, entry_of}
+use Rattle.directory_rules.specs.Cache.{learnt}
 use Rattle.directory_rules.specs.Answer.{answered}
-use Rattle.directory_rules.specs.Letter.{Letter, Body, Request_letter, Reply_letter, Ask_letter, Page_letter, Missing_letter, Done_letter, Query_letter, Report_letter, Behind_letter, Ahead_letter, Offer_letter}
-use Rattle.directory_rules.specs.Node.{Node}
 use Rattle.directory_rules.specs.Sent.{letter_if_owned, owner_by, hash_of, request_of, gathering_of, recovery_of}
 use Rattle.directory_rules.specs.Step.{Stepped, silently, started}
 use Rattle.directory_rules.specs.Reply.{replied, at_seen, confirmed_by, yielded_by, ended_by, found_by, not_found_by}
@@ -48,18 +46,21 @@ use Rattle.progress_rules.proofs.PageFalls.{page_falls, missing_falls}
 use Rattle.progress_rules.proofs.ShelfFalls.{ask_falls, done_falls}
 
 module _ (due : Silo → Range → ℕ) (n : ℕ) (hashing : Hashing) (node : Node) (has : HasPieces hashing node) (letter : Letter) where
-  shelf_same : (silo : Silo) (version : ℕ) (range : Range) → pages_shelved (Some node) silo version range ≤ pages_shelved (Some node) silo version range
+  shelf_same : (silo : Silo) (version : ℕ) (range : Range)
+      → pages_shelved (Some node) silo version range ≤ pages_shelved (Some node) silo version range
   shelf_same silo version range = le_same (pages_shelved (Some node) silo version range)
 
   -- ---- queries and reports
   query_falls : (range : Range) → Falls due n node (Query_letter range) (queried node letter range)
   query_falls range =
       on_bool (λ b. Falls due n node (Query_letter range)
-      (cond b (back (Behind_letter range) effect.Behind) (cond (nat_lt letter.version node.view.version) (back (Ahead_letter range) effect.Ahead)
+      (cond b (back (Behind_letter range) effect.Behind)
+      (cond (nat_lt letter.version node.view.version) (back (Ahead_letter range) effect.Ahead)
       (back (Report_letter (report_of node range)) effect.Report))))
       (nat_lt node.view.version letter.version)
       (λ t. answers due n node (Query_letter range) letter (Behind_letter range) effect.Behind (le_same 1) refl refl)
-      (λ f. on_bool (λ b. Falls due n node (Query_letter range) (cond b (back (Ahead_letter range) effect.Ahead) (back (Report_letter (report_of node range)) effect.Report)))
+      (λ f. on_bool (λ b. Falls due n node (Query_letter range)
+      (cond b (back (Ahead_letter range) effect.Ahead) (back (Report_letter (report_of node range)) effect.Report)))
       (nat_lt letter.version node.view.version)
       (λ t. answers due n node (Query_letter range) letter (Ahead_letter range) effect.Ahead (le_same 1) refl refl)
       (λ g. answers due n node (Query_letter range) letter (Report_letter (report_of node range)) effect.Report (le_same 1) refl refl))
@@ -67,31 +68,37 @@ module _ (due : Silo → Range → ℕ) (n : ℕ) (hashing : Hashing) (node : No
       back : Body → Effect → Stepped
       back body its = record { node = node; letters = answer_to letter node body ∷ []; effect = its }
 
-  completes : (report : Report) (table : Table) → HasRecovering node report.range → need due n (with_settled node report.range table) ≤ need due n node
+  completes : (report : Report) (table : Table) → HasRecovering node report.range
+      → need due n (with_settled node report.range table) ≤ need due n node
   completes report table its =
       let set = need_set due n hashing node has (with_settled node report.range table) report.range its.piece
       (record { range = report.range; state = state.Settled; entries = table }) its.found refl
       (λ other apart. settled_beside node report.range other table apart) in
       omega (arith, set)
 
-  by_recovered : (report : Report) (result : Recovered) → HasRecovering node report.range → Falls due n node (Report_letter report) (recovered_by result report.range node)
-  by_recovered report (Awaits_more recovery) its = quietly due n node (Report_letter report) (with_recovery node recovery) effect.More (le_same (need due n node))
+  by_recovered : (report : Report) (result : Recovered) → HasRecovering node report.range
+      → Falls due n node (Report_letter report) (recovered_by result report.range node)
+  by_recovered report (Awaits_more recovery) its =
+      quietly due n node (Report_letter report) (with_recovery node recovery) effect.More (le_same (need due n node))
       (le_same (length (requests_of node.host))) shelf_same refl refl
-  by_recovered report (Has_union table) its = quietly due n node (Report_letter report) (with_settled node report.range table) effect.Complete (completes report table its)
+  by_recovered report (Has_union table) its =
+      quietly due n node (Report_letter report) (with_settled node report.range table) effect.Complete (completes report table its)
       (le_same (length (requests_of node.host))) shelf_same refl refl
   by_recovered report (Rejects number) its = nothing due n node (Report_letter report) effect.Ignored
 
   report_falls : (report : Report) → Falls due n node (Report_letter report) (reported node letter report)
   report_falls report =
       on_bool (λ b. is_report_awaited node letter report ≡ b
-      → Falls due n node (Report_letter report) (cond b (recovered_by (recovered (recovery_of node report.range) report) report.range node) (silently node effect.Ignored)))
+      → Falls due n node (Report_letter report) (cond b (recovered_by (recovered (recovery_of node report.range) report) report.range node)
+      (silently node effect.Ignored)))
       (is_report_awaited node letter report)
       (λ t counts.
       let all = both (version && sender && waits && rise && lie) own counts in
       let five = both (version && sender && waits && rise) lie all.0 in
       let four = both (version && sender && waits) rise five.0 in
       let three = both (version && sender) waits four.0 in
-      by_recovered report (recovered (recovery_of node report.range) report) (recovering_piece node report.range (both (letter.version == node.view.version) _ three.1).1))
+      by_recovered report (recovered (recovery_of node report.range) report)
+      (recovering_piece node report.range (both (letter.version == node.view.version) _ three.1).1))
       (λ f not. nothing due n node (Report_letter report) effect.Ignored) refl
     where
       version : Bool
@@ -115,7 +122,8 @@ module _ (due : Silo → Range → ℕ) (n : ℕ) (hashing : Hashing) (node : No
   -- ---- requests and replies
   request_falls : (request : Request) → Falls due n node (Request_letter request) (requested node letter request)
   request_falls request =
-      on_bool (λ b. Falls due n node (Request_letter request) (cond b (replying node request (answered node.holding request)) (silently node effect.Ignored)))
+      on_bool (λ b. Falls due n node (Request_letter request)
+      (cond b (replying node request (answered node.holding request)) (silently node effect.Ignored)))
       (silo_eq request.sender letter.from && (request.version == letter.version))
       (λ t. record {
         sends =
@@ -138,7 +146,8 @@ module _ (due : Silo → Range → ℕ) (n : ℕ) (hashing : Hashing) (node : No
     abbrev Replies : Stepped → Type 0
     Replies stepped = Falls due n node (Reply_letter number answer) stepped
 
-    hosts : (host : Host) (cache : Cache) (its : Effect) → length (requests_of host) ≤ length (requests_of node.host) → host.silo ≡ node.host.silo
+    hosts : (host : Host) (cache : Cache) (its : Effect) → length (requests_of host) ≤ length (requests_of node.host)
+        → host.silo ≡ node.host.silo
         → Replies (silently (record node { host = host; cache = cache }) its)
     hosts host cache its less same = quietly due n node (Reply_letter number answer) (record node { host = host; cache = cache }) its
         (le_same (need due n node)) less shelf_same same refl
@@ -147,7 +156,9 @@ module _ (due : Silo → Range → ℕ) (n : ℕ) (hashing : Hashing) (node : No
     noted its = nothing due n node (Reply_letter number answer) its
 
     seen_or : (version : ℕ) (stepped : Stepped) → Replies stepped → Replies (at_seen version node stepped)
-    seen_or version stepped is = on_bool (λ b. Replies (cond b stepped (silently node effect.Ignored))) (version == node.view.version) (λ t. is) (λ f. noted effect.Ignored)
+    seen_or version stepped is =
+        on_bool (λ b. Replies (cond b stepped (silently node effect.Ignored))) (version == node.view.version) (λ t. is)
+        (λ f. noted effect.Ignored)
 
     confirms : (o : Option (Grain × Held)) → Replies (confirmed_by o node)
     confirms None = noted effect.Ignored
@@ -162,20 +173,28 @@ module _ (due : Silo → Range → ℕ) (n : ℕ) (hashing : Hashing) (node : No
     ends (Some e) = hosts (without_held node.host e.0) node.cache effect.Ended (held_less node.host e.0) refl
 
     reply_falls : (version under : ℕ) (its : Reply) → Replies (replied node version under its)
-    reply_falls version under (reply.Registered entry) = seen_or version (confirmed_by (asking_under node.host under) node) (confirms (asking_under node.host under))
-    reply_falls version under (reply.Taken entry) = seen_or version (yielded_by (asking_under node.host under) entry node) (yields (asking_under node.host under) entry)
-    reply_falls version under reply.Removed = seen_or version (ended_by (closing_under node.host under) node) (ends (closing_under node.host under))
-    reply_falls version under reply.Absent = seen_or version (ended_by (closing_under node.host under) node) (ends (closing_under node.host under))
+    reply_falls version under (reply.Registered entry) =
+        seen_or version (confirmed_by (asking_under node.host under) node) (confirms (asking_under node.host under))
+    reply_falls version under (reply.Taken entry) =
+        seen_or version (yielded_by (asking_under node.host under) entry node) (yields (asking_under node.host under) entry)
+    reply_falls version under reply.Removed =
+        seen_or version (ended_by (closing_under node.host under) node) (ends (closing_under node.host under))
+    reply_falls version under reply.Absent =
+        seen_or version (ended_by (closing_under node.host under) node) (ends (closing_under node.host under))
     reply_falls version under (reply.Found entry) =
         seen_or version (found_by under entry node)
-        (on_bool (λ b. Replies (cond b (silently (record node { host = without_find node.host under; cache = learnt node.cache entry }) effect.Learnt)
+        (on_bool (λ b. Replies (cond b (silently (record node { host = without_find node.host under; cache = learnt node.cache entry })
+        effect.Learnt)
         (silently node effect.Ignored))) (is_finding node.host under)
-        (λ t. hosts (without_find node.host under) (learnt node.cache entry) effect.Learnt (find_less node.host under) refl) (λ f. noted effect.Ignored))
+        (λ t. hosts (without_find node.host under) (learnt node.cache entry) effect.Learnt (find_less node.host under) refl)
+        (λ f. noted effect.Ignored))
     reply_falls version under reply.Nothing =
         seen_or version (not_found_by under node)
-        (on_bool (λ b. Replies (cond b (silently (record node { host = without_find node.host under }) effect.Noted) (silently node effect.Ignored))) (is_finding node.host under)
+        (on_bool (λ b. Replies (cond b (silently (record node { host = without_find node.host under }) effect.Noted)
+        (silently node effect.Ignored))) (is_finding node.host under)
         (λ t. hosts (without_find node.host under) node.cache effect.Noted (find_less node.host under) refl) (λ f. noted effect.Ignored))
-    reply_falls version under (reply.Retry why) = on_bool (λ b. Replies (cond b (silently node effect.Noted) (silently node effect.Ignored))) (is_outstanding node.host under)
+    reply_falls version under (reply.Retry why) =
+        on_bool (λ b. Replies (cond b (silently node effect.Noted) (silently node effect.Ignored))) (is_outstanding node.host under)
         (λ t. noted effect.Noted) (λ f. noted effect.Ignored)
 
   -- ---- offers
@@ -212,20 +231,25 @@ module _ (due : Silo → Range → ℕ) (n : ℕ) (hashing : Hashing) (node : No
 
   offer_falls : (entry : Entry) → Falls due n node (Offer_letter entry) (offered_to node letter entry)
   offer_falls entry =
-      on_bool (λ b. Falls due n node (Offer_letter entry) (cond b (started node entry.grain (Some entry.activation)) (silently node effect.Ignored)))
+      on_bool (λ b. Falls due n node (Offer_letter entry)
+      (cond b (started node entry.grain (Some entry.activation)) (silently node effect.Ignored)))
       (takes_offer node letter entry)
       (λ t. begins_one entry) (λ f. nothing due n node (Offer_letter entry) effect.Ignored)
 
   -- ---- whatever the letter says
-  pub letter_falls : (body : Body) → length (members_of node.view) ≤ n → ((page : Page) → body ≡ Page_letter page → is_page_awaited node letter page ≡ true
+  pub letter_falls : (body : Body) → length (members_of node.view) ≤ n
+      → ((page : Page) → body ≡ Page_letter page → is_page_awaited node letter page ≡ true
       → page.pages ≤ due letter.from page.range)
-      → ((page : Page) (left : Gathering) → body ≡ Page_letter page → is_page_awaited node letter page ≡ true → gathered (gathering_of node page.range) page ≡ Refuses 701 left
+      → ((page : Page) (left : Gathering) → body ≡ Page_letter page → is_page_awaited node letter page ≡ true
+      → gathered (gathering_of node page.range) page ≡ Refuses 701 left
       → ⊥) → Falls due n node body (received_body body node letter)
   letter_falls (Request_letter request) few told kept = request_falls request
   letter_falls (Reply_letter number answer) few told kept = reply_falls number answer letter.version number answer
   letter_falls (Ask_letter range page) few told kept =
-      ask_falls due n hashing node has letter range page (shelf_answer node.shelf node.view.version letter.version range letter.from page) refl
-  letter_falls (Page_letter page) few told kept = page_falls due n hashing node has letter page (told page refl) (λ left. kept page left refl)
+      ask_falls due n hashing node has letter range page (shelf_answer node.shelf node.view.version letter.version range letter.from page)
+      refl
+  letter_falls (Page_letter page) few told kept =
+      page_falls due n hashing node has letter page (told page refl) (λ left. kept page left refl)
   letter_falls (Missing_letter range) few told kept = missing_falls due n hashing node has letter range few
   letter_falls (Done_letter range) few told kept = done_falls due n hashing node has letter range
   letter_falls (Query_letter range) few told kept = query_falls range

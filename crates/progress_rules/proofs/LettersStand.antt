@@ -23,12 +23,11 @@ use Rattle.ring_range.specs.Range.{Range}
 use Rattle.hash_ring.specs.Places.{PlacesValue}
 use Rattle.directory_rules.proofs.Decided.{died}
 use Rattle.directory_rules.specs.Settings.{Settings, AreSettings}
-use Rattle.directory_rules.specs.Letter.{Letter, Body, Page_letter, Done_letter}
-use Rattle.directory_rules.specs.Node.{Node}
+use Rattle.directory_rules.specs.State.{Letter, Body, Page_letter, Done_letter, Node, World, Posted, Accepted}
 use Rattle.directory_rules.specs.Step.{Stepped}
 use Rattle.directory_rules.specs.Input.{Input, Sees, Receives, step, sight_of}
 use Rattle.directory_rules.specs.Event.{Event, IsEvent}
-use Rattle.directory_rules.specs.World.{World, Posted, Accepted, first_world, membership_of}
+use Rattle.directory_rules.specs.World.{first_world, membership_of}
 use Rattle.directory_rules.specs.Mail.{fresh_letter, numbered, letter_of, with_delivered, with_lost}
 use Rattle.directory_rules.specs.Happens.{happens, node_of, after_joining, counted}
 use Rattle.directory_rules.specs.Run.{run, world_after}
@@ -57,11 +56,13 @@ numbered_stand : (P : Letter → Type 0) (from : ℕ) (letters : List Letter) �
     → All (λ (e : ℕ × Posted). P e.1.letter) (map (λ e. (e.0, fresh_letter e.1)) (enumerate_from from letters))
 numbered_stand P from [] all = All-nil (λ (e : ℕ × Posted). P e.1.letter)
 numbered_stand P from (letter ∷ letters) all =
-    All-cons (λ (e : ℕ × Posted). P e.1.letter) (from, fresh_letter letter) (map (λ e. (e.0, fresh_letter e.1)) (enumerate_from (from + 1) letters))
+    All-cons (λ (e : ℕ × Posted). P e.1.letter) (from, fresh_letter letter)
+    (map (λ e. (e.0, fresh_letter e.1)) (enumerate_from (from + 1) letters))
     (All-head P letter letters all)
     (numbered_stand P (from + 1) letters (All-tail P letter letters all))
 
-pub in_mail : (P : Letter → Type 0) (world : World) (number : ℕ) (letter : Letter) → All (λ e. P e.1.letter) world.mail → letter_of world number ≡ Some letter → P letter
+pub in_mail : (P : Letter → Type 0) (world : World) (number : ℕ) (letter : Letter) → All (λ e. P e.1.letter) world.mail
+    → letter_of world number ≡ Some letter → P letter
 in_mail P world number letter all is = by (lookup (is_at (nat_cmp number)) world.mail) refl is
   where
     by : (o : Option Posted) → lookup (is_at (nat_cmp number)) world.mail ≡ o → option_map (λ p. p.letter) o ≡ Some letter → P letter
@@ -71,7 +72,8 @@ in_mail P world number letter all is = by (lookup (is_at (nat_cmp number)) world
         subst P same (found_so (λ (e : ℕ × Posted). P e.1.letter) (is_at (nat_cmp number)) posted world.mail all found).2
 
 -- who was known still is after a change
-known_on : (views : ViewsValue) → IsViews views → (way : change.Change) (next : ViewsValue) → change.after views way ≡ Ok next → (silo : Silo) → Known views silo
+known_on : (views : ViewsValue) → IsViews views → (way : change.Change) (next : ViewsValue) → change.after views way ≡ Ok next
+    → (silo : Silo) → Known views silo
     → Known next silo
 known_on views whole way next is silo known =
     let accepts : Accepts views way next = record { whole = whole; is = is } in
@@ -98,7 +100,8 @@ module _ (settings : Settings) (are : AreSettings settings) (events : List Event
   peopled = peopled_after settings events are
 
   known_there : (silo : Silo) (node : Node) → node_of f silo ≡ Some node → Known f.views silo
-  known_there silo node its = live_there (status_at f.views f.views.version silo) (sym (peopled.live silo) ∙ ap (λ (o : Option Node). is_some o) its)
+  known_there silo node its =
+      live_there (status_at f.views f.views.version silo) (sym (peopled.live silo) ∙ ap (λ (o : Option Node). is_some o) its)
 
   module _ (silo : Silo) (node : Node) (its : node_of f silo ≡ Some node) where
     facts : all_facts.node f.settings f.views f.places silo node
@@ -112,7 +115,8 @@ module _ (settings : Settings) (are : AreSettings settings) (events : List Event
     by_silo = facts.0.0.0.0.by_silo
 
     -- ---- a silo takes a step
-    module _ (input : Input) (stepped : Stepped) (made : step node input ≡ Ok stepped) (past : (version : ℕ) (range : Range) (to : Silo) → IsDoneFor input version range to
+    module _ (input : Input) (stepped : Stepped) (made : step node input ≡ Ok stepped)
+        (past : (version : ℕ) (range : Range) (to : Silo) → IsDoneFor input version range to
         → Past f to version range) where
       says : Says node input stepped
       says = step_says node input stepped made
@@ -122,7 +126,9 @@ module _ (settings : Settings) (are : AreSettings settings) (events : List Event
       goes (inr same) = inr (record {
         view = same;
         awaits = λ range giver waits. awaited_before f.settings.hashing node has input stepped made same range giver waits;
-        shelf = λ version range to there. elim (says.keeps same version range to there) [ inl still ↦ inl still | inr done ↦ inr (past version range to done) ];
+        shelf =
+            λ version range to there. elim (says.keeps same version range to there)
+            [ inl still ↦ inl still | inr done ↦ inr (past version range to done) ];
       })
 
       module _ (mail : List (ℕ × Posted)) where
@@ -162,11 +168,13 @@ module _ (settings : Settings) (are : AreSettings settings) (events : List Event
 
         all_after : All (λ e. Stands f e.1.letter e.1.letter.body) mail → AllStand after
         all_after all =
-            All-append (λ (e : ℕ × Posted). Stands after e.1.letter e.1.letter.body) mail (numbered f stepped.letters) (all_on f after onward mail all)
+            All-append (λ (e : ℕ × Posted). Stands after e.1.letter e.1.letter.body) mail (numbered f stepped.letters)
+            (all_on f after onward mail all)
             (numbered_stand (λ l. Stands after l l.body) (f.sent + 1) stepped.letters (λ i d below. new_stands _ _ (says.tells i d below)))
 
   -- ---- each event
-  joined : (silo : Silo) (next : ViewsValue) (added : PlacesValue) → change.after_join f.views silo ≡ Ok next → (old : Option Silo) → AllStand f
+  joined : (silo : Silo) (next : ViewsValue) (added : PlacesValue) → change.after_join f.views silo ≡ Ok next → (old : Option Silo)
+      → AllStand f
       → AllStand (counted (after_joining f silo old next added))
   joined silo next added is old all = by old refl
     where
@@ -176,7 +184,8 @@ module _ (settings : Settings) (are : AreSettings settings) (events : List Event
       step_is : Joins silo (view_at f.views f.views.version) (view_at next next.version)
       step_is = changes_are_steps f.views (change.Join silo) next accepts
 
-      nodes : (o : Option Silo) (other : Silo) (later : Node) → Known f.views other → node_of (after_joining f silo o next added) other ≡ Some later
+      nodes : (o : Option Silo) (other : Silo) (later : Node) → Known f.views other
+          → node_of (after_joining f silo o next added) other ≡ Some later
           → (node : Node) × (node_of f other ≡ Some node) × GoesFrom f node later
       nodes o other later known there = elim (joining_node f peopled silo next added o other later there) [
         | inl its ↦
@@ -188,11 +197,16 @@ module _ (settings : Settings) (are : AreSettings settings) (events : List Event
 
       by : (o : Option Silo) → old ≡ o → AllStand (counted (after_joining f silo o next added))
       by None same = all_on f (counted (after_joining f silo None next added))
-          (record { known = λ other known. known_on f.views peopled.whole (change.Join silo) next is other known; nodes = nodes None }) f.mail all
+          (record { known = λ other known. known_on f.views peopled.whole (change.Join silo) next is other known; nodes = nodes None })
+          f.mail all
       by (Some gone) same = all_on f (counted (after_joining f silo (Some gone) next added))
-          (record { known = λ other known. known_on f.views peopled.whole (change.Join silo) next is other known; nodes = nodes (Some gone) }) f.mail all
+          (record {
+            known = λ other known. known_on f.views peopled.whole (change.Join silo) next is other known;
+            nodes = nodes (Some gone);
+          }) f.mail all
 
-  delivered_past : (number : ℕ) (letter : Letter) → AllStand f → letter_of f number ≡ Some letter → (version : ℕ) (range : Range) (to : Silo)
+  delivered_past : (number : ℕ) (letter : Letter) → AllStand f → letter_of f number ≡ Some letter
+      → (version : ℕ) (range : Range) (to : Silo)
       → IsDoneFor (Receives letter) version range to → Past f to version range
   delivered_past number letter all found version range to done =
       let one = same_letter letter done.letter done.is in
@@ -211,13 +225,21 @@ module _ (settings : Settings) (are : AreSettings settings) (events : List Event
       known = λ other known. known_on f.views peopled.whole (change.Die silo) (change.with_death f.views silo) is other known;
       nodes = λ other later known there. (later, still_there f peopled silo other later there, stays_same f later);
     }) f.mail all;
-    sees = λ silo version node stepped its sight made. all_after silo node its (sight_of (membership_of f) version) stepped made (λ v range to done. absurd (no_receipt done.is)) f.mail all;
-    does = λ silo input node stepped own its made. all_after silo node its input stepped made (λ v range to done. absurd (subst IsOwnInput done.is own)) f.mail all;
+    sees =
+        λ silo version node stepped its sight made. all_after silo node its (sight_of (membership_of f) version) stepped made
+        (λ v range to done. absurd (no_receipt done.is)) f.mail all;
+    does =
+        λ silo input node stepped own its made. all_after silo node its input stepped made
+        (λ v range to done. absurd (subst IsOwnInput done.is own)) f.mail all;
     delivers = λ number letter node stepped found its made.
-        all_after letter.to node its (Receives letter) stepped made (delivered_past number letter all found) (with_delivered f number letter).mail
-        (all_set (λ (e : ℕ × Posted). Stands f e.1.letter e.1.letter.body) (is_at (nat_cmp number)) (record { letter = letter; fresh = false }) f.mail
+        all_after letter.to node its (Receives letter) stepped made (delivered_past number letter all found)
+        (with_delivered f number letter).mail
+        (all_set (λ (e : ℕ × Posted). Stands f e.1.letter e.1.letter.body) (is_at (nat_cmp number))
+        (record { letter = letter; fresh = false }) f.mail
         (λ key old at so. in_mail (λ l. Stands f l l.body) f number letter all found) all);
-    loses = λ number. all_on f (counted (with_lost f number)) (record { known = λ other known. known; nodes = λ other later known there. (later, there, stays_same f later) })
+    loses =
+        λ number. all_on f (counted (with_lost f number))
+        (record { known = λ other known. known; nodes = λ other later known there. (later, there, stays_same f later) })
         (with_lost f number).mail
         (all_removed (λ (e : ℕ × Posted). Stands f e.1.letter e.1.letter.body) (is_at (nat_cmp number)) f.mail all);
   }
@@ -226,12 +248,14 @@ module _ (settings : Settings) (are : AreSettings settings) (events : List Event
   stand_event all event = by_event f (λ a. AllStand a.world) (ways all) event
 
 -- ---- runs
-stand_result : (world : World) (result : Result Accepted ℕ) → IfOk result (λ a. AllStand a.world) → AllStand world → AllStand (world_after result world)
+stand_result : (world : World) (result : Result Accepted ℕ) → IfOk result (λ a. AllStand a.world) → AllStand world
+    → AllStand (world_after result world)
 stand_result world (Ok accepted) stands before = stands
 stand_result world (Err number) stands before = before
 
 module _ (settings : Settings) (are : AreSettings settings) where
-  stand_run : (before rest : List Event) → All IsEvent before → All IsEvent rest → AllStand (world_by settings before) → AllStand (run (world_by settings before) rest).world
+  stand_run : (before rest : List Event) → All IsEvent before → All IsEvent rest → AllStand (world_by settings before)
+      → AllStand (run (world_by settings before) rest).world
   unfolding run
   stand_run before [] named more all = all
   stand_run before (event ∷ rest) named more all =
@@ -239,9 +263,11 @@ module _ (settings : Settings) (are : AreSettings settings) where
       let one = one_more settings before event in
       let then = stand_result world (happens world event) (stand_event settings are before named all event) all in
       subst (λ w. AllStand (run w rest).world) one
-      (stand_run (before ++ event ∷ []) rest (All-append IsEvent before (event ∷ []) named (All-cons IsEvent event [] (All-head IsEvent event rest more) (All-nil IsEvent)))
+      (stand_run (before ++ event ∷ []) rest (All-append IsEvent before (event ∷ []) named
+      (All-cons IsEvent event [] (All-head IsEvent event rest more) (All-nil IsEvent)))
       (All-tail IsEvent event rest more) (subst AllStand (sym one) then))
 
   pub all_stand : (events : List Event) → All IsEvent events → AllStand (world_by settings events)
   unfolding run
-  all_stand events named = stand_run [] events (All-nil IsEvent) named (All-nil (λ (e : ℕ × Posted). Stands (first_world settings) e.1.letter e.1.letter.body))
+  all_stand events named =
+      stand_run [] events (All-nil IsEvent) named (All-nil (λ (e : ℕ × Posted). Stands (first_world settings) e.1.letter e.1.letter.body))

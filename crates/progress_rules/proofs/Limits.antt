@@ -6,7 +6,7 @@ use Rattle.directory_rules.specs.Settings.{Settings, AreSettings}
 use Rattle.directory_rules.specs.Input.{Input}
 use Rattle.directory_rules.specs.Event.{Event, IsEvent}
 use Rattle.directory_facts.specs.Laws.{world_by}
-use Rattle.directory_rules.specs.World.{World}
+use Rattle.directory_rules.specs.State.{World}
 use Rattle.progress_rules.specs.Plan.{plan}
 use Rattle.progress_rules.specs.Limits.{IsLimit, LimitsAloneRefuse, NumbersSuffice, NumbersNeverRefuse}
 use Rattle.progress_rules.proofs.Refused.{Refused}
@@ -16,7 +16,8 @@ use Rattle.progress_rules.proofs.PlanEnds.{PlanKeeps, Reached, Ends, plan_ends}
 
 -- whatever each refusal of an event says, the plan's says
 abbrev SayIt : Settings → (ℕ → Type 0) → Type 0
-SayIt settings E = (world : World) (silo : Silo) (input : Input) (number : ℕ) → IsReachedBy settings world → Refused world silo input number → E number
+SayIt settings E =
+    (world : World) (silo : Silo) (input : Input) (number : ℕ) → IsReachedBy settings world → Refused world silo input number → E number
 
 module _ (settings : Settings) (E : ℕ → Type 0) (say : SayIt settings E) where
   keeps : PlanKeeps settings (λ world. ⊤) E
@@ -27,7 +28,8 @@ module _ (settings : Settings) (E : ℕ → Type 0) (say : SayIt settings E) whe
     refuses = λ world silo input number r on refused. say world silo input number r refused;
   }
 
-  refused_so : (events : List Event) (number : ℕ) → AreSettings settings → All IsEvent events → plan (world_by settings events) ≡ Err number → E number
+  refused_so : (events : List Event) (number : ℕ) → AreSettings settings → All IsEvent events → plan (world_by settings events) ≡ Err number
+      → E number
   refused_so events number are named is =
       let first : IsReachedBy settings (world_by settings events) = record { events = events; named = named; is = refl } in
       subst (Ends (Reached settings (λ world. ⊤)) E) is (plan_ends settings are (λ world. ⊤) E keeps (world_by settings events) (first, tt))
@@ -39,7 +41,8 @@ by_limits world silo input number (inr (inr none)) = inr none.number_is
 
 pub limits_alone_refuse : LimitsAloneRefuse
 limits_alone_refuse settings events number are named is =
-    refused_so settings (λ n. IsLimit n ⊎ (n ≡ 805)) (λ world silo input n r refused. by_limits world silo input n refused) events number are named is
+    refused_so settings (λ n. IsLimit n ⊎ (n ≡ 805)) (λ world silo input n r refused. by_limits world silo input n refused) events number
+    are named is
 
 -- where numbers suffice
 but_numbers : (settings : Settings) → NumbersSuffice settings → SayIt settings IsLimit
@@ -51,4 +54,5 @@ but_numbers settings suffice world silo input number r (inr (inr none)) =
     absurd (cc (has, lacks))
 
 pub numbers_never_refuse : NumbersNeverRefuse
-numbers_never_refuse settings events number are suffice named is = refused_so settings IsLimit (but_numbers settings suffice) events number are named is
+numbers_never_refuse settings events number are suffice named is =
+    refused_so settings IsLimit (but_numbers settings suffice) events number are named is

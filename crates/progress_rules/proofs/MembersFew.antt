@@ -14,7 +14,8 @@ use Rattle.silo_address.proofs.Order.{silo_cmp_total, silo_cmp_exact}
 use Rattle.silo_address.proofs.Same.{Decides-silo}
 use Rattle.directory_rules.specs.Members.{members_of}
 use Rattle.directory_rules.specs.Recovery.{is_among}
-use Rattle.directory_rules.specs.World.{World, current_view}
+use Rattle.directory_rules.specs.State.{World}
+use Rattle.directory_rules.specs.World.{current_view}
 use Rattle.directory_rules.proofs.Cases.{on_bool}
 use Rattle.directory_facts.proofs.Entries.{same_key}
 use Rattle.directory_headline.proofs.Settings.{view_by_address}
@@ -25,10 +26,12 @@ all_some : {X : Type 0} (k : Silo) (test : Silo × X → Bool) (es : List (Silo 
     → AllByRecursion (λ y. silo_cmp k y ≡ Less) (keys_of (filter test es))
 all_some k test [] all = tt
 all_some k test (e ∷ es) all =
-    on_bool (λ b. AllByRecursion (λ y. silo_cmp k y ≡ Less) (keys_of (cond b (e ∷ filter test es) (filter test es)))) (test e) (λ t. (all.0, all_some k test es all.1))
+    on_bool (λ b. AllByRecursion (λ y. silo_cmp k y ≡ Less) (keys_of (cond b (e ∷ filter test es) (filter test es)))) (test e)
+    (λ t. (all.0, all_some k test es all.1))
     (λ f. all_some k test es all.1)
 
-some_sorted : {X : Type 0} (test : Silo × X → Bool) (es : List (Silo × X)) → IsStrictlySortedBy silo_cmp (keys_of es) → IsStrictlySortedBy silo_cmp (keys_of (filter test es))
+some_sorted : {X : Type 0} (test : Silo × X → Bool) (es : List (Silo × X)) → IsStrictlySortedBy silo_cmp (keys_of es)
+    → IsStrictlySortedBy silo_cmp (keys_of (filter test es))
 unfolding IsStrictlySortedBy
 some_sorted test [] sorted = sorted
 some_sorted test (e ∷ es) sorted =
@@ -41,11 +44,13 @@ one_test q s =
     on_bool (λ b. silo_eq q s ≡ b → eq_by_cmp silo_cmp q s ≡ b) (silo_eq q s)
     (λ t is. ap (eq_by_cmp silo_cmp q) (sym ((Decides-silo q s).0 is)) ∙ ap is_eq (tied_itself silo_cmp_total q))
     (λ f is. on_bool (λ b. eq_by_cmp silo_cmp q s ≡ b → b ≡ false) (eq_by_cmp silo_cmp q s)
-    (λ t tied. let same = (Decides-silo q s).1 (same_key silo_cmp silo_cmp_exact q s tied) in absurd (cc (same, is))) (λ g apart. refl) refl) refl
+    (λ t tied. let same = (Decides-silo q s).1 (same_key silo_cmp silo_cmp_exact q s tied) in absurd (cc (same, is))) (λ g apart. refl)
+    refl) refl
 
 among_by_order : (q : Silo) (silos : List Silo) → list_any (eq_by_cmp silo_cmp q) silos ≡ is_among q silos
 among_by_order q [] = refl
-among_by_order q (s ∷ silos) = ap (λ b. b || list_any (eq_by_cmp silo_cmp q) silos) (one_test q s) ∙ ap (λ b. silo_eq q s || b) (among_by_order q silos)
+among_by_order q (s ∷ silos) =
+    ap (λ b. b || list_any (eq_by_cmp silo_cmp q) silos) (one_test q s) ∙ ap (λ b. silo_eq q s || b) (among_by_order q silos)
 
 pub members_few : (world : World) → IsResting world → length (members_of (current_view world)) ≤ length world.nodes
 members_few world r =

@@ -11,14 +11,11 @@ use Rattle.ring_range.specs.Range.{Range}
 use Rattle.directory_rules.specs.declared.act.Act.{Act}
 use Rattle.directory_rules.specs.declared.piece_state.PieceState.{PieceState}
 use Rattle.directory_rules.specs.declared.piece_state.PieceState.TheVariants as state
-use Rattle.directory_rules.specs.Piece.{Piece}
+use Rattle.directory_rules.specs.State.{Piece, Letter, Body, Request_letter, Query_letter, Node, World}
 use Rattle.directory_rules.specs.Host as host
 use Rattle.directory_rules.specs.Host.{outstanding}
-use Rattle.directory_rules.specs.Letter.{Letter, Body, Request_letter, Query_letter}
-use Rattle.directory_rules.specs.Node.{Node}
 use Rattle.directory_rules.specs.Sent.{letter_to, letter_if_owned, owner_by, hash_of, request_of, request_letters, recovery_of, wants_by, all_requests, all_wants}
 use Rattle.directory_rules.specs.Step.{Stepped, having_nudged}
-use Rattle.directory_rules.specs.World.{World}
 use Rattle.directory_rules.specs.Happens.{node_of, with_node}
 use Rattle.progress_rules.specs.Room.{is_question, is_offer, fresh_with, over_pieces, requests_out, missing_of, awaits_one, pages_shelved}
 use Rattle.progress_rules.proofs.Resting.{IsResting}
@@ -34,11 +31,14 @@ use Rattle.progress_rules.proofs.DeliveryFalls.{all_sent, nodes_sorted}
 
 -- ---- lists of lists
 one_each : {X : Type 0} (f : X → List Letter) → ((x : X) → length (f x) ≤ 1) → (xs : List X) → length (flat_map f xs) ≤ length xs
-one_each f few xs = let all = length-flat_map f xs in let most = sum_by-le (λ x. length (f x)) 1 xs (λ k d below. few _) in omega (arith, all, most)
+one_each f few xs =
+    let all = length-flat_map f xs in let most = sum_by-le (λ x. length (f x)) 1 xs (λ k d below. few _) in omega (arith, all, most)
 
 pub by_values : {K X : Type 0} (f : X → ℕ) (es : List (K × X)) → sum_by (λ e. f e.1) es ≡ sum_by f (values_of es)
 by_values f [] = refl
-by_values f (e ∷ es) = let rest = by_values f es in let one = sum_by-cons (λ x. f x.1) e es in let other = sum_by-cons f e.1 (values_of es) in omega (arith, rest, one, other)
+by_values f (e ∷ es) =
+    let rest = by_values f es in let one = sum_by-cons (λ x. f x.1) e es in let other = sum_by-cons f e.1 (values_of es) in
+    omega (arith, rest, one, other)
 
 -- ---- requests
 owned_one : (o : Option Silo) (node : Node) (body : Body) → length (letter_if_owned o node body) ≤ 1
@@ -46,10 +46,12 @@ owned_one None node body = omega arith
 owned_one (Some owner) node body = omega arith
 
 -- ---- wants
-wants_many : (its : PieceState) (node : Node) (range : Range) → length (wants_by its node range) ≡ missing_of node its range + awaits_one its range
+wants_many : (its : PieceState) (node : Node) (range : Range)
+    → length (wants_by its node range) ≡ missing_of node its range + awaits_one its range
 wants_many state.Settled node range = refl
 wants_many (state.Awaiting from) node range = refl
-wants_many state.Recovering node range = let all = length-map (recovery_of node range).awaiting (λ silo. letter_to silo node (Query_letter range)) in omega (arith, all)
+wants_many state.Recovering node range =
+    let all = length-map (recovery_of node range).awaiting (λ silo. letter_to silo node (Query_letter range)) in omega (arith, all)
 
 -- how many letters a nudge sends at most
 abbrev pub asked_by_nudge : Node → ℕ
@@ -84,7 +86,8 @@ module _ (n : ℕ) (world : World) (r : IsResting world) (silo : Silo) (node : N
   nudge_few =
       let parts = length-append (all_requests renewed) (all_wants renewed) in
       let requests = one_each (λ (e : ℕ × Act). request_letters renewed e.0 e.1)
-      (λ e. owned_one (owner_by renewed (hash_of renewed e.1)) renewed (Request_letter (request_of renewed e.0 e.1))) (outstanding renewed.host) in
+      (λ e. owned_one (owner_by renewed (hash_of renewed e.1)) renewed (Request_letter (request_of renewed e.0 e.1)))
+      (outstanding renewed.host) in
       let wants = all_wants_many renewed in
       let few = renewed_few in
       omega (arith, parts, requests, wants, few)
@@ -97,7 +100,8 @@ module _ (n : ℕ) (world : World) (r : IsResting world) (silo : Silo) (node : N
   potential_grows =
       let over = over_stepped world silo node nudged_step its (λ (x : Node). need (due_to world x) n x) (λ (x : Node). need (due_to nudged_world x) n x) (nodes_sorted world r)
       (λ x. need_less (due_to nudged_world x) (due_to world x) n x (λ giver range.
-      shelved_less world silo node nudged_step its (λ to version range. le_same (pages_shelved (Some node) to version range)) giver x.host.silo x.view.version range)) in
+      shelved_less world silo node nudged_step its (λ to version range. le_same (pages_shelved (Some node) to version range)) giver
+      x.host.silo x.view.version range)) in
       let asks = fresh_after is_question (with_node world silo renewed) nudged_step.letters in
       let asked = count_by-le-length (λ (l : Letter). is_question l.body) nudged_step.letters in
       let offers = fresh_after is_offer (with_node world silo renewed) nudged_step.letters in
@@ -114,4 +118,6 @@ module _ (n : ℕ) (world : World) (r : IsResting world) (silo : Silo) (node : N
       omega (arith, over, few, offers, none)
 
   pub fresh_grows : fresh_with (λ body. true) nudged_world ≡ fresh_with (λ body. true) world + length nudged_step.letters
-  fresh_grows = let sent = fresh_after (λ body. true) (with_node world silo renewed) nudged_step.letters in let all = all_sent nudged_step.letters in omega (arith, sent, all)
+  fresh_grows =
+      let sent = fresh_after (λ body. true) (with_node world silo renewed) nudged_step.letters in let all = all_sent nudged_step.letters in
+      omega (arith, sent, all)

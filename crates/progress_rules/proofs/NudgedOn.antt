@@ -12,15 +12,14 @@ use Rattle.range_moves.specs.Arcs.{owner_silo}
 use Rattle.directory_rules.specs.declared.act.Act.{Act}
 use Rattle.directory_rules.specs.declared.act.Request.{Request}
 use Rattle.directory_rules.specs.Host as host
-use Rattle.directory_rules.specs.Host.{Host, outstanding}
+use Rattle.directory_rules.specs.State.{Host, Letter, Request_letter, Node, World, Accepted}
+use Rattle.directory_rules.specs.Host.{outstanding, grain_of}
 use Rattle.directory_rules.specs.Answer.{last_served, is_numbered}
-use Rattle.directory_rules.specs.Letter.{Letter, Request_letter}
-use Rattle.directory_rules.specs.Node.{Node}
 use Rattle.directory_rules.specs.Event.{Do}
-use Rattle.directory_rules.specs.Sent.{letter_to, grain_of, hash_of, request_of, owner_by, all_requests}
+use Rattle.directory_rules.specs.Sent.{letter_to, hash_of, request_of, owner_by, all_requests}
 use Rattle.directory_rules.specs.Step.{Stepped, having_nudged}
 use Rattle.directory_rules.specs.Input.{Does}
-use Rattle.directory_rules.specs.World.{World, Accepted, current_ring}
+use Rattle.directory_rules.specs.World.{current_ring}
 use Rattle.directory_rules.specs.Happens.{happens, node_of}
 use Rattle.directory_rules.specs.Laws.{is_live, AreNumbered}
 use Rattle.directory_rules.specs.declared.own_step.OwnStep.TheVariants.{Nudge}
@@ -56,7 +55,8 @@ same_at b [] l i below = absurd (omega (arith, below))
 same_at zero (x ∷ xs) l i below = refl
 same_at (suc b) (x ∷ xs) l i below = same_at b xs l i (omega (arith, below))
 
-module _ (world : World) (silo : Silo) (nd : Node) (those : List (Silo × Node)) (accepted : Accepted) (n : IsAnswering true world ((silo, nd) ∷ those) world)
+module _ (world : World) (silo : Silo) (nd : Node) (those : List (Silo × Node)) (accepted : Accepted)
+    (n : IsAnswering true world ((silo, nd) ∷ those) world)
     (apart : Apart ((silo, nd) ∷ those)) (rests : IsResting accepted.world) (s : IsStep world accepted.world silo (Does Nudge))
     (sorted : InNumbers (host.renewed s.node.host)) where
   abbrev node : Node
@@ -81,10 +81,14 @@ module _ (world : World) (silo : Silo) (nd : Node) (those : List (Silo × Node))
   Out l = IsOut node (IsRenewed s.node.host) l
 
   outs : All (λ l. Out l) s.stepped.letters
-  outs = subst (λ (ls : List Letter). All (λ l. Out l) ls) (sym letters_are) (all_out node (IsRenewed s.node.host) (outstanding node.host) (renewed_from s.node.host))
+  outs =
+      subst (λ (ls : List Letter). All (λ l. Out l) ls) (sym letters_are)
+      (all_out node (IsRenewed s.node.host) (outstanding node.host) (renewed_from s.node.host))
 
   pairs : AllPairs IsLower s.stepped.letters
-  pairs = subst (λ (ls : List Letter). AllPairs IsLower ls) (sym letters_are) (in_order node (outstanding node.host) (outstanding_sorted node.host sorted))
+  pairs =
+      subst (λ (ls : List Letter). AllPairs IsLower ls) (sym letters_are)
+      (in_order node (outstanding node.host) (outstanding_sorted node.host sorted))
 
   by_silo : node.host.silo ≡ silo
   by_silo = (node_facts world n.rests silo s.node s.its).own.host_is
@@ -106,7 +110,8 @@ module _ (world : World) (silo : Silo) (nd : Node) (those : List (Silo × Node))
   old_from k l r f body same = All-head (λ (e : Silo × Node). e.0 ≢ l.from) (silo, nd) those (n.from k l r f body) (sym same)
 
   -- at one of the nodes after: what it keeps for others is as before
-  at_node : (P : Node → Type 0) (other : Silo) (own : Node) → node_of after other ≡ Some own → (other ≡ silo → P node) → (other ≢ silo → node_of world other ≡ Some own → P own)
+  at_node : (P : Node → Type 0) (other : Silo) (own : Node) → node_of after other ≡ Some own → (other ≡ silo → P node)
+      → (other ≢ silo → node_of world other ≡ Some own → P own)
       → P own
   at_node P other own there mine its =
       on_bool (λ b. silo_eq other silo ≡ b → P own) (silo_eq other silo)
@@ -140,16 +145,31 @@ module _ (world : World) (silo : Silo) (nd : Node) (those : List (Silo × Node))
       let out : Contains s.stepped.letters letter = subst (λ (ls : List Letter). Contains ls letter) (sym letters_are)
       (goes_out node owner e (outstanding node.host) (owner_is e.1 ∙ owns) (outstanding_has node.host numbered e owes)) in
       let flight =
-      new_flies world silo s.node s.stepped s.its (λ number above. none_above 0 world.sent number world.mail (rest_mail world n.rests).rising above) letter out
-      (lives world silo s.stepped owner (owner_lives (hash_grain world.settings.hashing (grain_of e.1)) owner owns)) in
-      (flight.0, letter, flight.1, inl (record { from = by_silo; to = refl; request = request_of node e.0 e.1; body = refl; number = refl; act = refl; hash = hash_is e.1 }))
+      new_flies world silo s.node s.stepped s.its (λ number above. none_above 0 world.sent number world.mail
+      (rest_mail world n.rests).rising above) letter out
+      (lives world silo s.stepped owner (owner_lives (hash_grain world.settings.hashing (grain_of e.1)) owner owns)) in (
+        flight.0,
+        letter,
+        flight.1,
+        inl (record {
+          from = by_silo;
+          to = refl;
+          request = request_of node e.0 e.1;
+          body = refl;
+          number = refl;
+          act = refl;
+          hash = hash_is e.1;
+        }),
+      )
 
   -- a letter that is new is of what is outstanding now, and goes to its owner
   asked_now : (k : ℕ) (l : Letter) (r : Request) → IsNew world.sent s.stepped.letters k l → l.body ≡ Request_letter r
-      → HadAsked after l.from (r.number, r.act) × (r.hash ≡ hash_grain world.settings.hashing (grain_of r.act)) × (owner_in world r.act ≡ Some l.to)
+      → HadAsked after l.from (r.number, r.act) × (r.hash ≡ hash_grain world.settings.hashing (grain_of r.act)) ×
+      (owner_in world r.act ≡ Some l.to)
   asked_now k l r new body =
       let out = out_of k l new in
-      subst (λ (q : Request). HadAsked after l.from (q.number, q.act) × (q.hash ≡ hash_grain world.settings.hashing (grain_of q.act)) × (owner_in world q.act ≡ Some l.to))
+      subst (λ (q : Request). HadAsked after l.from (q.number, q.act) × (q.hash ≡ hash_grain world.settings.hashing (grain_of q.act)) ×
+      (owner_in world q.act ≡ Some l.to))
       (request_same out.request r l.body out.body body) (
         (
           s.stepped.node,
@@ -165,7 +185,9 @@ module _ (world : World) (silo : Silo) (nd : Node) (those : List (Silo × Node))
     apart = λ i j d lt below. apart (suc i) (suc j) d (omega (arith, lt)) (omega (arith, below));
     answering = record {
       rests = rests_after;
-      settled = λ other own there. at_node (λ (x : Node). All IsSettledPiece x.holding.pieces) other own there (λ same. n.settled silo s.node s.its)
+      settled =
+          λ other own there. at_node (λ (x : Node). All IsSettledPiece x.holding.pieces) other own there
+          (λ same. n.settled silo s.node s.its)
           (λ differ its. n.settled other own its);
       plain = λ k l f. elim (flew_so k l f) [
         | inl old ↦ n.plain k l old
@@ -191,7 +213,8 @@ module _ (world : World) (silo : Silo) (nd : Node) (those : List (Silo × Node))
       ];
       kept = λ other own there e owes. (own, there, owes);
       above = λ k l r own f body counts there. inl (at_node (λ (x : Node). last_served l.from x.holding.served < r.number) l.to own there
-          (λ same. served_by k l r s.node f body counts (ap (λ q. node_of world q) same ∙ s.its)) (λ differ its. served_by k l r own f body counts its));
+          (λ same. served_by k l r s.node f body counts (ap (λ q. node_of world q) same ∙ s.its))
+          (λ differ its. served_by k l r own f body counts its));
       ordered = λ so k j l i r q f g one other counts too same where_to less. elim (flew_so k l f) [
         | inl old ↦ elim (flew_so j i g) [
           | inl too_old ↦ n.ordered so k j l i r q old too_old one other counts too same where_to less
@@ -206,16 +229,20 @@ module _ (world : World) (silo : Silo) (nd : Node) (those : List (Silo × Node))
               lower_so new.index newer.index l i new.is newer.is newer.below lower r q one other
         ]
       ];
-      owed = λ other own there those_apart e owes owner owns. inl (at_node (λ (x : Node). Owes x.host e → IsBrought after other e owner) other own there
+      owed =
+          λ other own there those_apart e owes owner owns. inl
+          (at_node (λ (x : Node). Owes x.host e → IsBrought after other e owner) other own there
           (λ same its_owes. subst (λ q. IsBrought after q e owner) (sym same) (owed_now e its_owes owner owns))
           (λ differ its its_owes.
           let flight = not_owed_past world world other owner
-          (n.owed other own its (All-cons (λ (x : Silo × Node). x.0 ≢ other) (silo, nd) those (λ same. differ (sym same)) those_apart) e its_owes owner owns) in
+          (n.owed other own its (All-cons (λ (x : Silo × Node). x.0 ≢ other) (silo, nd) those (λ same. differ (sym same)) those_apart) e
+          its_owes owner owns) in
           (flight.0, flight.1, still_flies world silo s.node s.stepped s.its flight.0 flight.1 flight.2, flight.3)) owes);
     };
   }
     where
-      served_by : (k : ℕ) (l : Letter) (r : Request) (own : Node) → Flies after k l → l.body ≡ Request_letter r → is_numbered r.act ≡ true → node_of world l.to ≡ Some own
+      served_by : (k : ℕ) (l : Letter) (r : Request) (own : Node) → Flies after k l → l.body ≡ Request_letter r → is_numbered r.act ≡ true
+          → node_of world l.to ≡ Some own
           → last_served l.from own.holding.served < r.number
       served_by k l r own f body counts its =
           elim (flew_so k l f) [
@@ -229,10 +256,12 @@ module _ (world : World) (silo : Silo) (nd : Node) (those : List (Silo × Node))
                 omega (arith, low, number, above, from)
           ]
 
-      lower_so : (a b : ℕ) (l i : Letter) → slice_index_or s.stepped.letters a l ≡ l → slice_index_or s.stepped.letters b i ≡ i → b < length s.stepped.letters
+      lower_so : (a b : ℕ) (l i : Letter) → slice_index_or s.stepped.letters a l ≡ l → slice_index_or s.stepped.letters b i ≡ i
+          → b < length s.stepped.letters
           → IsLower (slice_index_or s.stepped.letters a l) (slice_index_or s.stepped.letters b l) → IsLower l i
       lower_so a b l i one other below lower r q mine its =
-          lower r q (ap (λ (x : Letter). x.body) one ∙ mine) (ap (λ (x : Letter). x.body) (same_at b s.stepped.letters l i below ∙ other) ∙ its)
+          lower r q (ap (λ (x : Letter). x.body) one ∙ mine)
+          (ap (λ (x : Letter). x.body) (same_at b s.stepped.letters l i below ∙ other) ∙ its)
 
 -- ---- one silo after the other
 pub nudge_on : (world : World) (e : Silo × Node) (es : List (Silo × Node)) (accepted : Accepted) → IsSilo e.0 → IsNudgingOn (e ∷ es) world
@@ -245,6 +274,7 @@ nudge_on world e es accepted is_silo n ok =
     let all : Everywhere sorted_facts accepted.world = subst (Everywhere sorted_facts) (sym rests.is)
     (everywhere sorted_facts sorted_keep rests.settings rests.events tt (λ k d below. tt)) in
     let there : node_of accepted.world e.0 ≡ Some s.stepped.node = ap (λ w. node_of w e.0) s.is ∙ its_node world e.0 s.stepped in
-    let sorted : InNumbers s.stepped.node.host = found_node sorted_facts accepted.world e.0 s.stepped.node all there in
+    let sorted : InNumbers s.stepped.node.host = (found_node sorted_facts accepted.world e.0 s.stepped.node all there).1 in
     subst (IsNudgingOn es) (sym s.is)
-    (nudges_on world e.0 e.1 es accepted n.answering n.apart rests s (subst (λ (t : Stepped). InNumbers t.node.host) (nudge_is s.node s.stepped s.made) sorted))
+    (nudges_on world e.0 e.1 es accepted n.answering n.apart rests s
+    (subst (λ (t : Stepped). InNumbers t.node.host) (nudge_is s.node s.stepped s.made) sorted))

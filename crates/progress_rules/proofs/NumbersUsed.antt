@@ -12,11 +12,12 @@ use Rattle.membership_view.specs.Changes.{occupant}
 use Rattle.hash_ring.specs.Places.{PlacesValue}
 use Rattle.directory_rules.specs.Settings.{Settings}
 use Rattle.directory_rules.specs.Host.{outstanding, has_numbers}
-use Rattle.directory_rules.specs.Node.{Node, new_node}
+use Rattle.directory_rules.specs.State.{Node, World, Accepted}
+use Rattle.directory_rules.specs.Node.{new_node}
 use Rattle.directory_rules.specs.Event.{Event}
 use Rattle.directory_rules.specs.Step.{Stepped}
 use Rattle.directory_rules.specs.Input.{Input, Receives, step, sight_of}
-use Rattle.directory_rules.specs.World.{World, Accepted, first_world, membership_of}
+use Rattle.directory_rules.specs.World.{first_world, membership_of}
 use Rattle.directory_rules.specs.Happens.{happens, node_of, counted, after_joining}
 use Rattle.directory_rules.specs.Run.{run, world_after}
 use Rattle.directory_facts.specs.Laws.{world_by}
@@ -31,7 +32,8 @@ use Rattle.progress_rules.proofs.ReachedBy.{IsReachedBy}
 one_event_more : (accepted most next later : ℕ) → next ≤ 1 + accepted * most → later ≤ next + most → later ≤ 1 + (accepted + 1) * most
 one_event_more accepted most next later few grown = let more = add-mul accepted 1 most in omega (arith, more)
 
-as_many_events : (accepted events most next wanted last : ℕ) → next ≤ 1 + accepted * most → wanted + 1 ≤ most → accepted < events → events * most ≤ last → next + wanted ≤ last + 1
+as_many_events : (accepted events most next wanted last : ℕ) → next ≤ 1 + accepted * most → wanted + 1 ≤ most → accepted < events
+    → events * most ≤ last → next + wanted ≤ last + 1
 as_many_events accepted events most next wanted last few fits early suffice =
     let reach : (accepted + 1) * most ≤ events * most = mul-le-mul_right most (omega (arith, early)) in
     let more = add-mul accepted 1 most in
@@ -57,7 +59,8 @@ module _ (settings : Settings) (accepted : ℕ) where
     used = one_event_more accepted (most_numbers settings) node.host.next_number node.host.next_number few.used (omega arith);
   }
 
-  stepped_few : (node : Node) (input : Input) (stepped : Stepped) → HasFewNumbers settings accepted node → step node input ≡ Ok stepped → HasFewNumbers settings (accepted + 1) stepped.node
+  stepped_few : (node : Node) (input : Input) (stepped : Stepped) → HasFewNumbers settings accepted node → step node input ≡ Ok stepped
+      → HasFewNumbers settings (accepted + 1) stepped.node
   stepped_few node input stepped few is =
       let more = step_goes_on node input stepped (subst (λ s. IsWithin s node.host) (sym few.settings_are) few.within) is in
       record {
@@ -74,14 +77,18 @@ module _ (world : World) (all : AllFew world) where
 
   still : All Few world.nodes
   still =
-      All-weaker (λ (e : Silo × Node). HasFewNumbers world.settings world.accepted e.1) Few (λ e few. still_few world.settings world.accepted e.1 few) world.nodes all
+      All-weaker (λ (e : Silo × Node). HasFewNumbers world.settings world.accepted e.1) Few
+      (λ e few. still_few world.settings world.accepted e.1 few) world.nodes all
 
   node_few : (silo : Silo) (node : Node) → node_of world silo ≡ Some node → HasFewNumbers world.settings world.accepted node
-  node_few silo node its = (found_so (λ (e : Silo × Node). HasFewNumbers world.settings world.accepted e.1) (is_at (silo_cmp silo)) node world.nodes all its).2
+  node_few silo node its =
+      (found_so (λ (e : Silo × Node). HasFewNumbers world.settings world.accepted e.1) (is_at (silo_cmp silo)) node world.nodes all its).2
 
-  joined : (old : Option Silo) (silo : Silo) (views : ViewsValue) (places : PlacesValue) → AllFew (counted (after_joining world silo old views places))
+  joined : (old : Option Silo) (silo : Silo) (views : ViewsValue) (places : PlacesValue)
+      → AllFew (counted (after_joining world silo old views places))
   joined None silo views places =
-      all_put silo_cmp silo_cmp_exact Few silo (new_node world.settings silo) world.nodes still (new_few world.settings (world.accepted + 1) silo)
+      all_put silo_cmp silo_cmp_exact Few silo (new_node world.settings silo) world.nodes still
+      (new_few world.settings (world.accepted + 1) silo)
   joined (Some old) silo views places =
       all_put silo_cmp silo_cmp_exact Few silo (new_node world.settings silo) _ (all_removed Few (is_at (silo_cmp old)) world.nodes still)
       (new_few world.settings (world.accepted + 1) silo)
@@ -89,7 +96,8 @@ module _ (world : World) (all : AllFew world) where
   stepped : (silo : Silo) (input : Input) (node : Node) (made : Stepped) → node_of world silo ≡ Some node → step node input ≡ Ok made
       → All Few (insert_entry silo_cmp world.nodes silo made.node)
   stepped silo input node made its is =
-      all_put silo_cmp silo_cmp_exact Few silo made.node world.nodes still (stepped_few world.settings world.accepted node input made (node_few silo node its) is)
+      all_put silo_cmp silo_cmp_exact Few silo made.node world.nodes still
+      (stepped_few world.settings world.accepted node input made (node_few silo node its) is)
 
   ways : EventWays world (λ a. AllFew a.world)
   ways = record {
@@ -102,7 +110,8 @@ module _ (world : World) (all : AllFew world) where
     loses = λ number. still;
   }
 
-few_kept : (result : Result Accepted ℕ) (world : World) → IfOk result (λ a. AllFew a.world) → AllFew world → AllFew (world_after result world)
+few_kept : (result : Result Accepted ℕ) (world : World) → IfOk result (λ a. AllFew a.world) → AllFew world
+    → AllFew (world_after result world)
 few_kept (Ok accepted) world held all = held
 few_kept (Err number) world held all = all
 
@@ -110,14 +119,16 @@ few_run : (world : World) (events : List Event) → AllFew world → AllFew (run
 unfolding run
 few_run world [] all = all
 few_run world (event ∷ events) all =
-    few_run (world_after (happens world event) world) events (few_kept (happens world event) world (by_event world (λ a. AllFew a.world) (ways world all) event) all)
+    few_run (world_after (happens world event) world) events
+    (few_kept (happens world event) world (by_event world (λ a. AllFew a.world) (ways world all) event) all)
 
 -- so it is after all events
 pub few_after : (settings : Settings) (events : List Event) → AllFew (world_by settings events)
 few_after settings events = few_run (first_world settings) events (All-nil (λ (e : Silo × Node). HasFewNumbers settings 0 e.1))
 
 -- ---- where there are as many as all events may take, each outstanding request may have a new one
-enough : (settings : Settings) (accepted : ℕ) (node : Node) → HasFewNumbers settings accepted node → accepted < settings.events → NumbersSuffice settings
+enough : (settings : Settings) (accepted : ℕ) (node : Node) → HasFewNumbers settings accepted node → accepted < settings.events
+    → NumbersSuffice settings
     → has_numbers settings node.host (length (outstanding node.host)) ≡ true
 enough settings accepted node few early suffice =
     let wanted = outstanding_few node.host in
@@ -125,10 +136,12 @@ enough settings accepted node few early suffice =
     let finds = few.within.finds in
     let all = length (outstanding node.host) in
     le-leb (node.host.next_number + all) (settings.last_number + 1)
-    (as_many_events accepted settings.events (most_numbers settings) node.host.next_number all settings.last_number few.used (omega (arith, wanted, held, finds)) early suffice)
+    (as_many_events accepted settings.events (most_numbers settings) node.host.next_number all settings.last_number few.used
+    (omega (arith, wanted, held, finds)) early suffice)
 
 pub numbers_suffice :
-    (settings : Settings) (world : World) → IsReachedBy settings world → NumbersSuffice settings → (silo : Silo) (node : Node) → node_of world silo ≡ Some node
+    (settings : Settings) (world : World) → IsReachedBy settings world → NumbersSuffice settings → (silo : Silo) (node : Node)
+    → node_of world silo ≡ Some node
     → world.accepted < world.settings.events → has_numbers node.settings node.host (length (outstanding node.host)) ≡ true
 numbers_suffice settings world r suffice silo node its early =
     let few = node_few world (subst AllFew (sym r.is) (few_after settings r.events)) silo node its in

@@ -21,11 +21,9 @@ use Rattle.directory_rules.specs.declared.piece_state.PieceState.{PieceState}
 use Rattle.directory_rules.specs.declared.piece_state.PieceState.TheVariants as state
 use Rattle.directory_rules.specs.Members.{members_of}
 use Rattle.directory_rules.specs.Table.{table_of, rise_by_grain, lie_in}
-use Rattle.directory_rules.specs.Snapshot.{Page}
-use Rattle.directory_rules.specs.Gatherings.{Gathering, Gathered, Wants_page, Has_all, Refuses, new_gathering, gathered}
-use Rattle.directory_rules.specs.Recovery.{Recovery, new_recovery}
-use Rattle.directory_rules.specs.Letter.{Letter, Ask_letter, Page_letter, Missing_letter, Query_letter}
-use Rattle.directory_rules.specs.Node.{Node}
+use Rattle.directory_rules.specs.State.{Page, Gathering, Recovery, Letter, Ask_letter, Page_letter, Missing_letter, Query_letter, Node}
+use Rattle.directory_rules.specs.Gatherings.{Gathered, Wants_page, Has_all, Refuses, new_gathering, gathered}
+use Rattle.directory_rules.specs.Recovery.{new_recovery}
 use Rattle.directory_rules.specs.Sent.{letter_to, gathering_of, recovery_of}
 use Rattle.directory_rules.specs.Step.{silently}
 use Rattle.directory_rules.specs.Transfer.{awaits, with_gathering, with_settled, gathered_by, is_page_awaited, paged, turned_to_recovery, querying, missing}
@@ -44,7 +42,9 @@ module _ (due : Silo → Range → ℕ) (n : ℕ) (hashing : Hashing) (node : No
   -- what the piece needed
   waited : (range : Range) (its : HasAwaiting node range letter.from)
       → need_of due n node its.piece.state its.piece.range ≡ 2 * (due letter.from range - (gathering_of node range).next) + 2 * n
-  waited range its = ap (λ (s : PieceState). need_of due n node s its.piece.range) its.awaiting ∙ ap (λ (r : Range). need_of due n node (state.Awaiting letter.from) r) its.same
+  waited range its =
+      ap (λ (s : PieceState). need_of due n node s its.piece.range) its.awaiting
+      ∙ ap (λ (r : Range). need_of due n node (state.Awaiting letter.from) r) its.same
 
   -- ---- a page
   module _ (page : Page) (counts : is_page_awaited node letter page ≡ true) where
@@ -64,7 +64,8 @@ module _ (due : Silo → Range → ℕ) (n : ℕ) (hashing : Hashing) (node : No
         let three = both ((page.version == letter.version) && awaits node letter.version page.range letter.from)
         (rise_by_grain ((gathering_of node page.range).entries ++ page.entries)) all.0 in
         let two = both (page.version == letter.version) (awaits node letter.version page.range letter.from) three.0 in
-        eqb-true page.version letter.version two.0 ∙ eqb-true letter.version node.view.version (both (letter.version == node.view.version) _ two.1).0
+        eqb-true page.version letter.version two.0 ∙ eqb-true letter.version node.view.version
+        (both (letter.version == node.view.version) _ two.1).0
 
     its : HasAwaiting node page.range letter.from
     its = awaiting_piece node page.range letter.from waits
@@ -105,7 +106,8 @@ module _ (due : Silo → Range → ℕ) (n : ℕ) (hashing : Hashing) (node : No
           put =
               ap (λ k. unwrap_or (lookup (is_at (nat_cmp page.range.start)) (insert_entry nat_cmp node.gatherings k gathering))
               (new_gathering node.view.version page.range)) same_start
-              ∙ ap (λ o. unwrap_or o (new_gathering node.view.version page.range)) (found_put nat_cmp nat_cmp_total exact_unsigned page.range.start gathering node.gatherings)
+              ∙ ap (λ o. unwrap_or o (new_gathering node.view.version page.range))
+              (found_put nat_cmp nat_cmp_total exact_unsigned page.range.start gathering node.gatherings)
 
           beside : (other : Range) → other.start ≢ page.range.start → gathering_of after other ≡ gathering_of node other
           beside other apart =
@@ -132,14 +134,19 @@ module _ (due : Silo → Range → ℕ) (n : ℕ) (hashing : Hashing) (node : No
         view_is = refl;
       }
 
-      pub by_gathered : (result : Gathered) → gathered (gathering_of node page.range) page ≡ result → ((left : Gathering) → result ≡ Refuses 701 left → ⊥)
+      pub by_gathered : (result : Gathered) → gathered (gathering_of node page.range) page ≡ result
+          → ((left : Gathering) → result ≡ Refuses 701 left → ⊥)
           → Falls due n node (Page_letter page) (gathered_by result letter page.range node)
-      by_gathered (Wants_page gathering) is kept = goes_on gathering (subst (GatheredSo (gathering_of node page.range) page) is (gathered_so (gathering_of node page.range) page))
-      by_gathered (Has_all entries) is kept = ends entries (subst (GatheredSo (gathering_of node page.range) page) is (gathered_so (gathering_of node page.range) page))
+      by_gathered (Wants_page gathering) is kept =
+          goes_on gathering (subst (GatheredSo (gathering_of node page.range) page) is (gathered_so (gathering_of node page.range) page))
+      by_gathered (Has_all entries) is kept =
+          ends entries (subst (GatheredSo (gathering_of node page.range) page) is (gathered_so (gathering_of node page.range) page))
       by_gathered (Refuses number left) is kept =
-          on_bool (λ b. (number == 701) ≡ b → Falls due n node (Page_letter page) (cond b (silently (with_gathering node left) (effect.Refused 701))
+          on_bool (λ b. (number == 701) ≡ b → Falls due n node (Page_letter page)
+          (cond b (silently (with_gathering node left) (effect.Refused 701))
           (silently node effect.Ignored))) (number == 701)
-          (λ t so. absurd (kept left (ap (λ k. Refuses k left) (eqb-true number 701 so)))) (λ f so. nothing due n node (Page_letter page) effect.Ignored) refl
+          (λ t so. absurd (kept left (ap (λ k. Refuses k left) (eqb-true number 701 so))))
+          (λ f so. nothing due n node (Page_letter page) effect.Ignored) refl
 
   -- whatever the page: those that are due are no fewer than it says, and none is refused by its digest
   pub page_falls : (page : Page) → (is_page_awaited node letter page ≡ true → page.pages ≤ due letter.from page.range)
@@ -147,9 +154,11 @@ module _ (due : Silo → Range → ℕ) (n : ℕ) (hashing : Hashing) (node : No
       → Falls due n node (Page_letter page) (paged node letter page)
   page_falls page told kept =
       on_bool (λ b. is_page_awaited node letter page ≡ b
-      → Falls due n node (Page_letter page) (cond b (gathered_by (gathered (gathering_of node page.range) page) letter page.range node) (silently node effect.Ignored)))
+      → Falls due n node (Page_letter page) (cond b (gathered_by (gathered (gathering_of node page.range) page) letter page.range node)
+      (silently node effect.Ignored)))
       (is_page_awaited node letter page)
-      (λ t counts. by_gathered page counts (told counts) (gathered (gathering_of node page.range) page) refl (λ left is. kept left counts is))
+      (λ t counts. by_gathered page counts (told counts) (gathered (gathering_of node page.range) page) refl
+      (λ left is. kept left counts is))
       (λ f not. nothing due n node (Page_letter page) effect.Ignored) refl
 
   -- ---- there is none: all silos are asked
@@ -183,14 +192,18 @@ module _ (due : Silo → Range → ℕ) (n : ℕ) (hashing : Hashing) (node : No
       letters = map query (recovery_of after range).awaiting
 
       recovers : recovery_of after range ≡ new_recovery node.view range
-      recovers = ap (λ o. unwrap_or o (new_recovery node.view range)) (found_put nat_cmp nat_cmp_total exact_unsigned range.start (new_recovery node.view range) node.recoveries)
+      recovers =
+          ap (λ o. unwrap_or o (new_recovery node.view range))
+          (found_put nat_cmp nat_cmp_total exact_unsigned range.start (new_recovery node.view range) node.recoveries)
 
       all : All IsQuestion letters
       all = query_questions after range
 
-  pub missing_falls : (range : Range) → length (members_of node.view) ≤ n → Falls due n node (Missing_letter range) (missing node letter range)
+  pub missing_falls : (range : Range) → length (members_of node.view) ≤ n
+      → Falls due n node (Missing_letter range) (missing node letter range)
   missing_falls range few =
       on_bool (λ b. awaits node letter.version range letter.from ≡ b
       → Falls due n node (Missing_letter range) (cond b (querying range (turned_to_recovery node range)) (silently node effect.Ignored)))
       (awaits node letter.version range letter.from)
-      (λ t waits. turns range few (both (letter.version == node.view.version) _ waits).1) (λ f not. nothing due n node (Missing_letter range) effect.Ignored) refl
+      (λ t waits. turns range few (both (letter.version == node.view.version) _ waits).1)
+      (λ f not. nothing due n node (Missing_letter range) effect.Ignored) refl

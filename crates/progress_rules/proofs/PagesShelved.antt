@@ -6,10 +6,8 @@ use Rattle.std.proofs.lemmas.List.Elements.{All-head, All-tail}
 use Rattle.silo_address.specs.declared.Entry.{Entry}
 use Rattle.membership_view.specs.View.{ViewValue}
 use Rattle.ring_range.specs.Range.{Range}
-use Rattle.directory_rules.specs.Snapshot.{Snapshot, Page, page_count, is_snapshot, has_snapshot}
-use Rattle.directory_rules.specs.Letter.{Letter, Page_letter}
-use Rattle.directory_rules.specs.Node.{Node}
-use Rattle.directory_rules.specs.World.{World}
+use Rattle.directory_rules.specs.State.{Snapshot, Page, Letter, Page_letter, Node, World}
+use Rattle.directory_rules.specs.Snapshot.{page_count, is_snapshot, has_snapshot}
 use Rattle.directory_rules.specs.Mail.{letter_of}
 use Rattle.directory_rules.specs.Happens.{node_of}
 use Rattle.directory_rules.proofs.Cases.{on_bool}
@@ -37,7 +35,8 @@ pub record HasFound (test : Snapshot → Bool) (shelf : List Snapshot) (P : Snap
   pub found : find test shelf ≡ Some snapshot
   pub holds : P snapshot
 
-found_any : (test : Snapshot → Bool) (P : Snapshot → Type 0) (shelf : List Snapshot) → All P shelf → list_any test shelf ≡ true → HasFound test shelf P
+found_any : (test : Snapshot → Bool) (P : Snapshot → Type 0) (shelf : List Snapshot) → All P shelf → list_any test shelf ≡ true
+    → HasFound test shelf P
 found_any test P [] all there = absurd (cc (there))
 found_any test P (x ∷ xs) all there =
     on_bool (λ b. test x ≡ b → (b || list_any test xs) ≡ true → HasFound test (x ∷ xs) P) (test x)
@@ -51,9 +50,11 @@ module _ (world : World) (r : IsResting world) where
 
   rest_awaited : AwaitedAreLive world
   rest_awaited = subst AwaitedAreLive (sym r.is)
-      (live_at_first r.settings r.events r.are r.named (subst HaveSeen r.is (λ silo node there. ap (λ (v : ViewValue). v.version) (r.seen silo node there))))
+      (live_at_first r.settings r.events r.are r.named
+      (subst HaveSeen r.is (λ silo node there. ap (λ (v : ViewValue). v.version) (r.seen silo node there))))
 
-  module _ (number : ℕ) (letter : Letter) (found : letter_of world number ≡ Some letter) (page : Page) (body : letter.body ≡ Page_letter page) (node : Node)
+  module _ (number : ℕ) (letter : Letter) (found : letter_of world number ≡ Some letter) (page : Page)
+      (body : letter.body ≡ Page_letter page) (node : Node)
       (its : node_of world letter.to ≡ Some node) (version : page.version ≡ node.view.version)
       (waits : AwaitsFrom node page.range letter.from) where
     by_silo : node.host.silo ≡ letter.to
@@ -84,7 +85,8 @@ module _ (world : World) (r : IsResting world) where
         let mine = seen world r letter.to node its in
         let handed : IsHanded world letter page = subst (Stands world letter) body (in_mail (λ l. Stands world l l.body) world number letter rest_stand found) in
         let shelf : pages_shelved (node_of world letter.from) node.host.silo node.view.version page.range ≡ pages_shelved (Some giver.0) letter.to page.version page.range =
-        ap (λ o. pages_shelved o node.host.silo node.view.version page.range) giver.1 ∙ ap (λ s. pages_shelved (Some giver.0) s node.view.version page.range) by_silo
+        ap (λ o. pages_shelved o node.host.silo node.view.version page.range) giver.1
+        ∙ ap (λ s. pages_shelved (Some giver.0) s node.view.version page.range) by_silo
         ∙ ap (λ v. pages_shelved (Some giver.0) letter.to v page.range) (sym version) in
         elim ((handed.node giver.0 giver.1).shelved (version ∙ mine ∙ sym same)) [
           | inl there ↦ let many = as_many giver.0 giver.1 there in omega (arith, many, shelf)

@@ -11,10 +11,8 @@ use Rattle.ring_range.specs.Range.{Range}
 use Rattle.directory_rules.specs.declared.piece_state.PieceState.{PieceState}
 use Rattle.directory_rules.specs.declared.piece_state.PieceState.TheVariants as state
 use Rattle.directory_rules.specs.Settings.{Settings, AreSettings}
-use Rattle.directory_rules.specs.Piece.{Piece}
-use Rattle.directory_rules.specs.Node.{Node}
+use Rattle.directory_rules.specs.State.{Piece, Node, World}
 use Rattle.directory_rules.specs.Event.{Event, IsEvent}
-use Rattle.directory_rules.specs.World.{World}
 use Rattle.directory_facts.specs.Laws.{world_by}
 use Rattle.progress_rules.specs.Plan.{and_then, synced, round, IsSettledPiece}
 use Rattle.progress_rules.specs.ComeBack.{HaveSeen, AreSettled}
@@ -37,18 +35,22 @@ needs_so world n node state.Settled range = omega arith
 needs_so world n node (state.Awaiting giver) range = omega arith
 needs_so world n node state.Recovering range = omega arith
 
-node_needs : (world : World) (n : ℕ) (node : Node) → need (due_to world node) n node ≡ 2 * over_pieces (pages_left world node) node + (2 * n) * over_pieces awaits_one node
+node_needs : (world : World) (n : ℕ) (node : Node)
+    → need (due_to world node) n node ≡ 2 * over_pieces (pages_left world node) node + (2 * n) * over_pieces awaits_one node
 node_needs world n node =
     let ps = values_of node.holding.pieces in
     sum_plus (λ (p : Piece). need_of (due_to world node) n node p.state p.range) (λ (p : Piece). 2 * pages_left world node p.state p.range)
     (λ (p : Piece). (2 * n) * awaits_one p.state p.range) (λ p. needs_so world n node p.state p.range) ps
-    ∙ ap (λ k. k + sum_by (λ (p : Piece). (2 * n) * awaits_one p.state p.range) ps) (sum_times (λ (p : Piece). 2 * pages_left world node p.state p.range)
+    ∙ ap (λ k. k + sum_by (λ (p : Piece). (2 * n) * awaits_one p.state p.range) ps)
+    (sum_times (λ (p : Piece). 2 * pages_left world node p.state p.range)
     (λ (p : Piece). pages_left world node p.state p.range) 2 (λ p. refl) ps)
-    ∙ ap (λ k. 2 * over_pieces (pages_left world node) node + k) (sum_times (λ (p : Piece). (2 * n) * awaits_one p.state p.range) (λ (p : Piece). awaits_one p.state p.range)
+    ∙ ap (λ k. 2 * over_pieces (pages_left world node) node + k)
+    (sum_times (λ (p : Piece). (2 * n) * awaits_one p.state p.range) (λ (p : Piece). awaits_one p.state p.range)
     (2 * n) (λ p. refl) ps)
 
 pub world_needs : (world : World) (n : ℕ)
-    → potential n world ≡ fresh_with is_question world + 2 * fresh_with is_offer world + (2 * pages_awaited world + 2 * snapshots_awaited world * n)
+    → potential n world ≡ fresh_with is_question world + 2 * fresh_with is_offer world +
+    (2 * pages_awaited world + 2 * snapshots_awaited world * n)
 world_needs world n =
     let nodes = values_of world.nodes in
     let parts = sum_plus (λ (x : Node). need (due_to world x) n x) (λ (x : Node). 2 * over_pieces (pages_left world x) x) (λ (x : Node). (2 * n) * over_pieces awaits_one x)
@@ -56,7 +58,8 @@ world_needs world n =
     let pages = sum_times (λ (x : Node). 2 * over_pieces (pages_left world x) x) (λ (x : Node). over_pieces (pages_left world x) x) 2 (λ x. refl) nodes in
     let awaits = sum_times (λ (x : Node). (2 * n) * over_pieces awaits_one x) (λ (x : Node). over_pieces awaits_one x) (2 * n) (λ x. refl) nodes
     ∙ thrice n (snapshots_awaited world) in
-    ap (λ k. fresh_with is_question world + 2 * fresh_with is_offer world + k) (parts ∙ ap (λ k. k + sum_by (λ (x : Node). (2 * n) * over_pieces awaits_one x) nodes) pages
+    ap (λ k. fresh_with is_question world + 2 * fresh_with is_offer world + k)
+    (parts ∙ ap (λ k. k + sum_by (λ (x : Node). (2 * n) * over_pieces awaits_one x) nodes) pages
     ∙ ap (λ k. 2 * pages_awaited world + k) awaits)
 
 -- ---- where all is settled nothing is wanted
@@ -68,8 +71,10 @@ none_over f (e ∷ es) all =
     let parts = sum_by-cons f e.1 (values_of es) in
     omega (arith, here, rest, parts)
 
-none_of : (count : PieceState → Range → ℕ) (node : Node) → ((range : Range) → count state.Settled range ≡ 0) → All IsSettledPiece node.holding.pieces → over_pieces count node ≡ 0
-none_of count node none all = none_over (λ (p : Piece). count p.state p.range) node.holding.pieces (λ i d below. let e = slice_index_or node.holding.pieces i d in
+none_of : (count : PieceState → Range → ℕ) (node : Node) → ((range : Range) → count state.Settled range ≡ 0)
+    → All IsSettledPiece node.holding.pieces → over_pieces count node ≡ 0
+none_of count node none all =
+    none_over (λ (p : Piece). count p.state p.range) node.holding.pieces (λ i d below. let e = slice_index_or node.holding.pieces i d in
     ap (λ (s : PieceState). count s e.1.range) (all i d below) ∙ none e.1.range)
 
 pub settled_asks : (world : World) → IsResting world → AreSettled world → asked_in world ≡ requests_out world
@@ -87,13 +92,23 @@ abbrev pub first_sends : World → ℕ
 first_sends world = world.sent + potential (length world.nodes) world + 2 * asked_in world
 
 abbrev pub first_events : World → ℕ
-first_events world = world.accepted + fresh_with (λ body. true) world + potential (length world.nodes) world + length world.nodes + 2 * asked_in world
+first_events world =
+    world.accepted + fresh_with (λ body. true) world + potential (length world.nodes) world + length world.nodes + 2 * asked_in world
 
 abbrev pub still_asked : World → ℕ
 still_asked world = requests_out world + fresh_with is_offer world
 
-pub before_first : (world : World) → IsResting world → Before (length world.nodes) (first_sends world) (still_asked world) (first_events world) world
-before_first world r = record { rests = r; many = refl; sent = le_same (first_sends world); asked = le_same (still_asked world); came = le_same (first_events world) }
+pub before_first : (world : World) → IsResting world
+    → Before (length world.nodes) (first_sends world) (still_asked world) (first_events world) world
+before_first world r =
+    record {
+      rests = r;
+      many = refl;
+      sent = le_same (first_sends world);
+      asked = le_same (still_asked world);
+      came = le_same
+          (first_events world);
+    }
 
 pub before_second : (n sends asks events : ℕ) (world : World) → Within n sends asks events world → AreSettled world
     → Before n (sends + 2 * asks) asks (events + n + 2 * asks) world
@@ -119,17 +134,21 @@ rest_seen : (world : World) (r : IsResting world) → HaveSeen (world_by r.setti
 rest_seen world r = subst HaveSeen r.is (λ silo node there. ap (λ (v : ViewValue). v.version) (r.seen silo node there))
 
 pub round_settles : (world after : World) → IsResting world → round world ≡ Ok after → AreSettled after
-round_settles world after r is = pieces_come_back r.settings r.events after r.are r.named (rest_seen world r) (subst (λ w. round w ≡ Ok after) r.is is)
+round_settles world after r is =
+    pieces_come_back r.settings r.events after r.are r.named (rest_seen world r) (subst (λ w. round w ≡ Ok after) r.is is)
 
 -- once each live silo has seen the current view
-pub seen_rests : (settings : Settings) (events : List Event) (seen : World) → AreSettings settings → All IsEvent events → synced (world_by settings events) ≡ Ok seen
+pub seen_rests : (settings : Settings) (events : List Event) (seen : World) → AreSettings settings → All IsEvent events
+    → synced (world_by settings events) ≡ Ok seen
     → IsResting seen
 seen_rests settings events seen are named is =
     let s = synced_seen settings are events seen named is in
-    subst IsResting (sym s.is) (starts settings s.events are s.named (subst HaveSeen s.is (λ silo node there. s.seen silo node there (All-nil (λ other. other ≢ silo)))))
+    subst IsResting (sym s.is) (starts settings s.events are s.named
+    (subst HaveSeen s.is (λ silo node there. s.seen silo node there (All-nil (λ other. other ≢ silo)))))
 
 pub plan_sends_at_most : PlanSendsAtMost
-plan_sends_at_most settings events seen after are named synced_is is = by (round seen) refl (subst (λ r. and_then (and_then r round) round ≡ Ok after) synced_is is)
+plan_sends_at_most settings events seen after are named synced_is is =
+    by (round seen) refl (subst (λ r. and_then (and_then r round) round ≡ Ok after) synced_is is)
   where
     rests : IsResting seen
     rests = seen_rests settings events seen are named synced_is

@@ -12,10 +12,8 @@ use Rattle.silo_address.proofs.Same.{Decides-silo}
 use Rattle.ring_range.specs.Range.{Range}
 use Rattle.directory_rules.specs.declared.piece_state.PieceState.{PieceState}
 use Rattle.directory_rules.specs.declared.piece_state.PieceState.TheVariants as state
-use Rattle.directory_rules.specs.Piece.{Piece}
-use Rattle.directory_rules.specs.Node.{Node}
+use Rattle.directory_rules.specs.State.{Piece, Node, World}
 use Rattle.directory_rules.specs.Step.{Stepped}
-use Rattle.directory_rules.specs.World.{World}
 use Rattle.directory_rules.specs.Happens.{node_of}
 use Rattle.directory_rules.proofs.Cases.{on_bool}
 use Rattle.progress_rules.specs.Room.{is_question, is_offer, fresh_with, over_nodes, pages_shelved}
@@ -29,12 +27,15 @@ due_to world node giver range = pages_shelved (node_of world giver) node.host.si
 
 -- what the fresh letters and the pieces of a world stand for, where there are so many silos
 abbrev pub potential : ℕ → World → ℕ
-potential n world = fresh_with is_question world + 2 * fresh_with is_offer world + over_nodes (λ node. need (due_to world node) n node) world
+potential n world =
+    fresh_with is_question world + 2 * fresh_with is_offer world + over_nodes (λ node. need (due_to world node) n node) world
 
 -- the fewer are due the less is needed
-pub need_less : (less more : Silo → Range → ℕ) (n : ℕ) (node : Node) → ((giver : Silo) (range : Range) → less giver range ≤ more giver range)
+pub need_less : (less more : Silo → Range → ℕ) (n : ℕ) (node : Node)
+    → ((giver : Silo) (range : Range) → less giver range ≤ more giver range)
     → need less n node ≤ need more n node
-need_less less more n node le = sum_by-le-sum_by (λ (p : Piece). need_of less n node p.state p.range) (λ (p : Piece). need_of more n node p.state p.range)
+need_less less more n node le =
+    sum_by-le-sum_by (λ (p : Piece). need_of less n node p.state p.range) (λ (p : Piece). need_of more n node p.state p.range)
     (values_of node.holding.pieces) (λ p. by p.state p.range)
   where
     by : (its : PieceState) (range : Range) → need_of less n node its range ≤ need_of more n node its range
@@ -69,10 +70,13 @@ module _ (world : World) (silo : Silo) (node : Node) (stepped : Stepped) (its : 
       omega (arith, put, old, before, then)
 
   -- no more pages are due than before, where no more are on its shelf
-  pub shelved_less : ((to : Silo) (version : ℕ) (range : Range) → pages_shelved (Some stepped.node) to version range ≤ pages_shelved (Some node) to version range)
-      → (giver to : Silo) (version : ℕ) (range : Range) → pages_shelved (node_of after giver) to version range ≤ pages_shelved (node_of world giver) to version range
+  pub shelved_less : ((to : Silo) (version : ℕ) (range : Range)
+      → pages_shelved (Some stepped.node) to version range ≤ pages_shelved (Some node) to version range)
+      → (giver to : Silo) (version : ℕ) (range : Range)
+      → pages_shelved (node_of after giver) to version range ≤ pages_shelved (node_of world giver) to version range
   shelved_less shelves giver to version range =
-      on_bool (λ b. silo_eq giver silo ≡ b → pages_shelved (node_of after giver) to version range ≤ pages_shelved (node_of world giver) to version range) (silo_eq giver silo)
+      on_bool (λ b. silo_eq giver silo ≡ b → pages_shelved (node_of after giver) to version range ≤ pages_shelved (node_of world giver) to
+      version range) (silo_eq giver silo)
       (λ t is.
       let same = (Decides-silo giver silo).0 is in
       let then = ap (λ s. pages_shelved (node_of after s) to version range) same ∙ ap (λ (o : Option Node). pages_shelved o to version range) (its_node world silo stepped) in

@@ -4,15 +4,14 @@ use Rattle.std.specs.Prelude.{true, false, cond, flat_map, All, Option, Some, No
 use Rattle.std.proofs.lemmas.List.Elements.{All-nil, All-cons, All-head, All-tail, All-append, All-map}
 use Rattle.std.proofs.lemmas.List.Sums.{sum_by-cons}
 use Rattle.silo_address.specs.Silo.{Silo}
+use Rattle.silo_address.specs.Grain.{Grain}
 use Rattle.ring_range.specs.Range.{Range}
 use Rattle.directory_rules.specs.declared.act.Act.{Act}
 use Rattle.directory_rules.specs.declared.piece_state.PieceState.{PieceState}
 use Rattle.directory_rules.specs.declared.piece_state.PieceState.TheVariants as state
-use Rattle.directory_rules.specs.Piece.{Piece}
-use Rattle.directory_rules.specs.Host.{outstanding}
-use Rattle.directory_rules.specs.Letter.{Letter, Body, Request_letter, Ask_letter, Query_letter, Offer_letter}
-use Rattle.directory_rules.specs.Node.{Node}
-use Rattle.directory_rules.specs.Sent.{letter_to, letter_if_owned, owner_by, hash_of, request_of, request_letters, gathering_of, recovery_of, query_letters, wants_by, all_requests, all_wants}
+use Rattle.directory_rules.specs.State.{Piece, Letter, Body, Request_letter, Ask_letter, Query_letter, Offer_letter, Node}
+use Rattle.directory_rules.specs.Host.{outstanding, requests_about}
+use Rattle.directory_rules.specs.Sent.{letter_to, letter_if_owned, owner_by, hash_of, request_of, request_letters, gathering_of, recovery_of, query_letters, wants_by, all_requests, requests_of_grain, all_wants}
 use Rattle.progress_rules.specs.Room.{is_question, is_offer}
 use Rattle.progress_rules.proofs.FreshWith.{sent_with}
 
@@ -36,23 +35,34 @@ all_flat : {X : Type 0} (P : Letter → Type 0) (f : X → List Letter) → ((x 
 all_flat P f each [] = All-nil P
 all_flat P f each (x ∷ xs) = All-append P (f x) (flat_map f xs) (each x) (all_flat P f each xs)
 
-owned_question : (o : Option Silo) (node : Node) (number : ℕ) (act : Act) → All IsQuestion (letter_if_owned o node (Request_letter (request_of node number act)))
+owned_question : (o : Option Silo) (node : Node) (number : ℕ) (act : Act)
+    → All IsQuestion (letter_if_owned o node (Request_letter (request_of node number act)))
 owned_question None node number act = All-nil IsQuestion
-owned_question (Some owner) node number act = All-cons IsQuestion (letter_to owner node (Request_letter (request_of node number act))) [] refl (All-nil IsQuestion)
+owned_question (Some owner) node number act =
+    All-cons IsQuestion (letter_to owner node (Request_letter (request_of node number act))) [] refl (All-nil IsQuestion)
 
 pub sent_question : (node : Node) (number : ℕ) (act : Act) → All IsQuestion (request_letters node number act)
 sent_question node number act = owned_question (owner_by node (hash_of node act)) node number act
 
 pub request_questions : (node : Node) → All IsQuestion (all_requests node)
-request_questions node = all_flat IsQuestion (λ (e : ℕ × Act). request_letters node e.0 e.1) (λ e. sent_question node e.0 e.1) (outstanding node.host)
+request_questions node =
+    all_flat IsQuestion (λ (e : ℕ × Act). request_letters node e.0 e.1) (λ e. sent_question node e.0 e.1) (outstanding node.host)
+
+pub grain_questions : (node : Node) (grain : Grain) → All IsQuestion (requests_of_grain node grain)
+grain_questions node grain =
+    all_flat IsQuestion (λ (e : ℕ × Act). request_letters node e.0 e.1) (λ e. sent_question node e.0 e.1) (requests_about grain node.host)
 
 pub query_questions : (node : Node) (range : Range) → All IsQuestion (query_letters node range)
-query_questions node range = All-map IsQuestion (λ silo. letter_to silo node (Query_letter range)) (recovery_of node range).awaiting (λ k d below. refl)
+query_questions node range =
+    All-map IsQuestion (λ silo. letter_to silo node (Query_letter range)) (recovery_of node range).awaiting (λ k d below. refl)
 
 wanted_questions : (its : PieceState) (node : Node) (range : Range) → All IsQuestion (wants_by its node range)
 wanted_questions state.Settled node range = All-nil IsQuestion
-wanted_questions (state.Awaiting from) node range = All-cons IsQuestion (letter_to from node (Ask_letter range (gathering_of node range).next)) [] refl (All-nil IsQuestion)
+wanted_questions (state.Awaiting from) node range =
+    All-cons IsQuestion (letter_to from node (Ask_letter range (gathering_of node range).next)) [] refl (All-nil IsQuestion)
 wanted_questions state.Recovering node range = query_questions node range
 
 pub want_questions : (node : Node) → All IsQuestion (all_wants node)
-want_questions node = all_flat IsQuestion (λ (e : ℕ × Piece). wants_by e.1.state node e.1.range) (λ e. wanted_questions e.1.state node e.1.range) node.holding.pieces
+want_questions node =
+    all_flat IsQuestion (λ (e : ℕ × Piece). wants_by e.1.state node e.1.range) (λ e. wanted_questions e.1.state node e.1.range)
+    node.holding.pieces

@@ -11,7 +11,8 @@ use Rattle.membership_view.specs.Whole.{IsViews}
 use Rattle.directory_rules.specs.Membership.{is_seeable, joined_in}
 use Rattle.directory_rules.specs.Settings.{Settings, AreSettings}
 use Rattle.directory_rules.specs.Event.{Event, IsEvent}
-use Rattle.directory_rules.specs.World.{World, Accepted, membership_of}
+use Rattle.directory_rules.specs.State.{World, Accepted}
+use Rattle.directory_rules.specs.World.{membership_of}
 use Rattle.directory_rules.specs.Laws.{IsMail, ArePeopled}
 use Rattle.directory_rules.specs.Happens.{happens}
 use Rattle.directory_rules.specs.Run.{world_after}
@@ -39,7 +40,8 @@ module _ (settings : Settings) (are : AreSettings settings) (world : World) (r :
   reached_silos = subst (λ (w : World). All (λ e. IsSilo e.0) w.nodes) (sym r.is) (silos settings r.events are r.named)
 
   -- one event more
-  pub reached_on : (event : Event) (accepted : Accepted) → IsEvent event → happens world event ≡ Ok accepted → IsReachedBy settings accepted.world
+  pub reached_on : (event : Event) (accepted : Accepted) → IsEvent event → happens world event ≡ Ok accepted
+      → IsReachedBy settings accepted.world
   reached_on event accepted named ok =
       let here : happens (world_by settings r.events) event ≡ Ok accepted = subst (λ w. happens w event ≡ Ok accepted) r.is ok in
       record {
@@ -60,4 +62,5 @@ pub seeable_now : (world : World) (silo : Silo) → IsViews world.views → is_s
 seeable_now world silo whole =
     let made = le-leb world.views.version world.views.version (omega arith) in
     let joined = le-leb (joined_in (membership_of world) silo) world.views.version (joined_by world silo whole) in
-    both_true (nat_le world.views.version world.views.version) (nat_le (joined_in (membership_of world) silo) world.views.version) made joined
+    both_true (nat_le world.views.version world.views.version) (nat_le (joined_in (membership_of world) silo) world.views.version) made
+    joined

@@ -5,14 +5,11 @@ use Rattle.std.proofs.lemmas.List.Elements.{All-nil}
 use Rattle.silo_address.specs.Silo.{Silo}
 use Rattle.directory_rules.specs.declared.act.Act.{Act}
 use Rattle.directory_rules.specs.declared.reply.Reply.{Reply}
-use Rattle.directory_rules.specs.Piece.{Holding}
+use Rattle.directory_rules.specs.State.{Holding, Letter, Body, Reply_letter, Node, World}
 use Rattle.directory_rules.specs.Answer.{last_served, is_numbered}
-use Rattle.directory_rules.specs.Letter.{Letter, Body, Reply_letter}
-use Rattle.directory_rules.specs.Node.{Node}
 use Rattle.directory_rules.specs.Step.{Stepped}
 use Rattle.directory_rules.specs.Reply.{replied}
 use Rattle.directory_rules.specs.Receive.{received, received_body}
-use Rattle.directory_rules.specs.World.{World}
 use Rattle.directory_rules.specs.Happens.{node_of}
 use Rattle.progress_rules.specs.Plan.{IsSettledPiece}
 use Rattle.progress_rules.specs.Requests.{Ends}
@@ -25,7 +22,8 @@ use Rattle.progress_rules.proofs.Transfers.{seen}
 use Rattle.progress_rules.proofs.LetterComes.{world_after, IsComing, kept_still, served_still}
 use Rattle.progress_rules.proofs.Answering.{IsAnswering, IsPast, IsBrought, not_both, node_facts}
 
-module _ (least : Bool) (start world : World) (number : ℕ) (letter : Letter) (node : Node) (a : IsAnswering least start [] world) (its : node_of world letter.to ≡ Some node)
+module _ (least : Bool) (start world : World) (number : ℕ) (letter : Letter) (node : Node) (a : IsAnswering least start [] world)
+    (its : node_of world letter.to ≡ Some node)
     (c : IsComing world number letter node)
     (n : ℕ) (answer : Reply) (body : letter.body ≡ Reply_letter n answer) (rests : IsResting (world_after world number letter node)) where
   abbrev after : World
@@ -48,7 +46,8 @@ module _ (least : Bool) (start world : World) (number : ℕ) (letter : Letter) (
   was k l f =
       elim (c.flew_before k l f) [
         | inl before ↦ before.0
-        | inr new ↦ let none = ap (λ (ls : List Letter). length ls) quiet.letters in let below = new.below in absurd (omega (arith, none, below))
+        | inr new ↦ let none = ap (λ (ls : List Letter). length ls) quiet.letters in let below = new.below in
+            absurd (omega (arith, none, below))
       ]
 
   no_request : (e : ℕ × Act) (silo owner : Silo) → IsAskOf world.settings.hashing silo e owner letter → ⊥
@@ -67,15 +66,22 @@ module _ (least : Bool) (start world : World) (number : ℕ) (letter : Letter) (
       ended node facts.own.once letter.version version n facts.numbered e.1 answer (subst (λ x. Ends e.1 x) answers tells.ends)
       (subst (λ m. Owes node.host (m, e.1)) numbers (quiet.owes e left)) e.1 then
 
-  told_past : (silo : Silo) (e : ℕ × Act) → IsTellOf world.views.version silo e letter → (own : Node) → node_of after silo ≡ Some own → Owes own.host e → ⊥
+  told_past : (silo : Silo) (e : ℕ × Act) → IsTellOf world.views.version silo e letter → (own : Node) → node_of after silo ≡ Some own
+      → Owes own.host e → ⊥
   told_past silo e tells own there =
-      c.at_node (λ (x : Node). Owes x.host e → ⊥) silo own there (λ same. ends_it e (subst (λ s. IsTellOf world.views.version s e letter) same tells))
+      c.at_node (λ (x : Node). Owes x.host e → ⊥) silo own there
+      (λ same. ends_it e (subst (λ s. IsTellOf world.views.version s e letter) same tells))
       (λ apart its_own. absurd (apart (sym tells.to)))
 
   past_still : (silo owner : Silo) → IsPast least start world silo owner → IsPast least start after silo owner
-  past_still silo owner past = (past.0, served_still start world number letter node its c quiet.owes silo owner past.1 (λ tells. told_past silo past.1.request tells))
+  past_still silo owner past = (
+    past.0,
+    served_still start world number letter node its c quiet.owes silo owner past.1
+        (λ tells. told_past silo past.1.request tells),
+  )
 
-  owed_from : (silo : Silo) (own : Node) → node_of world silo ≡ Some own → (e : ℕ × Act) → Owes own.host e → (owner : Silo) → owner_in world e.1 ≡ Some owner
+  owed_from : (silo : Silo) (own : Node) → node_of world silo ≡ Some own → (e : ℕ × Act) → Owes own.host e → (owner : Silo)
+      → owner_in world e.1 ≡ Some owner
       → (IsTellOf world.views.version silo e letter → ⊥) → Owed silo e owner
   owed_from silo own there e owes owner owns not =
       elim (a.owed silo own there (All-nil (λ (x : Silo × Node). x.0 ≢ silo)) e owes owner owns) [
@@ -93,19 +99,26 @@ module _ (least : Bool) (start world : World) (number : ℕ) (letter : Letter) (
     rests = rests;
     settled = λ silo own there.
         c.at_node (λ (x : Node). All IsSettledPiece x.holding.pieces) silo own there
-        (λ same. subst (λ (h : Holding). All IsSettledPiece h.pieces) (sym quiet.holding) (a.settled letter.to node its)) (λ apart its_own. a.settled silo own its_own);
+        (λ same. subst (λ (h : Holding). All IsSettledPiece h.pieces) (sym quiet.holding) (a.settled letter.to node its))
+        (λ apart its_own. a.settled silo own its_own);
     plain = λ k l f. a.plain k l (was k l f);
     from = λ k l r f its_body. All-nil (λ (x : Silo × Node). x.0 ≢ l.from);
     asked = λ k l r f its_body. a.asked k l r (was k l f) its_body;
     kept = kept_still start world number letter node its c quiet.owes a.kept;
     above = λ k l r own f its_body counts there.
         c.at_node (λ (x : Node). (last_served l.from x.holding.served < r.number) ⊎ IsPast least start after l.from l.to) l.to own there
-        (λ same. subst (λ (h : Holding). (last_served l.from h.served < r.number) ⊎ IsPast least start after l.from l.to) (sym quiet.holding)
-        (elim (a.above k l r node (was k l f) its_body counts (ap (λ s. node_of world s) same ∙ its)) [ inl less ↦ inl less | inr past ↦ inr (past_still l.from l.to past) ]))
-        (λ apart its_own. elim (a.above k l r own (was k l f) its_body counts its_own) [ inl less ↦ inl less | inr past ↦ inr (past_still l.from l.to past) ]);
-    ordered = λ so k j l i r q f g one other counts too same where_to less. a.ordered so k j l i r q (was k l f) (was j i g) one other counts too same where_to less;
+        (λ same. subst (λ (h : Holding). (last_served l.from h.served < r.number) ⊎ IsPast least start after l.from l.to)
+        (sym quiet.holding)
+        (elim (a.above k l r node (was k l f) its_body counts (ap (λ s. node_of world s) same ∙ its))
+        [ inl less ↦ inl less | inr past ↦ inr (past_still l.from l.to past) ]))
+        (λ apart its_own. elim (a.above k l r own (was k l f) its_body counts its_own)
+        [ inl less ↦ inl less | inr past ↦ inr (past_still l.from l.to past) ]);
+    ordered =
+        λ so k j l i r q f g one other counts too same where_to less. a.ordered so k j l i r q (was k l f) (was j i g) one other counts too
+        same where_to less;
     owed = λ silo own there apart e owes owner owns.
         c.at_node (λ (x : Node). Owes x.host e → Owed silo e owner) silo own there
-        (λ same its_owes. subst (λ s. Owed s e owner) (sym same) (owed_from letter.to node its e (quiet.owes e its_owes) owner owns (λ tells. ends_it e tells its_owes)))
+        (λ same its_owes. subst (λ s. Owed s e owner) (sym same)
+        (owed_from letter.to node its e (quiet.owes e its_owes) owner owns (λ tells. ends_it e tells its_owes)))
         (λ differ its_own its_owes. owed_from silo own its_own e its_owes owner owns (λ tells. differ (sym tells.to))) owes;
   }

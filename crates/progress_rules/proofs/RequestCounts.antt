@@ -15,7 +15,8 @@ use Rattle.directory_rules.specs.declared.act.Act.TheVariants as act
 use Rattle.directory_rules.specs.declared.held.Held.{Held}
 use Rattle.directory_rules.specs.declared.held.Phase.{Phase}
 use Rattle.directory_rules.specs.declared.held.Phase.TheVariants as phase
-use Rattle.directory_rules.specs.Host.{Host, act_in, held_acts, find_acts, outstanding, next_held, with_started, confirmed, without_held, without_find, new_number, renewed, renewed_phase}
+use Rattle.directory_rules.specs.State.{Host}
+use Rattle.directory_rules.specs.Host.{act_in, held_acts, find_acts, outstanding, next_held, with_started, confirmed, without_held, without_find, new_number, renewed, renewed_phase}
 use Rattle.directory_rules.specs.Laws.{requests_of}
 use Rattle.directory_rules.proofs.Cases.{on_bool}
 use Rattle.progress_rules.proofs.HostLimits.{removed_few, all_put_few}
@@ -38,7 +39,8 @@ acts_counted : (host : Host) (held : List (Grain × Held)) → length (acts host
 acts_counted host [] = refl
 acts_counted host (e ∷ es) = by e.1.phase (acts_counted host es) ∙ (let all = asks_cons e es in omega (arith, all))
   where
-    by : (its : Phase) → length (acts host es) ≡ asks_of es → length (cons_option (act_in its host e.0 e.1) (acts host es)) ≡ asks_one its + asks_of es
+    by : (its : Phase) → length (acts host es) ≡ asks_of es
+        → length (cons_option (act_in its host e.0 e.1) (acts host es)) ≡ asks_one its + asks_of es
     by (phase.Asking number) rest = omega (arith, rest)
     by phase.Firm rest = omega (arith, rest)
     by (phase.Closing number) rest = omega (arith, rest)
@@ -52,12 +54,14 @@ counted host =
     omega (arith, parts, held, finds)
 
 -- ---- after a reply
-set_firm : (test : Grain → Bool) (firm : Held) → asks_one firm.phase ≡ 0 → (held : List (Grain × Held)) → asks_of (set_value test held firm) ≤ asks_of held
+set_firm : (test : Grain → Bool) (firm : Held) → asks_one firm.phase ≡ 0 → (held : List (Grain × Held))
+    → asks_of (set_value test held firm) ≤ asks_of held
 set_firm test firm none [] = le_same 0
 set_firm test firm none (e ∷ es) =
     on_bool (λ b. asks_of (cond b ((e.0, firm) ∷ es) (e ∷ set_value test es firm)) ≤ asks_of (e ∷ es)) (test e.0)
     (λ t. let one = asks_cons (e.0, firm) es in let other = asks_cons e es in omega (arith, one, other, none))
-    (λ f. let rest = set_firm test firm none es in let one = asks_cons e (set_value test es firm) in let other = asks_cons e es in omega (arith, rest, one, other))
+    (λ f. let rest = set_firm test firm none es in let one = asks_cons e (set_value test es firm) in let other = asks_cons e es in
+    omega (arith, rest, one, other))
 
 module _ (host : Host) where
   pub confirmed_less : (e : Grain × Held) → length (requests_of (confirmed host e.0 e.1)) ≤ length (requests_of host)
@@ -82,7 +86,8 @@ module _ (host : Host) where
       omega (arith, before, after, less)
 
   -- an activation that begins asks
-  pub started_more : (grain : Grain) (previous : Option ActivationId) → length (requests_of (with_started host grain previous)) ≤ 1 + length (requests_of host)
+  pub started_more : (grain : Grain) (previous : Option ActivationId)
+      → length (requests_of (with_started host grain previous)) ≤ 1 + length (requests_of host)
   started_more grain previous =
       let before = counted host in
       let after = counted (with_started host grain previous) in
@@ -91,7 +96,8 @@ module _ (host : Host) where
       omega (arith, before, after, all, parts)
 
   -- renewal keeps their number
-  renewed_asks : (es : List (Grain × Held)) → asks_of (map (λ e. (e.0, record e.1 { phase = renewed_phase host e.1.phase })) es) ≡ asks_of es
+  renewed_asks : (es : List (Grain × Held)) → asks_of (map (λ e. (e.0, record e.1 { phase = renewed_phase host e.1.phase })) es) ≡ asks_of
+      es
   renewed_asks [] = refl
   renewed_asks (e ∷ es) =
       let here = by e.1.phase in
@@ -115,4 +121,6 @@ module _ (host : Host) where
 
 -- ---- no more are outstanding
 pub outstanding_few : (host : Host) → length (outstanding host) ≤ length (requests_of host)
-outstanding_few host = let few = all_put_few (find_acts host) (held_acts host) in let parts = length-append (held_acts host) (find_acts host) in omega (arith, few, parts)
+outstanding_few host =
+    let few = all_put_few (find_acts host) (held_acts host) in let parts = length-append (held_acts host) (find_acts host) in
+    omega (arith, few, parts)

@@ -11,13 +11,12 @@ use Rattle.silo_address.specs.Silo.{Silo, IsSilo, silo_cmp}
 use Rattle.silo_address.proofs.Order.{silo_cmp_total, silo_cmp_exact}
 use Rattle.directory_rules.specs.Members.{members_of}
 use Rattle.directory_rules.specs.Host.{outstanding, renewed}
-use Rattle.directory_rules.specs.Letter.{Letter}
-use Rattle.directory_rules.specs.Node.{Node}
+use Rattle.directory_rules.specs.State.{Letter, Node, World, Posted, Accepted}
 use Rattle.directory_rules.specs.Event.{Deliver, Do}
 use Rattle.directory_rules.specs.Step.{Stepped, having_nudged}
 use Rattle.directory_rules.specs.Input.{Does, Receives}
 use Rattle.directory_rules.specs.Receive.{received}
-use Rattle.directory_rules.specs.World.{World, Posted, Accepted, current_view}
+use Rattle.directory_rules.specs.World.{current_view}
 use Rattle.directory_rules.specs.Mail.{letter_of, with_delivered, fresh_letter}
 use Rattle.directory_rules.specs.declared.own_step.OwnStep.TheVariants.{Nudge}
 use Rattle.directory_rules.specs.Happens.{happens, node_of, least_deliverable}
@@ -51,7 +50,8 @@ pub record Within (n sends asks events : ℕ) (world : World) : Type 0 where
 pub few_members : (n : ℕ) (world : World) → IsResting world → length world.nodes ≡ n → length (members_of (current_view world)) ≤ n
 few_members n world r many = subst (λ k. length (members_of (current_view world)) ≤ k) many (members_few world r)
 
-pub delivered_rests : (world : World) (number : ℕ) (accepted : Accepted) → IsResting world → happens world (Deliver number) ≡ Ok accepted → IsResting accepted.world
+pub delivered_rests : (world : World) (number : ℕ) (accepted : Accepted) → IsResting world → happens world (Deliver number) ≡ Ok accepted
+    → IsResting accepted.world
 delivered_rests world number accepted r ok =
     let d = delivered world number accepted ok in
     rests_on world r (Deliver number) accepted tt ok
@@ -62,7 +62,8 @@ module _ (n sends asks events : ℕ) where
   abbrev Kept : World → Type 0
   Kept world = Within n sends asks events world
 
-  pub within_delivered : (world : World) (number : ℕ) (accepted : Accepted) → Kept world → least_deliverable world ≡ Some number → happens world (Deliver number) ≡ Ok accepted
+  pub within_delivered : (world : World) (number : ℕ) (accepted : Accepted) → Kept world → least_deliverable world ≡ Some number
+      → happens world (Deliver number) ≡ Ok accepted
       → Kept accepted.world
   within_delivered world number accepted w next ok =
       let d = delivered world number accepted ok in
@@ -74,9 +75,15 @@ module _ (n sends asks events : ℕ) where
       let few = few_members n world w.rests w.many in
       subst Kept (sym d.is) (record {
         rests = subst IsResting d.is (delivered_rests world number accepted w.rests ok);
-        many = nodes_stay (with_delivered world number d.letter) d.letter.to d.node (received d.node d.letter) d.its (nodes_sorted world w.rests) ∙ w.many;
-        sent = let falls = potential_falls n world w.rests few number (fresh_letter d.letter) d.node found refl d.its in let before = w.sent in omega (arith, falls, before);
-        asked = let fall = requests_fall n world w.rests few number (fresh_letter d.letter) d.node found refl d.its in let before = w.asked in omega (arith, fall, before);
+        many =
+            nodes_stay (with_delivered world number d.letter) d.letter.to d.node (received d.node d.letter) d.its
+            (nodes_sorted world w.rests) ∙ w.many;
+        sent =
+            let falls = potential_falls n world w.rests few number (fresh_letter d.letter) d.node found refl d.its in let before = w.sent in
+            omega (arith, falls, before);
+        asked =
+            let fall = requests_fall n world w.rests few number (fresh_letter d.letter) d.node found refl d.its in let before = w.asked in
+            omega (arith, fall, before);
         came =
             let falls = potential_falls n world w.rests few number (fresh_letter d.letter) d.node found refl d.its in
             let fresh = fresh_falls n world w.rests few number (fresh_letter d.letter) d.node found refl d.its in
@@ -97,16 +104,19 @@ pub record NudgingWithin (n sends asks events : ℕ) (those : List (Silo × Node
   pub asked : requests_out world + fresh_with is_offer world ≤ asks
   pub came : world.accepted + fresh_with (λ body. true) world + potential n world + length those + 2 * asked_by_all those ≤ events
 
-pub nudged_rests : (world : World) (silo : Silo) (accepted : Accepted) → IsResting world → IsSilo silo → happens world (Do silo Nudge) ≡ Ok accepted → IsResting accepted.world
+pub nudged_rests : (world : World) (silo : Silo) (accepted : Accepted) → IsResting world → IsSilo silo
+    → happens world (Do silo Nudge) ≡ Ok accepted → IsResting accepted.world
 nudged_rests world silo accepted r is_silo ok =
     let s = nudged world silo accepted ok in
-    rests_on world r (Do silo Nudge) accepted (is_silo, tt) ok (subst AllSeen (sym s.is) (still_seen world silo s.node s.stepped s.its (view_kept s.node (Does Nudge) s.stepped s.made) r.seen))
+    rests_on world r (Do silo Nudge) accepted (is_silo, tt) ok
+    (subst AllSeen (sym s.is) (still_seen world silo s.node s.stepped s.its (view_kept s.node (Does Nudge) s.stepped s.made) r.seen))
 
 module _ (n sends asks events : ℕ) where
   abbrev Keeping : List (Silo × Node) → World → Type 0
   Keeping those world = NudgingWithin n sends asks events those world
 
-  pub within_nudged : (world : World) (e : Silo × Node) (es : List (Silo × Node)) (accepted : Accepted) → IsSilo e.0 → Keeping (e ∷ es) world
+  pub within_nudged : (world : World) (e : Silo × Node) (es : List (Silo × Node)) (accepted : Accepted) → IsSilo e.0
+      → Keeping (e ∷ es) world
       → happens world (Do e.0 Nudge) ≡ Ok accepted → Keeping es accepted.world
   within_nudged world e es accepted is_silo w ok =
       let s = nudged world e.0 accepted ok in
@@ -122,7 +132,9 @@ module _ (n sends asks events : ℕ) where
       let parts = sum_by-cons (λ (x : Silo × Node). asked_by_nudge x.1) e es in
       subst (Keeping es) (sym is) (record {
         rests = subst IsResting is (nudged_rests world e.0 accepted w.rests is_silo ok);
-        many = nodes_stay world e.0 s.node (having_nudged (record s.node { host = renewed s.node.host })) s.its (nodes_sorted world w.rests) ∙ w.many;
+        many =
+            nodes_stay world e.0 s.node (having_nudged (record s.node { host = renewed s.node.host })) s.its (nodes_sorted world w.rests)
+            ∙ w.many;
         apart = λ i j d lt below. w.apart (suc i) (suc j) d (omega (arith, lt)) (omega (arith, below));
         there = λ i d below.
             let x = slice_index_or es i d in
@@ -172,7 +184,8 @@ pub record Before (n sends asks events : ℕ) (world : World) : Type 0 where
   pub asked : requests_out world + fresh_with is_offer world ≤ asks
   pub came : world.accepted + fresh_with (λ body. true) world + potential n world + n + 2 * asked_in world ≤ events
 
-pub begins : (n sends asks events : ℕ) (world : World) → Before n sends asks events world → NudgingWithin n sends asks events world.nodes world
+pub begins : (n sends asks events : ℕ) (world : World) → Before n sends asks events world
+    → NudgingWithin n sends asks events world.nodes world
 begins n sends asks events world b = record {
   rests = b.rests;
   many = b.many;
@@ -192,15 +205,19 @@ nudged_out n sends asks events world w = record {
   came = let before = w.came in omega (arith, before);
 }
 
-pub nudges_within : (n sends asks events : ℕ) (world next : World) → Before n sends asks events world → plan.nudged world ≡ Ok next → Within n sends asks events next
+pub nudges_within : (n sends asks events : ℕ) (world next : World) → Before n sends asks events world → plan.nudged world ≡ Ok next
+    → Within n sends asks events next
 nudges_within n sends asks events world next b made =
-    nudged_out n sends asks events next (nudging_keeps (NudgingWithin n sends asks events) (within_nudged n sends asks events) world.nodes world next (rest_silos world b.rests)
+    nudged_out n sends asks events next (nudging_keeps (NudgingWithin n sends asks events) (within_nudged n sends asks events) world.nodes
+    world next (rest_silos world b.rests)
     (begins n sends asks events world b) made)
 
-pub round_within : (n sends asks events : ℕ) (world after : World) → Before n sends asks events world → round world ≡ Ok after → IsEnded (Within n sends asks events) after
+pub round_within : (n sends asks events : ℕ) (world after : World) → Before n sends asks events world → round world ≡ Ok after
+    → IsEnded (Within n sends asks events) after
 round_within n sends asks events world after b is = by (plan.nudged world) refl is
   where
     by : (r : Result World ℕ) → plan.nudged world ≡ r → and_then r settled ≡ Ok after → IsEnded (Within n sends asks events) after
     by (Err number) made is = absurd (cc (is))
-    by (Ok next) made is = settles_least (Within n sends asks events) (within_delivered n sends asks events) next.settings.letters next after
+    by (Ok next) made is =
+        settles_least (Within n sends asks events) (within_delivered n sends asks events) next.settings.letters next after
         (nudges_within n sends asks events world next b made) is

@@ -8,11 +8,10 @@ use Rattle.std.proofs.lemmas.List.Sums.{sum_by-cons, count_by-le-length}
 use Rattle.std.proofs.lemmas.Map.Entries.{length-values_of}
 use Rattle.silo_address.specs.Silo.{Silo, IsSilo}
 use Rattle.directory_rules.specs.Settings.{Settings}
-use Rattle.directory_rules.specs.Node.{Node}
+use Rattle.directory_rules.specs.State.{Node, World, Posted, Accepted}
 use Rattle.directory_rules.specs.Step.{Stepped}
 use Rattle.directory_rules.specs.Receive.{received}
 use Rattle.directory_rules.specs.Event.{Event, Deliver, Do}
-use Rattle.directory_rules.specs.World.{World, Posted, Accepted}
 use Rattle.directory_rules.specs.Mail.{fresh_letter}
 use Rattle.directory_rules.specs.declared.own_step.OwnStep.TheVariants.{Nudge}
 use Rattle.directory_rules.specs.Happens.{happens, node_of, least_deliverable}
@@ -68,7 +67,8 @@ module _ (n sends asks events : ℕ) (world : World) (w : Within n sends asks ev
           let sent = w.sent in
           let fits = room.events_fit in
           let holds = room.letters in
-          elim (refused_delivery world number letter to.0 refusal (ap (λ (o : Option Posted). option_map (λ p. p.letter) o) least.flies.found) to.1 is) [
+          elim (refused_delivery world number letter to.0 refusal
+          (ap (λ (o : Option Posted). option_map (λ p. p.letter) o) least.flies.found) to.1 is) [
             | inl late ↦ let over = late.late in absurd (omega (arith, over, fresh, came, fits))
             | inr full ↦
                 let its = full.its in
@@ -82,19 +82,23 @@ module _ (n sends asks events : ℕ) (world : World) (w : Within n sends asks ev
           ]
 
 -- ---- until none is left
-pub settles_through : (n sends asks events steps more : ℕ) (world : World) → Within n sends asks events world → Within n sends asks steps world
+pub settles_through : (n sends asks events steps more : ℕ) (world : World) → Within n sends asks events world
+    → Within n sends asks steps world
     → HasRoom sends events world.settings → steps ≤ world.accepted + more
     → (after : World) × (settled_within more world ≡ Ok after) × (after.settings ≡ world.settings)
 settles_through n sends asks events steps zero world w v room fits = by (least_deliverable world) refl
   where
     by : (o : Option ℕ) → least_deliverable world ≡ o → (after : World) × (ended o world ≡ Ok after) × (after.settings ≡ world.settings)
     by None none = (world, refl, refl)
-    by (Some number) next = let fresh = one_fresh n sends asks events world w room number next in let came = v.came in absurd (omega (arith, fresh, came, fits))
+    by (Some number) next =
+        let fresh = one_fresh n sends asks events world w room number next in let came = v.came in absurd (omega (arith, fresh, came, fits))
 settles_through n sends asks events steps (suc more) world w v room fits =
     by (least_deliverable world) refl (λ later its other has so. settles_through n sends asks events steps more later its other has so)
   where
-    by : (o : Option ℕ) → least_deliverable world ≡ o → ((later : World) → Within n sends asks events later → Within n sends asks steps later
-        → HasRoom sends events later.settings → steps ≤ later.accepted + more → (after : World) × (settled_within more later ≡ Ok after) × (after.settings ≡ later.settings))
+    by : (o : Option ℕ) → least_deliverable world ≡ o
+        → ((later : World) → Within n sends asks events later → Within n sends asks steps later
+        → HasRoom sends events later.settings → steps ≤ later.accepted + more
+        → (after : World) × (settled_within more later ≡ Ok after) × (after.settings ≡ later.settings))
         → (after : World) × (delivering o world (λ next. settled_within more next) ≡ Ok after) × (after.settings ≡ world.settings)
     by None none on = (world, refl, refl)
     by (Some number) next on =
@@ -107,7 +111,8 @@ settles_through n sends asks events steps (suc more) world w v room fits =
         (rest.0, ap (λ r. then_on r (λ later. settled_within more later)) h.1 ∙ rest.1, rest.2 ∙ same)
 
 -- ---- a nudge
-module _ (n sends asks events : ℕ) (world : World) (e : Silo × Node) (es : List (Silo × Node)) (w : NudgingWithin n sends asks events (e ∷ es) world)
+module _ (n sends asks events : ℕ) (world : World) (e : Silo × Node) (es : List (Silo × Node))
+    (w : NudgingWithin n sends asks events (e ∷ es) world)
     (room : HasRoom sends events world.settings) where
   nudge_happens : Happens world (Do e.0 Nudge)
   nudge_happens = by (happens world (Do e.0 Nudge)) refl
@@ -147,7 +152,8 @@ module _ (n sends asks events : ℕ) (world : World) (e : Silo × Node) (es : Li
             ]
           ]
 
-pub nudges_through : (n sends asks events : ℕ) (es : List (Silo × Node)) (world : World) → All (λ e. IsSilo e.0) es → NudgingWithin n sends asks events es world
+pub nudges_through : (n sends asks events : ℕ) (es : List (Silo × Node)) (world : World) → All (λ e. IsSilo e.0) es
+    → NudgingWithin n sends asks events es world
     → HasRoom sends events world.settings
     → (after : World) × (in_turn (map (λ e. Do e.0 Nudge) es) world ≡ Ok after) × (after.settings ≡ world.settings)
 nudges_through n sends asks events [] world silos w room = (world, refl, refl)
@@ -156,7 +162,8 @@ nudges_through n sends asks events (e ∷ es) world silos w room =
     let s = nudged world e.0 h.0 h.1 in
     let same : h.0.world.settings ≡ world.settings = ap (λ (x : World). x.settings) s.is in
     let rest = nudges_through n sends asks events es h.0.world (All-tail (λ (x : Silo × Node). IsSilo x.0) e es silos)
-    (within_nudged n sends asks events world e es h.0 (All-head (λ (x : Silo × Node). IsSilo x.0) e es silos) w h.1) (subst (HasRoom sends events) (sym same) room) in
+    (within_nudged n sends asks events world e es h.0 (All-head (λ (x : Silo × Node). IsSilo x.0) e es silos) w h.1)
+    (subst (HasRoom sends events) (sym same) room) in
     (rest.0, ap (λ r. then_on r (λ next. in_turn (map (λ x. Do x.0 Nudge) es) next)) h.1 ∙ rest.1, rest.2 ∙ same)
 
 -- ---- a round

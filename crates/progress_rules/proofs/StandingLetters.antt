@@ -7,10 +7,8 @@ use Rattle.silo_address.specs.Silo.{Silo}
 use Rattle.membership_view.specs.View.{ViewValue}
 use Rattle.membership_view.specs.Views.{ViewsValue, status_at}
 use Rattle.ring_range.specs.Range.{Range}
-use Rattle.directory_rules.specs.Snapshot.{Page, has_snapshot}
-use Rattle.directory_rules.specs.Letter.{Letter, Body, Page_letter, Done_letter}
-use Rattle.directory_rules.specs.Node.{Node}
-use Rattle.directory_rules.specs.World.{World, Posted}
+use Rattle.directory_rules.specs.State.{Page, Letter, Body, Page_letter, Done_letter, Node, World, Posted}
+use Rattle.directory_rules.specs.Snapshot.{has_snapshot}
 use Rattle.directory_rules.specs.Happens.{node_of}
 use Rattle.progress_rules.specs.Gathers.{AwaitsFrom}
 use Rattle.progress_rules.proofs.HandedPages.{IsPast}
@@ -26,7 +24,8 @@ pub record Past (world : World) (silo : Silo) (version : ℕ) (range : Range) : 
 
 pub record IsHandedBy (world : World) (to : Silo) (page : Page) (node : Node) : Type 0 where
   pub reached : page.version ≤ node.view.version
-  pub shelved : page.version ≡ node.view.version → (has_snapshot node.shelf page.version page.range to ≡ true) ⊎ Past world to page.version page.range
+  pub shelved : page.version ≡ node.view.version → (has_snapshot node.shelf page.version page.range to ≡ true)
+      ⊎ Past world to page.version page.range
 
 pub record IsHanded (world : World) (letter : Letter) (page : Page) : Type 0 where
   pub known : Known world.views letter.from
@@ -59,22 +58,29 @@ pub stays_same : (world : World) (node : Node) → GoesFrom world node node
 stays_same world node = inr (record { view = refl; awaits = λ range giver waits. waits; shelf = λ version range to there. inl there })
 
 module _ (world after : World) (o : Onward world after) where
-  past_later : (version : ℕ) (range : Range) (node later : Node) → IsPast version range node → GoesFrom world node later → IsPast version range later
+  past_later : (version : ℕ) (range : Range) (node later : Node) → IsPast version range node → GoesFrom world node later
+      → IsPast version range later
   past_later version range node later is (inl rises) = record {
     reached = let low = is.reached in omega (arith, low, rises);
     awaits_not = λ same giver waits. let low = is.reached in omega (arith, low, rises, same);
   }
   past_later version range node later is (inr stays) =
       let same = ap (λ (v : ViewValue). v.version) stays.view in
-      record { reached = let low = is.reached in omega (arith, low, same); awaits_not = λ at giver waits. is.awaits_not (at ∙ same) giver (stays.awaits range giver waits) }
+      record {
+        reached = let low = is.reached in omega (arith, low, same);
+        awaits_not = λ at giver waits. is.awaits_not (at ∙ same) giver
+            (stays.awaits range giver waits);
+      }
 
   past_on : (silo : Silo) (version : ℕ) (range : Range) → Past world silo version range → Past after silo version range
   past_on silo version range is = record {
     known = o.known silo is.known;
-    node = λ later there. let from = o.nodes silo later is.known there in past_later version range from.0 later (is.node from.0 from.1) from.2;
+    node =
+        λ later there. let from = o.nodes silo later is.known there in past_later version range from.0 later (is.node from.0 from.1) from.2;
   }
 
-  handed_later : (to : Silo) (page : Page) (node later : Node) → IsHandedBy world to page node → GoesFrom world node later → IsHandedBy after to page later
+  handed_later : (to : Silo) (page : Page) (node later : Node) → IsHandedBy world to page node → GoesFrom world node later
+      → IsHandedBy after to page later
   handed_later to page node later is (inl rises) = record {
     reached = let low = is.reached in omega (arith, low, rises);
     shelved = λ same. let low = is.reached in absurd (omega (arith, low, rises, same));
@@ -84,7 +90,8 @@ module _ (world after : World) (o : Onward world after) where
       record {
         reached = let low = is.reached in omega (arith, low, same);
         shelved = λ at. elim (is.shelved (at ∙ same)) [
-          | inl there ↦ elim (stays.shelf page.version page.range to there) [ inl still ↦ inl still | inr past ↦ inr (past_on to page.version page.range past) ]
+          | inl there ↦ elim (stays.shelf page.version page.range to there)
+              [ inl still ↦ inl still | inr past ↦ inr (past_on to page.version page.range past) ]
           | inr past ↦ inr (past_on to page.version page.range past)
         ];
       }
@@ -93,10 +100,14 @@ module _ (world after : World) (o : Onward world after) where
   stands_on letter (Done_letter range) is = past_on letter.from letter.version range is
   stands_on letter (Page_letter page) is = record {
     known = o.known letter.from is.known;
-    node = λ later there. let from = o.nodes letter.from later is.known there in handed_later letter.to page from.0 later (is.node from.0 from.1) from.2;
+    node =
+        λ later there. let from = o.nodes letter.from later is.known there in
+        handed_later letter.to page from.0 later (is.node from.0 from.1) from.2;
   }
   stands_on letter body is = tt
 
-  pub all_on : (mail : List (ℕ × Posted)) → All (λ e. Stands world e.1.letter e.1.letter.body) mail → All (λ e. Stands after e.1.letter e.1.letter.body) mail
-  all_on mail = All-weaker (λ (e : ℕ × Posted). Stands world e.1.letter e.1.letter.body) (λ (e : ℕ × Posted). Stands after e.1.letter e.1.letter.body)
+  pub all_on : (mail : List (ℕ × Posted)) → All (λ e. Stands world e.1.letter e.1.letter.body) mail
+      → All (λ e. Stands after e.1.letter e.1.letter.body) mail
+  all_on mail =
+      All-weaker (λ (e : ℕ × Posted). Stands world e.1.letter e.1.letter.body) (λ (e : ℕ × Posted). Stands after e.1.letter e.1.letter.body)
       (λ e is. stands_on e.1.letter e.1.letter.body is) mail

@@ -12,7 +12,7 @@ use Rattle.std.proofs.lemmas.Map.Lookups.{exact_unsigned}
 use Rattle.texts.proofs.Orderings.{at_itself}
 use Rattle.ring_range.specs.Range.{Range}
 use Rattle.directory_rules.specs.declared.piece_state.PieceState.{PieceState}
-use Rattle.directory_rules.specs.Piece.{Piece}
+use Rattle.directory_rules.specs.State.{Piece}
 use Rattle.directory_rules.proofs.Cases.{on_bool}
 use Rattle.directory_facts.specs.Whole.{StandUnderStarts, outline_of}
 use Rattle.directory_facts.proofs.Entries.{same_key}
@@ -41,7 +41,8 @@ sum_times h f m is (x ∷ xs) =
     omega (arith, here, rest, whole, parts)
 
 -- ---- pieces, of which one is set
-under_le : (f g : Piece → ℕ) (k : ℕ) → ((p : Piece) → p.range.start ≢ k → g p ≤ f p) → (es : List (ℕ × Piece)) → StandUnderStarts es → All (λ e. e.0 ≢ k) es
+under_le : (f g : Piece → ℕ) (k : ℕ) → ((p : Piece) → p.range.start ≢ k → g p ≤ f p) → (es : List (ℕ × Piece)) → StandUnderStarts es
+    → All (λ e. e.0 ≢ k) es
     → sum_by g (values_of es) ≤ sum_by f (values_of es)
 under_le f g k le [] under apart = le_same 0
 under_le f g k le (e ∷ es) under apart =
@@ -53,19 +54,22 @@ under_le f g k le (e ∷ es) under apart =
     omega (arith, here, rest, one, other)
 
 -- the others count no more than before
-pub sum_set : (f g : Piece → ℕ) (k : ℕ) (old new : Piece) → ((p : Piece) → p.range.start ≢ k → g p ≤ f p) → (es : List (ℕ × Piece)) → StandUnderStarts es
+pub sum_set : (f g : Piece → ℕ) (k : ℕ) (old new : Piece) → ((p : Piece) → p.range.start ≢ k → g p ≤ f p) → (es : List (ℕ × Piece))
+    → StandUnderStarts es
     → AllPairs (λ e later. e.0 < later.0) es → lookup (is_at (nat_cmp k)) es ≡ Some old
     → sum_by g (values_of (set_value (is_at (nat_cmp k)) es new)) + f old ≤ sum_by f (values_of es) + g new
 sum_set f g k old new le [] under rising found = absurd (cc (found))
 sum_set f g k old new le (e ∷ es) under rising found =
     on_bool (λ b. is_at (nat_cmp k) e.0 ≡ b → cond b (Some e.1) (lookup (is_at (nat_cmp k)) es) ≡ Some old
-    → sum_by g (values_of (cond b ((e.0, new) ∷ es) (e ∷ set_value (is_at (nat_cmp k)) es new))) + f old ≤ sum_by f (values_of (e ∷ es)) + g new) (is_at (nat_cmp k) e.0)
+    → sum_by g (values_of (cond b ((e.0, new) ∷ es) (e ∷ set_value (is_at (nat_cmp k)) es new))) + f old ≤ sum_by f (values_of (e ∷ es)) + g
+    new) (is_at (nat_cmp k) e.0)
     (λ t is here.
     let same : k ≡ e.0 = same_key nat_cmp exact_unsigned k e.0 is in
     let its : e.1 ≡ old = cc (here) in
     let at = ap f its in
     let rest = under_le f g k le es later
-    (λ i d below one. let above : e.0 < (slice_index_or es i d).0 = rising 0 (suc i) d (omega arith) (omega (arith, below)) in omega (arith, above, same, one)) in
+    (λ i d below one. let above : e.0 < (slice_index_or es i d).0 = rising 0 (suc i) d (omega arith) (omega (arith, below)) in
+    omega (arith, above, same, one)) in
     let whole = sum_by-cons f e.1 (values_of es) in
     let set = sum_by-cons g new (values_of es) in
     omega (arith, at, rest, whole, set))

@@ -6,9 +6,8 @@ use Rattle.std.proofs.lemmas.Bool.{ltb-true}
 use Rattle.std.proofs.lemmas.List.Elements.{All-nil}
 use Rattle.silo_address.specs.Silo.{Silo}
 use Rattle.directory_rules.specs.Settings.{Settings, AreSettings}
-use Rattle.directory_rules.specs.Node.{Node}
+use Rattle.directory_rules.specs.State.{Node, World}
 use Rattle.directory_rules.specs.Event.{Event, See, IsEvent}
-use Rattle.directory_rules.specs.World.{World}
 use Rattle.directory_rules.specs.Happens.{happens, node_of}
 use Rattle.directory_rules.proofs.Cases.{on_bool}
 use Rattle.directory_facts.specs.Laws.{world_by}
@@ -26,16 +25,20 @@ use Rattle.progress_rules.proofs.PlanSends.{first_sends, first_events, still_ask
 
 -- ---- who has seen the current view isn't behind
 not_less : (a b : ℕ) → a ≡ b → nat_lt a b ≡ false
-not_less a b same = on_bool (λ t. nat_lt a b ≡ t → t ≡ false) (nat_lt a b) (λ t is. let less = ltb-true a b is in absurd (omega (arith, less, same))) (λ f is. refl) refl
+not_less a b same =
+    on_bool (λ t. nat_lt a b ≡ t → t ≡ false) (nat_lt a b) (λ t is. let less = ltb-true a b is in absurd (omega (arith, less, same)))
+    (λ f is. refl) refl
 
-level : (world : World) (o : Option Node) → ((node : Node) → o ≡ Some node → node.view.version ≡ world.views.version) → is_behind o world ≡ false
+level : (world : World) (o : Option Node) → ((node : Node) → o ≡ Some node → node.view.version ≡ world.views.version)
+    → is_behind o world ≡ false
 level world None seen = refl
 level world (Some node) seen = let same = seen node refl in not_less node.view.version world.views.version same
 
 sees_none : (silos : List Silo) (world : World) → HaveSeen world → sights silos world ≡ Ok world
 sees_none [] world seen = refl
 sees_none (silo ∷ silos) world seen =
-    ap (λ b. cond {A = Result World ℕ} b (then_on (happens world (See silo world.views.version)) (λ next. sights silos next)) (sights silos world))
+    ap (λ b. cond {A = Result World ℕ} b (then_on (happens world (See silo world.views.version)) (λ next. sights silos next))
+    (sights silos world))
     (level world (node_of world silo) (λ node its. seen silo node its)) ∙ sees_none silos world seen
 
 -- ---- the plan
@@ -44,7 +47,8 @@ module _ (settings : Settings) (events : List Event) (seen : World) (are : AreSe
   s : IsSeeing settings [] seen
   s = synced_seen settings are events seen named synced_is
 
-  plan_through : NumbersSuffice settings → seen.sent + letters_needed seen ≤ settings.letters → seen.accepted + events_needed seen ≤ settings.events
+  plan_through : NumbersSuffice settings → seen.sent + letters_needed seen ≤ settings.letters
+      → seen.accepted + events_needed seen ≤ settings.events
       → (after : World) × (plan (world_by settings events) ≡ Ok after)
   plan_through suffice letters_fit events_fit =
       let r = seen_rests settings events seen are named synced_is in
@@ -67,11 +71,13 @@ module _ (settings : Settings) (events : List Event) (seen : World) (are : AreSe
   plan_of_seen : (after : World) → plan (world_by settings events) ≡ Ok after → plan (world_by settings s.events) ≡ Ok after
   plan_of_seen after is =
       subst (λ x. plan x ≡ Ok after) s.is
-      (ap (λ x. and_then (and_then x round) round) (sees_none (keys_of seen.nodes) seen (λ silo node there. s.seen silo node there (All-nil (λ other. other ≢ silo)))
+      (ap (λ x. and_then (and_then x round) round) (sees_none (keys_of seen.nodes) seen
+      (λ silo node there. s.seen silo node there (All-nil (λ other. other ≢ silo)))
       ∙ sym synced_is) ∙ is)
 
   with_active : (after : World) → plan (world_by settings events) ≡ Ok after → HasActive seen → IsBack after
-  with_active after is active = comes_back_where_active settings s.events after are s.named (subst HasActive s.is active) (plan_of_seen after is)
+  with_active after is active =
+      comes_back_where_active settings s.events after are s.named (subst HasActive s.is active) (plan_of_seen after is)
 
 pub comes_back_unowned_with_room : ComesBackUnownedWithRoom
 comes_back_unowned_with_room settings events seen are suffice named synced_is letters_fit events_fit =

@@ -8,11 +8,10 @@ use Rattle.directory_rules.specs.declared.act.Act.{Act}
 use Rattle.directory_rules.specs.Settings.{Settings, AreSettings}
 use Rattle.directory_rules.specs.Answer.{is_numbered}
 use Rattle.directory_rules.specs.Host.{outstanding}
-use Rattle.directory_rules.specs.Node.{Node}
+use Rattle.directory_rules.specs.State.{Node, World, Posted}
 use Rattle.directory_rules.specs.Sent.{hash_of, owner_by}
 use Rattle.directory_rules.specs.Sight.{is_owner}
 use Rattle.directory_rules.specs.Event.{Event, Deliver, IsEvent}
-use Rattle.directory_rules.specs.World.{World, Posted}
 use Rattle.directory_rules.specs.Happens.{happens, node_of, is_deliverable, least_deliverable}
 use Rattle.directory_rules.specs.Run.{run_from_start}
 use Rattle.directory_facts.specs.Laws.{world_by}

@@ -5,7 +5,7 @@ use Rattle.membership_view.specs.declared.status.Status.TheVariants.{Active}
 use Rattle.hash_ring.specs.declared.Hashing.{Hashing}
 use Rattle.directory_rules.specs.Settings.{Settings, AreSettings, directory_settings}
 use Rattle.directory_rules.specs.Event.{Event, IsEvent}
-use Rattle.directory_rules.specs.World.{World}
+use Rattle.directory_rules.specs.State.{World}
 use Rattle.directory_rules.specs.Happens.{status_now}
 use Rattle.directory_rules.specs.Run.{run_from_start}
 use Rattle.progress_rules.specs.Plan.{plan, HasOwners, IsBack}

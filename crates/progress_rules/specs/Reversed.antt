@@ -2,7 +2,7 @@
 -- itself. Where the later comes first, the owner doesn't serve the other any more: that has to be sent under a new number.
 use Rattle.std.specs.Prelude.{◌≡◌, ℕ, true, List, [], ◌∷◌}
 use Rattle.directory_rules.specs.Event.{Join, See, Do, Deliver, Lose}
-use Rattle.directory_rules.specs.World.{World}
+use Rattle.directory_rules.specs.State.{World}
 use Rattle.directory_rules.specs.Run.{run_from_start}
 use Rattle.directory_rules.specs.declared.own_step.OwnStep.TheVariants.{Wake}
 use Rattle.directory_rules.specs.Worked.{silo_a, grain_a, grain_b}

@@ -2,13 +2,11 @@
 -- come.
 use Rattle.std.specs.Prelude.{◌≡◌, ℕ, zero, suc, ◌+◌, ◌==◌, true, false, if◌then◌else◌, List, [], ◌∷◌, Option, None, Some, Result, Ok, Err}
 use Rattle.directory_rules.specs.declared.effect.Effect.TheVariants.{Behind, More}
-use Rattle.directory_rules.specs.Letter.{Letter, Body, Query_letter, Report_letter, Behind_letter}
-use Rattle.directory_rules.specs.Node.{Node}
+use Rattle.directory_rules.specs.State.{Letter, Body, Query_letter, Report_letter, Behind_letter, Node, World, Accepted}
 use Rattle.directory_rules.specs.Step.{Stepped, silently}
 use Rattle.directory_rules.specs.Receive.{received}
 use Rattle.directory_rules.specs.Transfer.{answering, is_report_awaited}
 use Rattle.directory_rules.specs.Event.{Event, Join, See, Deliver, Do}
-use Rattle.directory_rules.specs.World.{World, Accepted}
 use Rattle.directory_rules.specs.Mail.{letter_of}
 use Rattle.directory_rules.specs.Happens.{happens, node_of, delivered_by, least_deliverable}
 use Rattle.directory_rules.specs.Run.{world_after, run_from_start}

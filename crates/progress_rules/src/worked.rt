@@ -1,7 +1,7 @@
 //! Worked runs: one that comes back, one that doesn't, for it is nudged too soon, one whose plan sends as many letters as it may, and one
 //! that takes a round more, for its letters come in reverse.
 ghost use Rattle.progress_rules.specs.Worked.{LimitsCompute, PlanComputes};
-ghost use Rattle.progress_rules.specs.Hasty.{HastyNudgesWait};
+ghost use Rattle.progress_rules.specs.Hasty.{HastyNudgesWait, PartNudgesDoNot};
 ghost use Rattle.progress_rules.specs.RoomWorked.{BoundIsReached};
 ghost use Rattle.progress_rules.specs.Reversed.{ReversedNeedsTwo};
 
@@ -13,9 +13,11 @@ pub fn plan_computes()
 {}
 
 /// A silo that is nudged again before its request has come to its owner, and again before the reply comes back, waits still, though
-/// each letter has come; then it is nudged twice in quiet, and waits no more.
+/// each letter has come; then it is nudged twice in quiet, and waits no more. Nudged about another grain and about its ranges as soon, it
+/// doesn't wait.
 pub fn hasty_nudges_wait()
-    ensures { HastyNudgesWait }
+    ensures waits { HastyNudgesWait }
+    ensures parts { PartNudgesDoNot }
 {}
 
 /// A silo with a range that isn't settled and an activation that asks, their letters lost: the plan sends just as many letters as the

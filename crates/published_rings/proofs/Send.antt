@@ -38,12 +38,26 @@ mark_syncs = search (once_sync, snapshot_sync, sendable) depth 16
 
 module _ (E A P : RattleType) (g : Ghosts P.Denot E.Denot A.Denot) where
   seen_sends : IsSend (seen.the_row E A P g)
-  seen_sends = record { owned = λ d vs. ((λ vss. (tt, ((λ uss. (tt, tt)), tt))), seen_keyless E.coded.code (rules g.holds g.shows g.keeps) d.book d.names d.log); leaving = λ k f vs. tt }
+  seen_sends =
+      record {
+        owned = λ d vs. (
+          (λ vss. (tt, ((λ uss. (tt, tt)), tt))),
+          seen_keyless E.coded.code (rules g.holds g.shows g.keeps) d.book
+              d.names d.log,
+        );
+        leaving = λ k f vs. tt;
+      }
 
   seen_syncs : IsSync (seen.the_row E A P g)
   seen_syncs =
       let fields : IsSync (Struct (shape (seen.the_type E A P g))) = search sendable depth 20 in
-      record { shared = λ d b o ν. (fields.shared (tt, tt) b o ν, seen_keyless E.coded.code (rules g.holds g.shows g.keeps) d.book d.names d.log) }
+      record {
+        shared = λ d b o ν. (
+          fields.shared (tt, tt) b o ν,
+          seen_keyless E.coded.code (rules g.holds g.shows g.keeps) d.book d.names
+              d.log,
+        );
+      }
 
 front_sends : IsSend front.the_row
 front_sends = search (seen_sends, sendable) depth 16
@@ -59,7 +73,9 @@ shown_syncs = search (mark_syncs, edition_syncs, sendable) depth 16
 
 -- what a reader is made of
 ring_reader_sends : IsSend (Reader.the_field shown.the_row known.the_row rings.the_row Heap.the_row rule.ghosts ghosts).row
-ring_reader_sends = reading.the_field_send shown.the_row known.the_row rings.the_row Heap.the_row rule.ghosts ghosts crossing.send shown_syncs crossing.sync crossing.frees
+ring_reader_sends =
+    reading.the_field_send shown.the_row known.the_row rings.the_row Heap.the_row rule.ghosts ghosts crossing.send shown_syncs crossing.sync
+    crossing.frees
 
 origin_sends : IsSend (origin.the_field).row
 origin_sends = search (snapshot_send, sendable) depth 16

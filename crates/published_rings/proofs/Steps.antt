@@ -35,7 +35,8 @@ new_end : (shown : ShownValue) → IsEnd shown newcomer
 new_end shown = record { named = tt; begins = (all_of shown.edition, refl) }
 
 -- who knows which publication it is of knows the one that is shown
-stays_of : (own : Option Publication) (of its : Publication) → IfSome own (λ known. known ≡ of) → own ≡ Some its → ◌≡◌ {A = Option Publication} (Some of) (Some its)
+stays_of : (own : Option Publication) (of its : Publication) → IfSome own (λ known. known ≡ of) → own ≡ Some its
+    → ◌≡◌ {A = Option Publication} (Some of) (Some its)
 stays_of None of its named is = absurd (cc is)
 stays_of (Some known) of its named is = ap Some (sym named) ∙ is
 
@@ -63,12 +64,15 @@ opens_so seat known x views h at =
     (now, All-set (IsEnd x) views seat now (record { named = refl; begins = its.begins }) h, refl)
 
 -- an end of the publication that shows one edition more
-end_after : (x : ShownValue) (edition : EditionValue) → edition ≡ edition_after x.edition edition.ring → (known : Known) → IsEnd x known → IsEnd (showing x edition) known
+end_after : (x : ShownValue) (edition : EditionValue) → edition ≡ edition_after x.edition edition.ring → (known : Known) → IsEnd x known
+    → IsEnd (showing x edition) known
 end_after x edition follows known end =
     let y : ShownValue = showing x (edition_after x.edition edition.ring) in
-    subst (λ (e : EditionValue). IsEnd (showing x e) known) (sym follows) (record { named = end.named; begins = begins_longer known.seen (all_of x.edition) edition.ring end.begins })
+    subst (λ (e : EditionValue). IsEnd (showing x e) known) (sym follows)
+    (record { named = end.named; begins = begins_longer known.seen (all_of x.edition) edition.ring end.begins })
 
-pub adds : (seat : ℕ) (known : Known) (x : ShownValue) (edition : EditionValue) → edition ≡ edition_after x.edition edition.ring → TurnsAt Keeps seat known x (showing x edition) Adds
+pub adds : (seat : ℕ) (known : Known) (x : ShownValue) (edition : EditionValue) → edition ≡ edition_after x.edition edition.ring
+    → TurnsAt Keeps seat known x (showing x edition) Adds
 adds seat known x edition follows views h at =
     let y = showing x edition in
     let all : All (IsEnd y) views = All-weaker (IsEnd x) (IsEnd y) (end_after x edition follows) views h in

@@ -25,10 +25,12 @@ low_reached n (m ∷ ns) = step (low_reached (min n m) ns) (min_is n m)
     here : (k : ℕ) → k ≡ m → Contains (m ∷ ns) k
     here k e = (0, omega arith, sym e)
 
-    step : (fold min (min n m) ns ≡ min n m) ⊎ Contains ns (fold min (min n m) ns) → (min n m ≡ n) ⊎ (min n m ≡ m) → (fold min (min n m) ns ≡ n) ⊎ Contains (m ∷ ns) (fold min (min n m) ns)
+    step : (fold min (min n m) ns ≡ min n m) ⊎ Contains ns (fold min (min n m) ns) → (min n m ≡ n) ⊎ (min n m ≡ m)
+        → (fold min (min n m) ns ≡ n) ⊎ Contains (m ∷ ns) (fold min (min n m) ns)
     step (inl e) (inl first) = inl (e ∙ first)
     step (inl e) (inr other) = inr (here (fold min (min n m) ns) (e ∙ other))
     step (inr there) which = inr (Contains-append_right (m ∷ []) ns (fold min (min n m) ns) there)
 
 pub low_there : (n : ℕ) (ns : List ℕ) → Contains (n ∷ ns) (fold min n ns)
-low_there n ns = elim (low_reached n ns) [ inl e ↦ (0, omega arith, sym e) | inr there ↦ Contains-append_right (n ∷ []) ns (fold min n ns) there ]
+low_there n ns =
+    elim (low_reached n ns) [ inl e ↦ (0, omega arith, sym e) | inr there ↦ Contains-append_right (n ∷ []) ns (fold min n ns) there ]

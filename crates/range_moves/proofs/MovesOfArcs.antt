@@ -32,29 +32,41 @@ module _ (old new : List Point) where
   abbrev HasMoved : Move → Type 0
   HasMoved move = EachHash (λ hash. IsTrue (holds move.range hash) → Moved old new hash move.from move.to)
 
-  moved_if : (range : Range) (from : Option Silo) (to : Silo) (same : Bool) → is_silo from to ≡ same → EachHash (λ hash. IsTrue (holds range hash) → HasOwners old new (record { range = range; from = from; to = Some to }) hash) → IfSome {T = Move} (cond same None (Some (record { range = range; from = from; to = to }))) HasMoved
+  moved_if : (range : Range) (from : Option Silo) (to : Silo) (same : Bool) → is_silo from to ≡ same
+      → EachHash (λ hash. IsTrue (holds range hash) → HasOwners old new (record { range = range; from = from; to = Some to }) hash)
+      → IfSome {T = Move} (cond same None (Some (record { range = range; from = from; to = to }))) HasMoved
   moved_if range from to true e owners = tt
-  moved_if range from to false e owners = λ hash h held. record { before = (owners hash h held).before; after = (owners hash h held).after; differ = is_other from to e }
+  moved_if range from to false e owners =
+      λ hash h held. record { before = (owners hash h held).before; after = (owners hash h held).after; differ = is_other from to e }
 
-  between_moved : (range : Range) (from to : Option Silo) → EachHash (λ hash. IsTrue (holds range hash) → HasOwners old new (record { range = range; from = from; to = to }) hash) → IfSome (move_between range from to) HasMoved
+  between_moved : (range : Range) (from to : Option Silo)
+      → EachHash (λ hash. IsTrue (holds range hash) → HasOwners old new (record { range = range; from = from; to = to }) hash)
+      → IfSome (move_between range from to) HasMoved
   between_moved range from None owners = tt
   between_moved range from (Some to) owners = moved_if range from to (is_silo from to) refl owners
 
-  range_kept : (P : Range → Type 0) (range : Range) (from to : Option Silo) → P range → IfSome (move_between range from to) (λ move. P move.range)
+  range_kept : (P : Range → Type 0) (range : Range) (from to : Option Silo) → P range
+      → IfSome (move_between range from to) (λ move. P move.range)
   range_kept P range from None ok = tt
   range_kept P range from (Some to) ok = either (is_silo from to)
     where
-      either : (same : Bool) → IfSome {T = Move} (cond same None (Some (record { range = range; from = from; to = to }))) (λ (move : Move). P move.range)
+      either : (same : Bool) → IfSome {T = Move} (cond same None (Some (record { range = range; from = from; to = to })))
+          (λ (move : Move). P move.range)
       either true = tt
       either false = ok
 
 -- ---- a hash that moved is in the moves as it is in the arcs
 module _ (hash : ℕ) (from : Option Silo) (to : Silo) (differ : from ≢ Some to) where
-  agrees_if : (range : Range) (before : Option Silo) (after : Silo) (same : Bool) → is_silo before after ≡ same → (holds range hash ≡ true → (from ≡ before) × (Some to ≡ Some after)) → MatchOption {T = Move} (cond same None (Some (record { range = range; from = before; to = after }))) (holds range hash ≡ false) (λ move. holds move.range hash ≡ holds range hash)
-  agrees_if range before after true e owners = false_from_ne_true (holds range hash) (λ held. let own = owners held in differ (own.0 ∙ is_this before after e ∙ sym own.1))
+  agrees_if : (range : Range) (before : Option Silo) (after : Silo) (same : Bool) → is_silo before after ≡ same
+      → (holds range hash ≡ true → (from ≡ before) × (Some to ≡ Some after))
+      → MatchOption {T = Move} (cond same None (Some (record { range = range; from = before; to = after }))) (holds range hash ≡ false)
+      (λ move. holds move.range hash ≡ holds range hash)
+  agrees_if range before after true e owners =
+      false_from_ne_true (holds range hash) (λ held. let own = owners held in differ (own.0 ∙ is_this before after e ∙ sym own.1))
   agrees_if range before after false e owners = refl
 
-  agrees : (range : Range) (before after : Option Silo) → (holds range hash ≡ true → (from ≡ before) × (Some to ≡ after)) → MatchOption (move_between range before after) (holds range hash ≡ false) (λ move. holds move.range hash ≡ holds range hash)
+  agrees : (range : Range) (before after : Option Silo) → (holds range hash ≡ true → (from ≡ before) × (Some to ≡ after))
+      → MatchOption (move_between range before after) (holds range hash ≡ false) (λ move. holds move.range hash ≡ holds range hash)
   agrees range before None owners = false_from_ne_true (holds range hash) (λ held. let none = (owners held).1 in cc)
   agrees range before (Some after) owners = agrees_if range before after (is_silo before after) refl owners
 
@@ -66,32 +78,47 @@ one_each (p ∷ old) new hash to e = refl
 
 module _ (old new : List Point) (o : All IsOnCircle old) (n : All IsOnCircle new) where
   no_other : All (HasMoved old new) (moves_of old new)
-  no_other = All-filter_map (HasMoved old new) move_of (arcs_of old new) (λ k d lt. between_moved old new _ _ _ ((arcs_whole old new o n).owners k d lt))
+  no_other =
+      All-filter_map (HasMoved old new) move_of (arcs_of old new)
+      (λ k d lt. between_moved old new _ _ _ ((arcs_whole old new o n).owners k d lt))
 
-  taken_once : (hash : ℕ) → hash < circle → (from : Option Silo) (to : Silo) → Moved old new hash from to → count_by (λ move. holds move.range hash) (moves_of old new) ≡ 1
+  taken_once : (hash : ℕ) → hash < circle → (from : Option Silo) (to : Silo) → Moved old new hash from to
+      → count_by (λ move. holds move.range hash) (moves_of old new) ≡ 1
   taken_once hash h from to moved =
       count_by-filter_map (λ move. holds move.range hash) (λ arc. holds arc.range hash) move_of (arcs_of old new)
-      (λ k d lt. agrees hash from to moved.differ _ _ _ (λ held. let own = (arcs_whole old new o n).owners k d lt hash h held in (sym moved.before ∙ own.before, sym moved.after ∙ own.after)))
+      (λ k d lt. agrees hash from to moved.differ _ _ _
+      (λ held. let own = (arcs_whole old new o n).owners k d lt hash h held in
+      (sym moved.before ∙ own.before, sym moved.after ∙ own.after)))
       ∙ (arcs_whole old new o n).once hash h
       ∙ one_each old new hash to moved.after
 
-  takes : (hash : ℕ) (from : Option Silo) (to : Silo) (move : Move) → Moved old new hash from to → holds move.range hash ≡ true → Moved old new hash move.from move.to → Takes hash from to move
+  takes : (hash : ℕ) (from : Option Silo) (to : Silo) (move : Move) → Moved old new hash from to → holds move.range hash ≡ true
+      → Moved old new hash move.from move.to → Takes hash from to move
   takes hash from to move moved held here = record {
     held = held;
     source = sym here.before ∙ moved.before;
     target = some_same move.to to (sym here.after ∙ moved.after);
   }
 
-  taken : (hash : ℕ) → hash < circle → (from : Option Silo) (to : Silo) → Moved old new hash from to → IsTakenOnce (moves_of old new) hash from to
+  taken : (hash : ℕ) → hash < circle → (from : Option Silo) (to : Silo) → Moved old new hash from to
+      → IsTakenOnce (moves_of old new) hash from to
   taken hash h from to moved =
       let once : count_by (λ (move : Move). holds move.range hash) (moves_of old new) ≡ 1 = taken_once hash h from to moved in
       let one = Any-counted (λ (move : Move). holds move.range hash) (moves_of old new) (omega arith) in
       record {
         once = once;
-        taken = (one.0, one.1, one.2, one.3, takes hash from to one.1 moved one.4 (All-contains (HasMoved old new) (moves_of old new) one.1 no_other (one.0, one.2, one.3) hash h one.4));
+        taken = (
+          one.0,
+          one.1,
+          one.2,
+          one.3,
+          takes hash from to one.1 moved one.4
+              (All-contains (HasMoved old new) (moves_of old new) one.1 no_other (one.0, one.2, one.3) hash h one.4),
+        );
       }
 
-  moved_by : (hash : ℕ) → hash < circle → (from : Option Silo) (to : Silo) → IsTakenOnce (moves_of old new) hash from to → Moved old new hash from to
+  moved_by : (hash : ℕ) → hash < circle → (from : Option Silo) (to : Silo) → IsTakenOnce (moves_of old new) hash from to
+      → Moved old new hash from to
   moved_by hash h from to once =
       let one = once.taken in
       let takes : Takes hash from to one.1 = one.4 in
@@ -102,5 +129,8 @@ module _ (old new : List Point) (o : All IsOnCircle old) (n : All IsOnCircle new
   moves_whole = record {
     moved = λ hash h from to. (taken hash h from to, moved_by hash h from to);
     no_other = no_other;
-    ranges = All-filter_map (λ (move : Move). IsRange move.range) move_of (arcs_of old new) (λ k d lt. let arc : RingArc = get_or (arcs_of old new) k d in range_kept old new IsRange arc.range arc.from arc.to ((arcs_whole old new o n).ranges k d lt));
+    ranges =
+        All-filter_map (λ (move : Move). IsRange move.range) move_of (arcs_of old new)
+        (λ k d lt. let arc : RingArc = get_or (arcs_of old new) k d in
+        range_kept old new IsRange arc.range arc.from arc.to ((arcs_whole old new o n).ranges k d lt));
   }

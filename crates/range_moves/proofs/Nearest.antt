@@ -21,7 +21,8 @@ pub record IsLowest (old new : List Point) (place : ℕ) : Type 0 where
 pub min_is : (n m : ℕ) → (n ≡ min n m) ⊎ (m ≡ min n m)
 min_is n m = grind arith
 
-lowest_of_two : (a b : Point) (old new : List Point) → Rising point_cmp (a ∷ old) → Rising point_cmp (b ∷ new) → IsLowest (a ∷ old) (b ∷ new) (min a.place b.place)
+lowest_of_two : (a b : Point) (old new : List Point) → Rising point_cmp (a ∷ old) → Rising point_cmp (b ∷ new)
+    → IsLowest (a ∷ old) (b ∷ new) (min a.place b.place)
 lowest_of_two a b old new rise_old rise_new = record {
   old_from = λ p there. let le : a.place ≤ p.place = head_least a old rise_old p there in omega arith;
   new_from = λ p there. let le : b.place ≤ p.place = head_least b new rise_new p there in omega arith;
@@ -49,12 +50,16 @@ lowest_of_new b new rising = record {
   there = inr (b, inl refl, refl);
 }
 
-pub next_is_lowest : (old new : List Point) (place : ℕ) → Rising point_cmp old → Rising point_cmp new → nearer_place (place_ahead old) (place_ahead new) ≡ Some place → IsLowest old new place
+pub next_is_lowest : (old new : List Point) (place : ℕ) → Rising point_cmp old → Rising point_cmp new
+    → nearer_place (place_ahead old) (place_ahead new) ≡ Some place → IsLowest old new place
 next_is_lowest [] [] place rise_old rise_new e = cc
-next_is_lowest [] (b ∷ new) place rise_old rise_new e = lowest_at [] (b ∷ new) b.place place (same_Some b.place place e) (lowest_of_new b new rise_new)
-next_is_lowest (a ∷ old) [] place rise_old rise_new e = lowest_at (a ∷ old) [] a.place place (same_Some a.place place e) (lowest_of_old a old rise_old)
+next_is_lowest [] (b ∷ new) place rise_old rise_new e =
+    lowest_at [] (b ∷ new) b.place place (same_Some b.place place e) (lowest_of_new b new rise_new)
+next_is_lowest (a ∷ old) [] place rise_old rise_new e =
+    lowest_at (a ∷ old) [] a.place place (same_Some a.place place e) (lowest_of_old a old rise_old)
 next_is_lowest (a ∷ old) (b ∷ new) place rise_old rise_new e =
-    lowest_at (a ∷ old) (b ∷ new) (min a.place b.place) place (same_Some (min a.place b.place) place e) (lowest_of_two a b old new rise_old rise_new)
+    lowest_at (a ∷ old) (b ∷ new) (min a.place b.place) place (same_Some (min a.place b.place) place e)
+    (lowest_of_two a b old new rise_old rise_new)
 
 pub none_ahead : (old new : List Point) → nearer_place (place_ahead old) (place_ahead new) ≡ None → (old ≡ []) × (new ≡ [])
 none_ahead [] [] e = (refl, refl)

@@ -36,10 +36,13 @@ passed-here at p ps here =
     let le = passed-le at ps in
     omega (arith, ap length now)
 
-pub fewer : (old new : List Point) (place : ℕ) → nearer_place (place_ahead old) (place_ahead new) ≡ Some place → length (passed place old) + length (passed place new) < length old + length new
+pub fewer : (old new : List Point) (place : ℕ) → nearer_place (place_ahead old) (place_ahead new) ≡ Some place
+    → length (passed place old) + length (passed place new) < length old + length new
 fewer [] [] place e = cc
-fewer [] (b ∷ new) place e = let lt : length (passed place (b ∷ new)) < length (b ∷ new) = passed-here place b new (same_Some b.place place e) in omega arith
-fewer (a ∷ old) [] place e = let lt : length (passed place (a ∷ old)) < length (a ∷ old) = passed-here place a old (same_Some a.place place e) in omega arith
+fewer [] (b ∷ new) place e =
+    let lt : length (passed place (b ∷ new)) < length (b ∷ new) = passed-here place b new (same_Some b.place place e) in omega arith
+fewer (a ∷ old) [] place e =
+    let lt : length (passed place (a ∷ old)) < length (a ∷ old) = passed-here place a old (same_Some a.place place e) in omega arith
 fewer (a ∷ old) (b ∷ new) place e =
     let low : min a.place b.place ≡ place = same_Some (min a.place b.place) place e in
     let one : length (passed place (a ∷ old)) ≤ length (a ∷ old) = passed-le place (a ∷ old) in
@@ -56,13 +59,15 @@ sizes first start step at upto lt e = omega arith
 back_again : (first start : ℕ) → first ≤ start → first + (start - first) ≡ start
 back_again first start upto = omega arith
 
-part_up : (first start step at : ℕ) → first ≤ start → start < circle → start < at → step ≡ at - first → part_of (circle_from first) (start - first) step ≡ range_at start (at - start)
+part_up : (first start step at : ℕ) → first ≤ start → start < circle → start < at → step ≡ at - first
+    → part_of (circle_from first) (start - first) step ≡ range_at start (at - start)
 part_up first start step at upto on lt e =
     part_some (circle_from first) (start - first) step (omega arith)
     ∙ ap (λ n. range_at n (step - (start - first))) (ahead-up first (start - first) (omega arith) ∙ back_again first start upto)
     ∙ ap (range_at start) (sizes first start step at upto lt e)
 
-part_round : (first start : ℕ) → first ≤ start → start < circle → part_of (circle_from first) (start - first) circle ≡ range_at start (circle - (start - first))
+part_round : (first start : ℕ) → first ≤ start → start < circle
+    → part_of (circle_from first) (start - first) circle ≡ range_at start (circle - (start - first))
 part_round first start upto on =
     part_some (circle_from first) (start - first) circle (omega arith)
     ∙ ap (λ n. range_at n (circle - (start - first))) (ahead-up first (start - first) (omega arith) ∙ back_again first start upto)
@@ -70,7 +75,8 @@ part_round first start upto on =
 abbrev arc_at : Range → Option Silo → Option Silo → RingArc
 arc_at range from to = record { range = range; from = from; to = to }
 
-arc_known : (old new : List Point) (part : Range) (start size : ℕ) (from to : Option Silo) → part ≡ range_at start size → from ≡ owner_silo old start → to ≡ owner_silo new start → arc_at (range_at start size) from to ≡ arc_of old new part
+arc_known : (old new : List Point) (part : Range) (start size : ℕ) (from to : Option Silo) → part ≡ range_at start size
+    → from ≡ owner_silo old start → to ≡ owner_silo new start → arc_at (range_at start size) from to ≡ arc_of old new part
 arc_known old new part start size from to e is_from is_to =
     ap (λ from. arc_at (range_at start size) from to) is_from
     ∙ ap (λ to. arc_at (range_at start size) (owner_silo old start) to) is_to
@@ -85,7 +91,8 @@ later_step : (step n : ℕ) (steps : List ℕ) → step < n → IsStep n (step �
 later_step step n steps lt (inl e) = absurd (omega arith)
 later_step step n steps lt (inr later) = later
 
-module _ (old new : List Point) (rings : AreRings old new) (first start : ℕ) (from to : Option Silo) (old_ahead new_ahead : List Point) (arcs : List RingArc) (way : IsUnderway old new first start from to old_ahead new_ahead arcs) where
+module _ (old new : List Point) (rings : AreRings old new) (first start : ℕ) (from to : Option Silo) (old_ahead new_ahead : List Point)
+    (arcs : List RingArc) (way : IsUnderway old new first start from to old_ahead new_ahead arcs) where
   old_ahead_there : (p : Point) → In p old_ahead → In p old
   old_ahead_there p there = subst (In p) (sym way.before.whole) (In-right p way.before.behind old_ahead there)
 
@@ -93,11 +100,14 @@ module _ (old new : List Point) (rings : AreRings old new) (first start : ℕ) (
   new_ahead_there p there = subst (In p) (sym way.after.whole) (In-right p way.after.behind new_ahead there)
 
   -- a place beyond is that of a point ahead
-  beyond_by : (P : ℕ → Type 0) → ((p : Point) → In p old_ahead → P p.place) → ((p : Point) → In p new_ahead → P p.place) → All (λ place. start < place → P place) (all_places old new)
+  beyond_by : (P : ℕ → Type 0) → ((p : Point) → In p old_ahead → P p.place) → ((p : Point) → In p new_ahead → P p.place)
+      → All (λ place. start < place → P place) (all_places old new)
   beyond_by P of_old of_new =
       each_place (λ place. start < place → P place) old new
-      (λ p there beyond. ⊎_elim (λ behind. absurd (let le = way.before.before p behind in omega arith)) (λ later. of_old p later) (In-either p way.before.behind old_ahead (subst (In p) way.before.whole there)))
-      (λ p there beyond. ⊎_elim (λ behind. absurd (let le = way.after.before p behind in omega arith)) (λ later. of_new p later) (In-either p way.after.behind new_ahead (subst (In p) way.after.whole there)))
+      (λ p there beyond. ⊎_elim (λ behind. absurd (let le = way.before.before p behind in omega arith)) (λ later. of_old p later)
+      (In-either p way.before.behind old_ahead (subst (In p) way.before.whole there)))
+      (λ p there beyond. ⊎_elim (λ behind. absurd (let le = way.after.before p behind in omega arith)) (λ later. of_new p later)
+      (In-either p way.after.behind new_ahead (subst (In p) way.after.whole there)))
 
   old_rising : Rising point_cmp old_ahead
   old_rising = rising_rest way.before.behind old_ahead (subst (Rising point_cmp) way.before.whole rings.old_rising)
@@ -117,7 +127,9 @@ module _ (old new : List Point) (rings : AreRings old new) (first start : ℕ) (
   lowest_there at lowest = stood old_ahead new_ahead old new at old_ahead_there new_ahead_there lowest.there
 
   -- the first of the steps ahead leads to the lowest place ahead
-  first_step : (at step : ℕ) (steps : List ℕ) → IsLowest old_ahead new_ahead at → Rises (start - first) (step ∷ steps) circle → Contains (all_places old new) (first + step) → All (λ place. start < place → IsStep (place - first) (step ∷ steps)) (all_places old new) → step ≡ at - first
+  first_step : (at step : ℕ) (steps : List ℕ) → IsLowest old_ahead new_ahead at → Rises (start - first) (step ∷ steps) circle
+      → Contains (all_places old new) (first + step) → All (λ place. start < place → IsStep (place - first) (step ∷ steps))
+      (all_places old new) → step ≡ at - first
   first_step at step steps lowest rising there all =
       let upto : first ≤ start = way.first_upto in
       let lt : start < at = lowest_beyond at lowest in
@@ -128,9 +140,15 @@ module _ (old new : List Point) (rings : AreRings old new) (first start : ℕ) (
       omega arith
 
   -- with the steps by their cases
-  go_by : (at : ℕ) (steps : List ℕ) → IsLowest old_ahead new_ahead at → Rises (start - first) steps circle → Each (λ step. Contains (all_places old new) (first + step)) steps → All (λ place. start < place → IsStep (place - first) steps) (all_places old new) → arcs ++ map (arc_of old new) (parts_between (circle_from first) (start - first) steps) ≡ arcs_of old new → IsUnderway old new first at (owner_at at old_ahead from) (owner_at at new_ahead to) (passed at old_ahead) (passed at new_ahead) (arcs ++ arc_at (range_at start (at - start)) from to ∷ [])
+  go_by : (at : ℕ) (steps : List ℕ) → IsLowest old_ahead new_ahead at → Rises (start - first) steps circle
+      → Each (λ step. Contains (all_places old new) (first + step)) steps
+      → All (λ place. start < place → IsStep (place - first) steps) (all_places old new)
+      → arcs ++ map (arc_of old new) (parts_between (circle_from first) (start - first) steps) ≡ arcs_of old new
+      → IsUnderway old new first at (owner_at at old_ahead from) (owner_at at new_ahead to) (passed at old_ahead) (passed at new_ahead)
+      (arcs ++ arc_at (range_at start (at - start)) from to ∷ [])
   go_by at [] lowest rising each all whole =
-      absurd (All-contains (λ place. start < place → IsStep (place - first) []) (all_places old new) at all (lowest_there at lowest) (lowest_beyond at lowest))
+      absurd (All-contains (λ place. start < place → IsStep (place - first) []) (all_places old new) at all (lowest_there at lowest)
+      (lowest_beyond at lowest))
   go_by at (step ∷ steps) lowest rising each all whole =
       let upto : first ≤ start = way.first_upto in
       let lt : start < at = lowest_beyond at lowest in
@@ -138,7 +156,8 @@ module _ (old new : List Point) (rings : AreRings old new) (first start : ℕ) (
       let same : step ≡ at - first = first_step at step steps lowest rising each.0 all in
       let part : Range = part_of (circle_from first) (start - first) step in
       let known : arc_at (range_at start (at - start)) from to ≡ arc_of old new part =
-      arc_known old new part start (at - start) from to (part_up first start step at upto way.on_circle lt same) way.before.owner_is way.after.owner_is in
+      arc_known old new part start (at - start) from to (part_up first start step at upto way.on_circle lt same) way.before.owner_is
+      way.after.owner_is in
       record {
         first_upto = omega arith;
         on_circle = below;
@@ -148,25 +167,36 @@ module _ (old new : List Point) (rings : AreRings old new) (first start : ℕ) (
         rising = subst (λ n. Rises n steps circle) same rising.1;
         each = each.1;
         all = λ k d within beyond. later_step step _ steps (omega arith) (all k d within (omega arith));
-        whole = append_assoc arcs (arc_at (range_at start (at - start)) from to ∷ []) (map (arc_of old new) (parts_between (circle_from first) (at - first) steps))
+        whole =
+            append_assoc arcs (arc_at (range_at start (at - start)) from to ∷ [])
+            (map (arc_of old new) (parts_between (circle_from first) (at - first) steps))
             ∙ ap (λ arc. arcs ++ arc ∷ map (arc_of old new) (parts_between (circle_from first) (at - first) steps)) known
             ∙ ap (λ n. arcs ++ arc_of old new part ∷ map (arc_of old new) (parts_between (circle_from first) n steps)) (sym same)
             ∙ whole;
       }
 
-  pub underway_next : (at : ℕ) → nearer_place (place_ahead old_ahead) (place_ahead new_ahead) ≡ Some at → IsUnderway old new first at (owner_at at old_ahead from) (owner_at at new_ahead to) (passed at old_ahead) (passed at new_ahead) (arcs ++ arc_at (range_at start (at - start)) from to ∷ [])
-  underway_next at e = go_by at way.steps (next_is_lowest old_ahead new_ahead at old_rising new_rising e) way.rising way.each way.all way.whole
+  pub underway_next : (at : ℕ) → nearer_place (place_ahead old_ahead) (place_ahead new_ahead) ≡ Some at
+      → IsUnderway old new first at (owner_at at old_ahead from) (owner_at at new_ahead to) (passed at old_ahead) (passed at new_ahead)
+      (arcs ++ arc_at (range_at start (at - start)) from to ∷ [])
+  underway_next at e =
+      go_by at way.steps (next_is_lowest old_ahead new_ahead at old_rising new_rising e) way.rising way.each way.all way.whole
 
   pub next_beyond : (at : ℕ) → nearer_place (place_ahead old_ahead) (place_ahead new_ahead) ≡ Some at → start < at
   next_beyond at e = lowest_beyond at (next_is_lowest old_ahead new_ahead at old_rising new_rising e)
 
-  end_by : (steps : List ℕ) → old_ahead ≡ [] → new_ahead ≡ [] → Rises (start - first) steps circle → Each (λ step. Contains (all_places old new) (first + step)) steps → arcs ++ map (arc_of old new) (parts_between (circle_from first) (start - first) steps) ≡ arcs_of old new → arcs ++ arc_at (range_at start (circle - (start - first))) from to ∷ [] ≡ arcs_of old new
+  end_by : (steps : List ℕ) → old_ahead ≡ [] → new_ahead ≡ [] → Rises (start - first) steps circle
+      → Each (λ step. Contains (all_places old new) (first + step)) steps
+      → arcs ++ map (arc_of old new) (parts_between (circle_from first) (start - first) steps) ≡ arcs_of old new
+      → arcs ++ arc_at (range_at start (circle - (start - first))) from to ∷ [] ≡ arcs_of old new
   end_by [] none_old none_new rising each whole =
-      ap (λ arc. arcs ++ arc ∷ []) (arc_known old new (part_of (circle_from first) (start - first) circle) start (circle - (start - first)) from to (part_round first start way.first_upto way.on_circle) way.before.owner_is way.after.owner_is) ∙ whole
+      ap (λ arc. arcs ++ arc ∷ []) (arc_known old new (part_of (circle_from first) (start - first) circle) start (circle - (start - first))
+      from to (part_round first start way.first_upto way.on_circle) way.before.owner_is way.after.owner_is) ∙ whole
   end_by (step ∷ steps) none_old none_new rising each whole =
       let upto : first ≤ start = way.first_upto in
       let up : start - first < step = rising.0 in
-      absurd (All-contains (λ place. start < place → ⊥) (all_places old new) (first + step) (beyond_by (λ place. ⊥) (λ p there. subst (In p) none_old there) (λ p there. subst (In p) none_new there)) each.0 (omega arith))
+      absurd (All-contains (λ place. start < place → ⊥) (all_places old new) (first + step)
+      (beyond_by (λ place. ⊥) (λ p there. subst (In p) none_old there) (λ p there. subst (In p) none_new there)) each.0 (omega arith))
 
-  pub underway_end : nearer_place (place_ahead old_ahead) (place_ahead new_ahead) ≡ None → arcs ++ arc_at (range_at start (circle - (start - first))) from to ∷ [] ≡ arcs_of old new
+  pub underway_end : nearer_place (place_ahead old_ahead) (place_ahead new_ahead) ≡ None
+      → arcs ++ arc_at (range_at start (circle - (start - first))) from to ∷ [] ≡ arcs_of old new
   underway_end e = let none = none_ahead old_ahead new_ahead e in end_by way.steps none.0 none.1 way.rising way.each way.whole

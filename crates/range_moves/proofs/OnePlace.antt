@@ -20,13 +20,15 @@ no_cut start place steps e =
 no_cuts : (start : ℕ) (places : List ℕ) → All (λ place. place ≡ start) places → cut_steps (circle_from start) places ≡ []
 no_cuts start [] same = refl
 no_cuts start (place ∷ places) same =
-    ap (λ steps. fold (with_cut (circle_from start)) steps places) (no_cut start place [] (All-head (λ place. place ≡ start) place places same))
+    ap (λ steps. fold (with_cut (circle_from start)) steps places)
+    (no_cut start place [] (All-head (λ place. place ≡ start) place places same))
     ∙ no_cuts start places (All-tail (λ place. place ≡ start) place places same)
 
 from_itself : (start : ℕ) → start < circle → ahead start 0 ≡ start
 from_itself start on = grind (arith, nat_tests)
 
-uncut : (place start : ℕ) (places : List ℕ) → start < circle → All (λ other. other ≡ start) (place ∷ places) → circle_cut_at (place ∷ places) ≡ circle_from start ∷ []
+uncut : (place start : ℕ) (places : List ℕ) → start < circle → All (λ other. other ≡ start) (place ∷ places)
+    → circle_cut_at (place ∷ places) ≡ circle_from start ∷ []
 unfolding cut_parts
 uncut place start places on same =
     let low : fold min place places ≡ start = All-contains (λ other. other ≡ start) (place ∷ places) (fold min place places) same (low_there place places) in
@@ -40,9 +42,11 @@ uncut place start places on same =
 none_there : (place : ℕ) → ¬ (Contains [] place)
 none_there place there = let lt = there.1 in omega arith
 
-uncut_at : (place : ℕ) (places : List ℕ) → place < circle → Contains places place → All (λ other. other ≡ place) places → circle_cut_at places ≡ circle_from place ∷ []
+uncut_at : (place : ℕ) (places : List ℕ) → place < circle → Contains places place → All (λ other. other ≡ place) places
+    → circle_cut_at places ≡ circle_from place ∷ []
 uncut_at place [] on there same = absurd (none_there place there)
 uncut_at place (one ∷ places) on there same = uncut one place places on same
 
-pub one_arc : (old new : List Point) (place : ℕ) → place < circle → Contains (all_places old new) place → All (λ other. other ≡ place) (all_places old new) → arcs_of old new ≡ arc_of old new (circle_from place) ∷ []
+pub one_arc : (old new : List Point) (place : ℕ) → place < circle → Contains (all_places old new) place
+    → All (λ other. other ≡ place) (all_places old new) → arcs_of old new ≡ arc_of old new (circle_from place) ∷ []
 one_arc old new place on there same = ap (map (arc_of old new)) (uncut_at place (all_places old new) on there same)

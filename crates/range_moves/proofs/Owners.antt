@@ -15,14 +15,17 @@ use Rattle.hash_ring.specs.Owner.{nearness_cmp, nearer_of, owner_of}
 abbrev pub IsClear : Range → ℕ → Type 0
 IsClear range place = (place < circle) × (¬ (IsInside range place))
 
-clear_cases : (range : Range) (place : ℕ) → IsClear range place → (distance range.start place ≡ 0) ⊎ (range.size ≤ distance range.start place)
+clear_cases : (range : Range) (place : ℕ) → IsClear range place → (distance range.start place ≡ 0)
+    ⊎ (range.size ≤ distance range.start place)
 clear_cases range place clear =
     elim (cases_lt 0 (distance range.start place)) [
-      | inl up ↦ elim (cases_lt (distance range.start place) range.size) [ inl below ↦ absurd (clear.1 (up, below)) | inr behind ↦ inr behind ]
+      | inl up ↦ elim (cases_lt (distance range.start place) range.size)
+          [ inl below ↦ absurd (clear.1 (up, below)) | inr behind ↦ inr behind ]
       | inr none ↦ inl (omega arith)
     ]
 
-further : (start place hash : ℕ) → start < circle → place < circle → hash < circle → (distance start place ≡ 0) ⊎ (distance start hash < distance start place) → distance place hash ≡ distance place start + distance start hash
+further : (start place hash : ℕ) → start < circle → place < circle → hash < circle → (distance start place ≡ 0)
+    ⊎ (distance start hash < distance start place) → distance place hash ≡ distance place start + distance start hash
 further start place hash s p h (inl none) = grind (arith, nat_tests)
 further start place hash s p h (inr behind) = grind (arith, nat_tests)
 
@@ -36,9 +39,11 @@ nat_cmp-shift a b k = grind (arith, nat_tests)
 module _ (range : Range) (hash : ℕ) (ok : IsRange range) (h : hash < circle) (held : distance range.start hash < range.size) where
   -- from the hash it is further back to a place than from the start, by the same for all places
   back_from : (place : ℕ) → IsClear range place → distance place hash ≡ distance place range.start + distance range.start hash
-  back_from place clear = further range.start place hash ok.start_below clear.0 h (weaker _ range.size _ held (clear_cases range place clear))
+  back_from place clear =
+      further range.start place hash ok.start_below clear.0 h (weaker _ range.size _ held (clear_cases range place clear))
 
-  same_back_cmp : (a b : ℕ) → IsClear range a → IsClear range b → nat_cmp (distance a hash) (distance b hash) ≡ nat_cmp (distance a range.start) (distance b range.start)
+  same_back_cmp : (a b : ℕ) → IsClear range a → IsClear range b
+      → nat_cmp (distance a hash) (distance b hash) ≡ nat_cmp (distance a range.start) (distance b range.start)
   same_back_cmp a b p q =
       ap (λ n. nat_cmp n (distance b hash)) (back_from a p)
       ∙ ap (nat_cmp (distance a range.start + distance range.start hash)) (back_from b q)
@@ -51,11 +56,13 @@ module _ (range : Range) (hash : ℕ) (ok : IsRange range) (h : hash < circle) (
   unfolding by_back
   same_nearness a b p q = ap (λ first. by_back first a b) (same_back_cmp a.place b.place p q)
 
-  same_nearer : (point : Point) (other : Option Point) → IsClear range point.place → IfSome other (λ p. IsClear range p.place) → nearer_of hash point other ≡ nearer_of range.start point other
+  same_nearer : (point : Point) (other : Option Point) → IsClear range point.place → IfSome other (λ p. IsClear range p.place)
+      → nearer_of hash point other ≡ nearer_of range.start point other
   same_nearer point None p q = refl
   same_nearer point (Some other) p q = ap (λ first. cond (is_lt first) other point) (same_nearness other point q p)
 
-  clear_nearer : (point : Point) (other : Option Point) → IsClear range point.place → IfSome other (λ p. IsClear range p.place) → IsClear range (nearer_of hash point other).place
+  clear_nearer : (point : Point) (other : Option Point) → IsClear range point.place → IfSome other (λ p. IsClear range p.place)
+      → IsClear range (nearer_of hash point other).place
   clear_nearer point None p q = p
   clear_nearer point (Some other) p q = either (is_lt (nearness_cmp hash other point)) other point q p
     where
@@ -66,7 +73,8 @@ module _ (range : Range) (hash : ℕ) (ok : IsRange range) (h : hash < circle) (
   clear_owner : (points : List Point) → All (λ p. IsClear range p.place) points → IfSome (owner_of points hash) (λ p. IsClear range p.place)
   clear_owner [] all = tt
   clear_owner (point ∷ points) all =
-      clear_nearer point (owner_of points hash) (All-head (λ (p : Point). IsClear range p.place) point points all) (clear_owner points (All-tail (λ (p : Point). IsClear range p.place) point points all))
+      clear_nearer point (owner_of points hash) (All-head (λ (p : Point). IsClear range p.place) point points all)
+      (clear_owner points (All-tail (λ (p : Point). IsClear range p.place) point points all))
 
   -- so the owner is the same
   pub same_owner : (points : List Point) → All (λ p. IsClear range p.place) points → owner_of points hash ≡ owner_of points range.start

@@ -51,7 +51,9 @@ near_first at p q e = ap (λ n. by_first p q (nat_cmp (back at n) (back at q.pla
 order_first : (at : ℕ) (p q : Point) → p.place ≡ at → point_cmp p q ≡ by_first p q (nat_cmp at q.place)
 order_first at p q e = ap (λ n. by_first p q (nat_cmp n q.place)) e
 
-pub first_owns : (behind : List Point) (p : Point) (rest : List Point) (at : ℕ) → p.place ≡ at → at < circle → All IsOnCircle (behind ++ p ∷ rest) → Rising point_cmp (p ∷ rest) → ((q : Point) → In q behind → q.place < at) → owner_of (behind ++ p ∷ rest) at ≡ Some p
+pub first_owns : (behind : List Point) (p : Point) (rest : List Point) (at : ℕ) → p.place ≡ at → at < circle
+    → All IsOnCircle (behind ++ p ∷ rest) → Rising point_cmp (p ∷ rest) → ((q : Point) → In q behind → q.place < at)
+    → owner_of (behind ++ p ∷ rest) at ≡ Some p
 first_owns behind p rest at here below on_circle rising before =
     owner_from (behind ++ p ∷ rest) at p below on_circle (IsOwner-from_nearest at (behind ++ p ∷ rest) p (record {
       there = In-right p behind (p ∷ rest) (inl refl);
@@ -66,7 +68,8 @@ first_owns behind p rest at here below on_circle rising before =
     at_or_after q there (inr later) =
         let upto : p.place ≤ q.place = place_upto p q (rising.0 q later) in
         let on : q.place < circle = All-of IsOnCircle (behind ++ p ∷ rest) q on_circle there in
-        ap is_gt (near_first at p q here ∙ ap (by_first p q) (near_ahead at q.place (omega arith) on) ∙ sym (order_first at p q here) ∙ rising.0 q later)
+        ap is_gt (near_first at p q here ∙ ap (by_first p q) (near_ahead at q.place (omega arith) on) ∙ sym (order_first at p q here)
+        ∙ rising.0 q later)
 
 -- ---- passing the points at a place
 pub record IsPassed (at : ℕ) (points : List Point) : Type 0 where
@@ -110,7 +113,10 @@ pass at (p ∷ ps) rising from = by (p.place == at) refl (pass at ps rising.1 (�
         }
 
 -- ---- from one place to the next
-owner_here : (at : ℕ) (points behind ahead : List Point) (owner : Option Silo) → points ≡ behind ++ ahead → at < circle → All IsOnCircle points → Rising point_cmp ahead → ((p : Point) → In p behind → p.place < at) → ((p : Point) → In p ahead → at ≤ p.place) → (((p : Point) → In p ahead → at < p.place) → owner ≡ owner_silo points at) → owner_at at ahead owner ≡ owner_silo points at
+owner_here : (at : ℕ) (points behind ahead : List Point) (owner : Option Silo) → points ≡ behind ++ ahead → at < circle
+    → All IsOnCircle points → Rising point_cmp ahead → ((p : Point) → In p behind → p.place < at)
+    → ((p : Point) → In p ahead → at ≤ p.place) → (((p : Point) → In p ahead → at < p.place) → owner ≡ owner_silo points at)
+    → owner_at at ahead owner ≡ owner_silo points at
 owner_here at points behind [] owner whole below on_circle rising before from stays = stays (λ p none. absurd none)
 owner_here at points behind (p ∷ rest) owner whole below on_circle rising before from stays = by (p.place == at) refl
   where
@@ -125,13 +131,18 @@ owner_here at points behind (p ∷ rest) owner whole below on_circle rising befo
         stays (λ q there. let le : p.place ≤ q.place = head_least p rest rising q there in omega arith)
 
 -- the side at a place, no point being passed over
-pub side_at : (at : ℕ) (points behind ahead : List Point) (owner : Option Silo) → points ≡ behind ++ ahead → at < circle → All IsOnCircle points → Rising point_cmp ahead → ((p : Point) → In p behind → p.place < at) → ((p : Point) → In p ahead → at ≤ p.place) → (((p : Point) → In p ahead → at < p.place) → owner ≡ owner_silo points at) → IsSide points at (owner_at at ahead owner) (passed at ahead)
+pub side_at : (at : ℕ) (points behind ahead : List Point) (owner : Option Silo) → points ≡ behind ++ ahead → at < circle
+    → All IsOnCircle points → Rising point_cmp ahead → ((p : Point) → In p behind → p.place < at)
+    → ((p : Point) → In p ahead → at ≤ p.place) → (((p : Point) → In p ahead → at < p.place) → owner ≡ owner_silo points at)
+    → IsSide points at (owner_at at ahead owner) (passed at ahead)
 side_at at points behind ahead owner whole below on_circle rising before from stays =
     let split = pass at ahead rising from in
     record {
       owner_is = owner_here at points behind ahead owner whole below on_circle rising before from stays;
       behind = behind ++ split.tied;
       whole = whole ∙ ap (λ l. behind ++ l) split.whole ∙ sym (append_assoc behind split.tied (passed at ahead));
-      before = λ p there. ⊎_elim (λ left. let lt = before p left in omega arith) (λ right. let e = split.here p right in omega arith) (In-either p behind split.tied there);
+      before =
+          λ p there. ⊎_elim (λ left. let lt = before p left in omega arith) (λ right. let e = split.here p right in omega arith)
+          (In-either p behind split.tied there);
       after = split.after;
     }

@@ -29,7 +29,8 @@ pub record AreRings (old new : List Point) : Type 0 where
   pub old_on_circle : All IsOnCircle old
   pub new_on_circle : All IsOnCircle new
 
-pub record IsUnderway (old new : List Point) (first start : ℕ) (from to : Option Silo) (old_ahead new_ahead : List Point) (arcs : List RingArc) : Type 0 where
+pub record IsUnderway (old new : List Point) (first start : ℕ) (from to : Option Silo) (old_ahead new_ahead : List Point)
+    (arcs : List RingArc) : Type 0 where
   pub first_upto : first ≤ start
   pub on_circle : start < circle
   pub before : IsSide old start from old_ahead
@@ -43,33 +44,42 @@ pub record IsUnderway (old new : List Point) (first start : ℕ) (from to : Opti
 
 -- ---- places and points
 place_of_old : (old new : List Point) (p : Point) → In p old → Contains (all_places old new) p.place
-place_of_old old new p there = Contains-from_In p.place (all_places old new) (In-map (λ (p : Point). p.place) p (old ++ new) (In-left p old new there))
+place_of_old old new p there =
+    Contains-from_In p.place (all_places old new) (In-map (λ (p : Point). p.place) p (old ++ new) (In-left p old new there))
 
 place_of_new : (old new : List Point) (p : Point) → In p new → Contains (all_places old new) p.place
-place_of_new old new p there = Contains-from_In p.place (all_places old new) (In-map (λ (p : Point). p.place) p (old ++ new) (In-right p old new there))
+place_of_new old new p there =
+    Contains-from_In p.place (all_places old new) (In-map (λ (p : Point). p.place) p (old ++ new) (In-right p old new there))
 
-pub each_place : (P : ℕ → Type 0) (old new : List Point) → ((p : Point) → In p old → P p.place) → ((p : Point) → In p new → P p.place) → All P (all_places old new)
+pub each_place : (P : ℕ → Type 0) (old new : List Point) → ((p : Point) → In p old → P p.place) → ((p : Point) → In p new → P p.place)
+    → All P (all_places old new)
 each_place P old new of_old of_new =
-    All-map P (λ (p : Point). p.place) (old ++ new) (All-from_each (λ (p : Point). P p.place) (old ++ new) (λ p there. ⊎_elim (of_old p) (of_new p) (In-either p old new there)))
+    All-map P (λ (p : Point). p.place) (old ++ new) (All-from_each (λ (p : Point). P p.place) (old ++ new)
+    (λ p there. ⊎_elim (of_old p) (of_new p) (In-either p old new there)))
 
 -- ---- the owners stay between places
-clear_behind : (prev at place : ℕ) → prev < at → at < circle → place ≤ prev → IsClear (record { start = prev; size = (at - prev) + 1 }) place
+clear_behind : (prev at place : ℕ) → prev < at → at < circle → place ≤ prev
+    → IsClear (record { start = prev; size = (at - prev) + 1 }) place
 clear_behind prev at place lt below upto = (omega arith, λ inside. inside_none prev at place lt below upto inside.0 inside.1)
   where
-    inside_none : (prev at place : ℕ) → prev < at → at < circle → place ≤ prev → 0 < distance prev place → distance prev place < (at - prev) + 1 → ⊥
+    inside_none : (prev at place : ℕ) → prev < at → at < circle → place ≤ prev → 0 < distance prev place
+        → distance prev place < (at - prev) + 1 → ⊥
     inside_none prev at place lt below upto up short = grind (arith, nat_tests)
 
-clear_ahead : (prev at place : ℕ) → prev < at → place < circle → at < place → IsClear (record { start = prev; size = (at - prev) + 1 }) place
+clear_ahead : (prev at place : ℕ) → prev < at → place < circle → at < place
+    → IsClear (record { start = prev; size = (at - prev) + 1 }) place
 clear_ahead prev at place lt on beyond = (on, λ inside. inside_none prev at place lt beyond inside.0 inside.1)
   where
     inside_none : (prev at place : ℕ) → prev < at → at < place → 0 < distance prev place → distance prev place < (at - prev) + 1 → ⊥
     inside_none prev at place lt beyond up short = grind (arith, nat_tests)
 
-stays_between : (points : List Point) (prev at : ℕ) (owner : Option Silo) (ahead : List Point) → All IsOnCircle points → prev < at → at < circle → IsSide points prev owner ahead → ((p : Point) → In p ahead → at < p.place) → owner ≡ owner_silo points at
+stays_between : (points : List Point) (prev at : ℕ) (owner : Option Silo) (ahead : List Point) → All IsOnCircle points → prev < at
+    → at < circle → IsSide points prev owner ahead → ((p : Point) → In p ahead → at < p.place) → owner ≡ owner_silo points at
 stays_between points prev at owner ahead on_circle lt below side beyond =
     let range : Range = record { start = prev; size = (at - prev) + 1 } in
     let clear : All (λ (p : Point). IsClear range p.place) points = All-from_each (λ (p : Point). IsClear range p.place) points (λ p there. clear_point p there) in
-    side.owner_is ∙ sym (ap (option_map (λ (p : Point). p.silo)) (same_owner range at (record { start_below = omega arith; size_within = omega arith }) below (held prev at lt) points clear))
+    side.owner_is ∙ sym (ap (option_map (λ (p : Point). p.silo))
+    (same_owner range at (record { start_below = omega arith; size_within = omega arith }) below (held prev at lt) points clear))
   where
     held : (prev at : ℕ) → prev < at → distance prev at < (at - prev) + 1
     held prev at lt = grind (arith, nat_tests)
@@ -87,44 +97,58 @@ clear_round at place beyond on = (on, λ inside. inside_none at place beyond on 
     inside_none : (at place : ℕ) → at < place → place < circle → 0 < distance highest place → distance highest place < at + 2 → ⊥
     inside_none at place beyond on up short = grind (arith, nat_tests)
 
-stays_round : (points : List Point) (at : ℕ) → All IsOnCircle points → at < circle → ((p : Point) → In p points → at < p.place) → owner_silo points highest ≡ owner_silo points at
+stays_round : (points : List Point) (at : ℕ) → All IsOnCircle points → at < circle → ((p : Point) → In p points → at < p.place)
+    → owner_silo points highest ≡ owner_silo points at
 stays_round [] at on_circle below beyond = refl
 stays_round (q ∷ qs) at on_circle below beyond =
     let range : Range = record { start = highest; size = at + 2 } in
     let above : at < q.place = beyond q (inl refl) in
     let on : q.place < circle = All-head IsOnCircle q qs on_circle in
     let clear : All (λ (p : Point). IsClear range p.place) (q ∷ qs) = All-from_each (λ (p : Point). IsClear range p.place) (q ∷ qs) (λ p there. clear_round at p.place (beyond p there) (All-of IsOnCircle (q ∷ qs) p on_circle there)) in
-    sym (ap (option_map (λ (p : Point). p.silo)) (same_owner range at (record { start_below = omega arith; size_within = omega arith }) below (held at (omega arith)) (q ∷ qs) clear))
+    sym (ap (option_map (λ (p : Point). p.silo)) (same_owner range at (record { start_below = omega arith; size_within = omega arith })
+    below (held at (omega arith)) (q ∷ qs) clear))
   where
     held : (at : ℕ) → at + 1 < circle → distance highest at < at + 2
     held at lt = grind (arith, nat_tests)
 
 -- ---- the first place
-pub first_side : (points : List Point) (at : ℕ) (owner : Option Silo) → owner ≡ owner_silo points highest → at < circle → All IsOnCircle points → Rising point_cmp points → ((p : Point) → In p points → at ≤ p.place) → IsSide points at (owner_at at points owner) (passed at points)
+pub first_side : (points : List Point) (at : ℕ) (owner : Option Silo) → owner ≡ owner_silo points highest → at < circle
+    → All IsOnCircle points → Rising point_cmp points → ((p : Point) → In p points → at ≤ p.place)
+    → IsSide points at (owner_at at points owner) (passed at points)
 first_side points at owner e below on_circle rising from =
-    side_at at points [] points owner refl below on_circle rising (λ p none. absurd none) from (λ beyond. e ∙ stays_round points at on_circle below beyond)
+    side_at at points [] points owner refl below on_circle rising (λ p none. absurd none) from
+    (λ beyond. e ∙ stays_round points at on_circle below beyond)
 
-pub next_side : (points : List Point) (prev at : ℕ) (owner : Option Silo) (ahead : List Point) → All IsOnCircle points → Rising point_cmp points → prev < at → at < circle → IsSide points prev owner ahead → ((p : Point) → In p ahead → at ≤ p.place) → IsSide points at (owner_at at ahead owner) (passed at ahead)
+pub next_side : (points : List Point) (prev at : ℕ) (owner : Option Silo) (ahead : List Point) → All IsOnCircle points
+    → Rising point_cmp points → prev < at → at < circle → IsSide points prev owner ahead → ((p : Point) → In p ahead → at ≤ p.place)
+    → IsSide points at (owner_at at ahead owner) (passed at ahead)
 next_side points prev at owner ahead on_circle rising lt below side from =
-    side_at at points side.behind ahead owner side.whole below on_circle (rising_rest side.behind ahead (subst (Rising point_cmp) side.whole rising))
+    side_at at points side.behind ahead owner side.whole below on_circle
+    (rising_rest side.behind ahead (subst (Rising point_cmp) side.whole rising))
     (λ p there. let le = side.before p there in omega arith) from (stays_between points prev at owner ahead on_circle lt below side)
 
-low_is : (place : ℕ) (places : List ℕ) (first : ℕ) → All (λ p. first ≤ p) (place ∷ places) → Contains (place ∷ places) first → fold min place places ≡ first
+low_is : (place : ℕ) (places : List ℕ) (first : ℕ) → All (λ p. first ≤ p) (place ∷ places) → Contains (place ∷ places) first
+    → fold min place places ≡ first
 low_is place places first below there =
     let low : ℕ = fold min place places in
     let le : first ≤ low = All-contains (λ p. first ≤ p) (place ∷ places) low below (low_there place places) in
     let ge : low ≤ first = All-contains (λ p. low ≤ p) (place ∷ places) first (low_below place places) there in
     omega arith
 
-pub stood : (old new : List Point) (all_old all_new : List Point) (place : ℕ) → ((p : Point) → In p old → In p all_old) → ((p : Point) → In p new → In p all_new) → StandsAt place old ⊎ StandsAt place new → Contains (all_places all_old all_new) place
-stood old new all_old all_new place of_old of_new (inl at) = subst (Contains (all_places all_old all_new)) at.2 (place_of_old all_old all_new at.0 (of_old at.0 at.1))
-stood old new all_old all_new place of_old of_new (inr at) = subst (Contains (all_places all_old all_new)) at.2 (place_of_new all_old all_new at.0 (of_new at.0 at.1))
+pub stood : (old new : List Point) (all_old all_new : List Point) (place : ℕ) → ((p : Point) → In p old → In p all_old)
+    → ((p : Point) → In p new → In p all_new) → StandsAt place old ⊎ StandsAt place new → Contains (all_places all_old all_new) place
+stood old new all_old all_new place of_old of_new (inl at) =
+    subst (Contains (all_places all_old all_new)) at.2 (place_of_old all_old all_new at.0 (of_old at.0 at.1))
+stood old new all_old all_new place of_old of_new (inr at) =
+    subst (Contains (all_places all_old all_new)) at.2 (place_of_new all_old all_new at.0 (of_new at.0 at.1))
 
-each_sum : (P : ℕ → Type 0) (low : ℕ) (steps : List ℕ) → Each (λ step. low + step < circle) steps → Each (λ step. P (ahead low step)) steps → Each (λ step. P (low + step)) steps
+each_sum : (P : ℕ → Type 0) (low : ℕ) (steps : List ℕ) → Each (λ step. low + step < circle) steps → Each (λ step. P (ahead low step)) steps
+    → Each (λ step. P (low + step)) steps
 each_sum P low [] stay each = tt
 each_sum P low (step ∷ steps) stay each = (subst P (ahead-up low step stay.0) each.0, each_sum P low steps stay.1 each.1)
 
-step_to : (low place : ℕ) (steps : List ℕ) → place < circle → (0 < distance low place → distance low place < circle → IsStep (distance low place) steps) → low < place → IsStep (place - low) steps
+step_to : (low place : ℕ) (steps : List ℕ) → place < circle
+    → (0 < distance low place → distance low place < circle → IsStep (distance low place) steps) → low < place → IsStep (place - low) steps
 step_to low place steps below there lt =
     let e : distance low place ≡ place - low = distance-up low place (omega arith) in
     subst (λ n. IsStep n steps) e (there (omega arith) (omega arith))
@@ -134,7 +158,10 @@ module _ (old new : List Point) (rings : AreRings old new) where
   places_below = places_on_circle old new rings.old_on_circle rings.new_on_circle
 
   -- the walk at its first place, where the circle is cut at some places
-  cut_at_low : (place : ℕ) (places : List ℕ) → all_places old new ≡ place ∷ places → (from to : Option Silo) (old_ahead new_ahead : List Point) → IsSide old (fold min place places) from old_ahead → IsSide new (fold min place places) to new_ahead → IsUnderway old new (fold min place places) (fold min place places) from to old_ahead new_ahead []
+  cut_at_low : (place : ℕ) (places : List ℕ) → all_places old new ≡ place ∷ places
+      → (from to : Option Silo) (old_ahead new_ahead : List Point) → IsSide old (fold min place places) from old_ahead
+      → IsSide new (fold min place places) to new_ahead
+      → IsUnderway old new (fold min place places) (fold min place places) from to old_ahead new_ahead []
   unfolding cut_parts
   cut_at_low place places are from to old_ahead new_ahead before after =
       let low : ℕ = fold min place places in
@@ -150,18 +177,33 @@ module _ (old new : List Point) (rings : AreRings old new) where
         after = after;
         steps = cut_steps full (place ∷ places);
         rising = subst (λ n. Rises n (cut_steps full (place ∷ places)) circle) none (Rises-cut_steps full (place ∷ places) (omega arith));
-        each = each_sum (Contains (all_places old new)) low (cut_steps full (place ∷ places)) stay (subst (λ ps. Each (λ step. Contains ps (ahead low step)) (cut_steps full (place ∷ places))) (sym are) (Each-cut_steps full (place ∷ places) on below));
-        all = subst (All (λ p. low < p → IsStep (p - low) (cut_steps full (place ∷ places)))) (sym are) (λ k d lt. step_to low (get_or (place ∷ places) k d) (cut_steps full (place ∷ places)) (below k d lt) (In-cut_steps full (place ∷ places) k d lt));
-        whole = ap (λ n. map (arc_of old new) (parts_between full n (cut_steps full (place ∷ places)))) (sym none) ∙ sym (ap (λ ps. map (arc_of old new) (circle_cut_at ps)) are);
+        each =
+            each_sum (Contains (all_places old new)) low (cut_steps full (place ∷ places)) stay
+            (subst (λ ps. Each (λ step. Contains ps (ahead low step)) (cut_steps full (place ∷ places))) (sym are)
+            (Each-cut_steps full (place ∷ places) on below));
+        all =
+            subst (All (λ p. low < p → IsStep (p - low) (cut_steps full (place ∷ places)))) (sym are)
+            (λ k d lt. step_to low (get_or (place ∷ places) k d) (cut_steps full (place ∷ places)) (below k d lt)
+            (In-cut_steps full (place ∷ places) k d lt));
+        whole =
+            ap (λ n. map (arc_of old new) (parts_between full n (cut_steps full (place ∷ places)))) (sym none)
+            ∙ sym (ap (λ ps. map (arc_of old new) (circle_cut_at ps)) are);
       }
 
-  cut_at_first : (place : ℕ) (places : List ℕ) (first : ℕ) → all_places old new ≡ place ∷ places → fold min place places ≡ first → (from to : Option Silo) (old_ahead new_ahead : List Point) → IsSide old first from old_ahead → IsSide new first to new_ahead → IsUnderway old new first first from to old_ahead new_ahead []
+  cut_at_first : (place : ℕ) (places : List ℕ) (first : ℕ) → all_places old new ≡ place ∷ places → fold min place places ≡ first
+      → (from to : Option Silo) (old_ahead new_ahead : List Point) → IsSide old first from old_ahead → IsSide new first to new_ahead
+      → IsUnderway old new first first from to old_ahead new_ahead []
   cut_at_first place places first are low from to old_ahead new_ahead =
-      subst (λ at. IsSide old at from old_ahead → IsSide new at to new_ahead → IsUnderway old new at at from to old_ahead new_ahead []) low (cut_at_low place places are from to old_ahead new_ahead)
+      subst (λ at. IsSide old at from old_ahead → IsSide new at to new_ahead → IsUnderway old new at at from to old_ahead new_ahead []) low
+      (cut_at_low place places are from to old_ahead new_ahead)
 
   -- the walk begins at the lowest place of both rings
-  begun : (places : List ℕ) (first : ℕ) → all_places old new ≡ places → IsLowest old new first → (from to : Option Silo) → from ≡ owner_silo old highest → to ≡ owner_silo new highest → IsUnderway old new first first (owner_at first old from) (owner_at first new to) (passed first old) (passed first new) []
-  begun [] first are lowest from to is_from is_to = absurd (none_there first (subst (λ ps. Contains ps first) are (stood old new old new first (λ p there. there) (λ p there. there) lowest.there)))
+  begun : (places : List ℕ) (first : ℕ) → all_places old new ≡ places → IsLowest old new first → (from to : Option Silo)
+      → from ≡ owner_silo old highest → to ≡ owner_silo new highest
+      → IsUnderway old new first first (owner_at first old from) (owner_at first new to) (passed first old) (passed first new) []
+  begun [] first are lowest from to is_from is_to =
+      absurd (none_there first (subst (λ ps. Contains ps first) are
+      (stood old new old new first (λ p there. there) (λ p there. there) lowest.there)))
     where
       none_there : (n : ℕ) → ¬ (Contains [] n)
       none_there n there = let lt = there.1 in omega arith
@@ -174,5 +216,8 @@ module _ (old new : List Point) (rings : AreRings old new) where
       (first_side old first from is_from below rings.old_on_circle rings.old_rising lowest.old_from)
       (first_side new first to is_to below rings.new_on_circle rings.new_rising lowest.new_from)
 
-  pub underway_first : (first : ℕ) (from to : Option Silo) → from ≡ owner_silo old highest → to ≡ owner_silo new highest → nearer_place (place_ahead old) (place_ahead new) ≡ Some first → IsUnderway old new first first (owner_at first old from) (owner_at first new to) (passed first old) (passed first new) []
-  underway_first first from to is_from is_to e = begun (all_places old new) first refl (next_is_lowest old new first rings.old_rising rings.new_rising e) from to is_from is_to
+  pub underway_first : (first : ℕ) (from to : Option Silo) → from ≡ owner_silo old highest → to ≡ owner_silo new highest
+      → nearer_place (place_ahead old) (place_ahead new) ≡ Some first
+      → IsUnderway old new first first (owner_at first old from) (owner_at first new to) (passed first old) (passed first new) []
+  underway_first first from to is_from is_to e =
+      begun (all_places old new) first refl (next_is_lowest old new first rings.old_rising rings.new_rising e) from to is_from is_to

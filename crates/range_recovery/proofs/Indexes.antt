@@ -16,8 +16,10 @@ use Rattle.range_recovery.specs.declared.awaited.Awaited.{Awaited}
 use Rattle.range_recovery.specs.Silos.{IsByAddress, IsSiloAt, silos_of}
 
 -- where it hits
-pub found_at : (silos : List Awaited) (silo : Silo) (index : ℕ) → index < length silos → HoldsAt (λ a. silo_cmp a.silo silo ≡ Equal) silos index → IsSiloAt silos silo index
-found_at silos silo index within hit = record { within = within; there = λ default. silo_cmp_exact (get_or silos index default).silo silo (hit default) }
+pub found_at : (silos : List Awaited) (silo : Silo) (index : ℕ) → index < length silos
+    → HoldsAt (λ a. silo_cmp a.silo silo ≡ Equal) silos index → IsSiloAt silos silo index
+found_at silos silo index within hit =
+    record { within = within; there = λ default. silo_cmp_exact (get_or silos index default).silo silo (hit default) }
 
 -- what the search needs
 searchable : (silos : List Awaited) (silo : Silo) → IsByAddress silos → IsNonDecreasingBy (λ a. ordering_index (silo_cmp a.silo silo)) silos
@@ -33,7 +35,8 @@ searchable silos silo sorted =
 
 -- where it misses nobody is
 pub nobody_there : (silos : List Awaited) (silo : Silo) (index : ℕ) → IsByAddress silos
-    → (IsNonDecreasingBy (λ a. ordering_index (silo_cmp a.silo silo)) silos → IsPartitionPoint (λ a. silo_cmp a.silo silo ≡ Less) (λ a. silo_cmp a.silo silo ≡ Greater) silos index)
+    → (IsNonDecreasingBy (λ a. ordering_index (silo_cmp a.silo silo)) silos
+    → IsPartitionPoint (λ a. silo_cmp a.silo silo ≡ Less) (λ a. silo_cmp a.silo silo ≡ Greater) silos index)
     → Contains (silos_of silos) silo → ⊥
 nobody_there silos silo index sorted position there = by (cases_lt at.0 index)
   where

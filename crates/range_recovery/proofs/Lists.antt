@@ -16,7 +16,8 @@ filter_all p (x ∷ xs) each =
     ap (λ b. cond b (x ∷ filter p xs) (filter p xs)) (each x (inl refl)) ∙ ap (λ l. x ∷ l) (filter_all p xs (λ y there. each y (inr there)))
 
 -- what is below all that is there goes first
-pub insert_first : {K : Type 0} (R : K → K → Ordering) (k : K) (xs : List K) → ((y : K) → In y xs → R k y ≡ Less) → insert_key R xs k ≡ k ∷ xs
+pub insert_first : {K : Type 0} (R : K → K → Ordering) (k : K) (xs : List K) → ((y : K) → In y xs → R k y ≡ Less)
+    → insert_key R xs k ≡ k ∷ xs
 insert_first R k [] below = refl
 insert_first R k (x ∷ xs) below = ap (λ r. match_ordering r (k ∷ x ∷ xs) (x ∷ xs) (x ∷ insert_key R xs k)) (below x (inl refl))
 
@@ -26,10 +27,12 @@ Rising-by R key [] rising = tt
 Rising-by R key (x ∷ xs) rising = (λ y there. rising.0 (key y) (In-map key y xs there), Rising-by R key xs rising.1)
 
 -- what a test keeps of them keeps their order
-pub Rising-kept : {K X : Type 0} (R : K → K → Ordering) (key : X → K) (p : X → Bool) (xs : List X) → Rising R (map key xs) → Rising R (map key (filter p xs))
+pub Rising-kept : {K X : Type 0} (R : K → K → Ordering) (key : X → K) (p : X → Bool) (xs : List X) → Rising R (map key xs)
+    → Rising R (map key (filter p xs))
 Rising-kept R key p [] rising = tt
 Rising-kept {K} {X} R key p (x ∷ xs) rising =
-    on_bool (λ b. Rising R (map key (cond b (x ∷ filter p xs) (filter p xs)))) (p x) (λ t. (below, Rising-kept R key p xs rising.1)) (λ f. Rising-kept R key p xs rising.1)
+    on_bool (λ b. Rising R (map key (cond b (x ∷ filter p xs) (filter p xs)))) (p x) (λ t. (below, Rising-kept R key p xs rising.1))
+    (λ f. Rising-kept R key p xs rising.1)
   where
     below : (k : K) → In k (map key (filter p xs)) → R (key x) k ≡ Less
     below k there =

@@ -25,10 +25,13 @@ same_row a b silo mark = λ i. row_of (silo i) (mark i)
 
 -- the test of membership decides it
 pub Decides-among : (silo : Silo) (silos : List Silo) → Decides (is_among silo silos) (In silo silos)
-Decides-among silo silos = Decides-like _ (λ there. In-from_Contains silo silos there) (λ there. Contains-from_In silo silos there) (is_member-Decides Decides-silo silos silo)
+Decides-among silo silos =
+    Decides-like _ (λ there. In-from_Contains silo silos there) (λ there. Contains-from_In silo silos there)
+    (is_member-Decides Decides-silo silos silo)
 
 pub not_among : (silo : Silo) (silos : List Silo) → ¬ (In silo silos) → is_among silo silos ≡ false
-not_among silo silos absent = on_bool (λ b. b ≡ false) (is_among silo silos) (λ t. absurd (absent ((Decides-among silo silos).0 t))) (λ f. refl)
+not_among silo silos absent =
+    on_bool (λ b. b ≡ false) (is_among silo silos) (λ t. absurd (absent ((Decides-among silo silos).0 t))) (λ f. refl)
 
 Decides-bool : (a b : Bool) → Decides (beq a b) (a ≡ b)
 Decides-bool true true = (λ h. refl, λ h. refl)
@@ -43,13 +46,16 @@ Decides-awaited a b =
     (Decides-and _ _ (Decides-silo a.silo b.silo) (Decides-bool a.has_reported b.has_reported))
 
 -- of one silo one row tells
-pub one_row : (silos : List Awaited) → Rising silo_cmp (silos_of silos) → (a b : Awaited) → In a silos → In b silos → a.silo ≡ b.silo → a ≡ b
+pub one_row : (silos : List Awaited) → Rising silo_cmp (silos_of silos) → (a b : Awaited) → In a silos → In b silos → a.silo ≡ b.silo
+    → a ≡ b
 one_row [] rising a b at_a at_b same = absurd at_a
 one_row (x ∷ silos) rising a b (inl here) (inl too) same = sym here ∙ too
 one_row (x ∷ silos) rising a b (inl here) (inr later) same =
-    absurd (never_itself silo_cmp_total x.silo (ap (λ s. silo_cmp x.silo s) (ap (λ (y : Awaited). y.silo) here ∙ same) ∙ rising.0 b.silo (In-map (λ a. a.silo) b silos later)))
+    absurd (never_itself silo_cmp_total x.silo (ap (λ s. silo_cmp x.silo s) (ap (λ (y : Awaited). y.silo) here ∙ same)
+    ∙ rising.0 b.silo (In-map (λ a. a.silo) b silos later)))
 one_row (x ∷ silos) rising a b (inr later) (inl here) same =
-    absurd (never_itself silo_cmp_total x.silo (ap (λ s. silo_cmp x.silo s) (ap (λ (y : Awaited). y.silo) here ∙ sym same) ∙ rising.0 a.silo (In-map (λ a. a.silo) a silos later)))
+    absurd (never_itself silo_cmp_total x.silo (ap (λ s. silo_cmp x.silo s) (ap (λ (y : Awaited). y.silo) here ∙ sym same)
+    ∙ rising.0 a.silo (In-map (λ a. a.silo) a silos later)))
 one_row (x ∷ silos) rising a b (inr later) (inr too) same = one_row silos rising.1 a b later too same
 
 -- a row of the list with this silo and mark
@@ -73,10 +79,12 @@ row_reported silos silo there =
     (found.0, kept.0, found.2, kept.1)
 
 pub In-awaiting : (silos : List Awaited) (a : Awaited) → In a silos → a.has_reported ≡ false → In a.silo (awaiting_of silos)
-In-awaiting silos a there waits = In-map (λ a. a.silo) a (filter (λ a. not a.has_reported) silos) (In-filter (λ a. not a.has_reported) a silos there (ap not waits))
+In-awaiting silos a there waits =
+    In-map (λ a. a.silo) a (filter (λ a. not a.has_reported) silos) (In-filter (λ a. not a.has_reported) a silos there (ap not waits))
 
 pub In-reported : (silos : List Awaited) (a : Awaited) → In a silos → a.has_reported ≡ true → In a.silo (reported_of silos)
-In-reported silos a there marked = In-map (λ a. a.silo) a (filter (λ a. a.has_reported) silos) (In-filter (λ a. a.has_reported) a silos there marked)
+In-reported silos a there marked =
+    In-map (λ a. a.silo) a (filter (λ a. a.has_reported) silos) (In-filter (λ a. a.has_reported) a silos there marked)
 
 -- a silo's rows have one mark
 pub one_mark : (silos : List Awaited) → Rising silo_cmp (silos_of silos) → (silo : Silo) → Row silos silo false → Row silos silo true → ⊥
@@ -93,25 +101,31 @@ pub has_reported-there : (silos : List Awaited) → Rising silo_cmp (silos_of si
     → has_reported (record { awaiting = awaiting_of silos; reported = reported_of silos }) a.silo ≡ Some a.has_reported
 has_reported-there silos rising a there =
     on_bool (λ b. answer (is_among a.silo (reported_of silos)) (is_among a.silo (awaiting_of silos)) ≡ Some b) a.has_reported
-    (λ t. ap (λ r. answer r (is_among a.silo (awaiting_of silos))) ((Decides-among a.silo (reported_of silos)).1 (In-reported silos a there t)))
+    (λ t. ap (λ r. answer r (is_among a.silo (awaiting_of silos)))
+    ((Decides-among a.silo (reported_of silos)).1 (In-reported silos a there t)))
     (λ f.
     let no : is_among a.silo (reported_of silos) ≡ false =
     not_among a.silo (reported_of silos) (λ marked. one_mark silos rising a.silo (a, there, refl, f) (row_reported silos a.silo marked)) in
-    ap (λ r. answer r (is_among a.silo (awaiting_of silos))) no ∙ ap (λ r. answer false r) ((Decides-among a.silo (awaiting_of silos)).1 (In-awaiting silos a there f)))
+    ap (λ r. answer r (is_among a.silo (awaiting_of silos))) no
+    ∙ ap (λ r. answer false r) ((Decides-among a.silo (awaiting_of silos)).1 (In-awaiting silos a there f)))
 
 -- of any other silo nothing is known
-pub has_reported-stranger : (silos : List Awaited) (silo : Silo) → ¬ (Contains (silos_of silos) silo) → has_reported (record { awaiting = awaiting_of silos; reported = reported_of silos }) silo ≡ None
+pub has_reported-stranger : (silos : List Awaited) (silo : Silo) → ¬ (Contains (silos_of silos) silo)
+    → has_reported (record { awaiting = awaiting_of silos; reported = reported_of silos }) silo ≡ None
 has_reported-stranger silos silo absent =
-    ap (λ r. answer r (is_among silo (awaiting_of silos))) (not_among silo (reported_of silos) (λ there. no (In-from_kept (λ a. a.has_reported) silo silos there)))
+    ap (λ r. answer r (is_among silo (awaiting_of silos)))
+    (not_among silo (reported_of silos) (λ there. no (In-from_kept (λ a. a.has_reported) silo silos there)))
     ∙ ap (λ r. answer false r) (not_among silo (awaiting_of silos) (λ there. no (In-from_kept (λ a. not a.has_reported) silo silos there)))
   where
     no : ¬ (In silo (silos_of silos))
     no there = absent (Contains-from_In silo (silos_of silos) there)
 
 -- the row at an index tells of the silo that stands there
-pub has_reported-at : (silos : List Awaited) → IsByAddress silos → (silo : Silo) (index : ℕ) (a : Awaited) → IsSiloAt silos silo index → a ≡ get_or silos index a
+pub has_reported-at : (silos : List Awaited) → IsByAddress silos → (silo : Silo) (index : ℕ) (a : Awaited) → IsSiloAt silos silo index
+    → a ≡ get_or silos index a
     → has_reported (record { awaiting = awaiting_of silos; reported = reported_of silos }) silo ≡ Some a.has_reported
 has_reported-at silos sorted silo index a stands read =
     let same : a.silo ≡ silo = ap (λ (x : Awaited). x.silo) read ∙ stands.there a in
     ap (λ s. has_reported (record { awaiting = awaiting_of silos; reported = reported_of silos }) s) (sym same)
-    ∙ has_reported-there silos (Rising-from_sorted silo_cmp (silos_of silos) sorted) a (In-from_place a silos index stands.within (sym read))
+    ∙ has_reported-there silos (Rising-from_sorted silo_cmp (silos_of silos) sorted) a
+    (In-from_place a silos index stands.within (sym read))

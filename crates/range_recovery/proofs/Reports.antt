@@ -9,7 +9,8 @@ use Rattle.hash_ring.proofs.Members.{In}
 use Rattle.hash_ring.proofs.StrictOrder.{Rising, Rising-from_sorted}
 use Rattle.std.specs.List.Sorted.{IsStrictlySortedBy}
 use Rattle.directory_rules.proofs.Cases.{on_bool}
-use Rattle.directory_rules.specs.Recovery.{Recovery, Report, Recovered, Rejects, recovered, with_report, awaits_still, is_among}
+use Rattle.directory_rules.specs.State.{Recovery, Report}
+use Rattle.directory_rules.specs.Recovery.{Recovered, Rejects, recovered, with_report, awaits_still, is_among}
 use Rattle.range_recovery.specs.declared.progress.RecoveryProgress.{RecoveryProgress}
 use Rattle.range_recovery.specs.declared.progress.RecoveryProgress.TheVariants.{More, Complete}
 use Rattle.range_recovery.specs.Progress.{progress_of}
@@ -41,10 +42,12 @@ abbrev answer : Bool → Bool → Option Bool
 answer reported awaited = if reported then Some true else (if awaited then Some false else None)
 
 -- the report of an awaited silo is taken
-of_awaited : (recovery : Recovery) (report : Report) → is_asked_for recovery report ≡ true → has_reported (silos_in recovery) report.silo ≡ Some false
+of_awaited : (recovery : Recovery) (report : Report) → is_asked_for recovery report ≡ true
+    → has_reported (silos_in recovery) report.silo ≡ Some false
     → recovered recovery report ≡ awaits_still (with_report recovery report).awaiting (with_report recovery report)
 of_awaited recovery report ours waits =
-    by (is_asked_for recovery report) (is_among report.silo recovery.awaiting) (is_among report.silo recovery.reported) ours waits (awaits_still (with_report recovery report).awaiting (with_report recovery report))
+    by (is_asked_for recovery report) (is_among report.silo recovery.awaiting) (is_among report.silo recovery.reported) ours waits
+    (awaits_still (with_report recovery report).awaiting (with_report recovery report))
   where
     by : (t x y : Bool) → t ≡ true → answer y x ≡ Some false → (o : Recovered) → by_tests t x y o ≡ o
     by false x y h k o = cc
@@ -54,7 +57,8 @@ of_awaited recovery report ours waits =
     by true false false h k o = cc
 
 is_awaited : (recovery : Recovery) (silo : Silo) → has_reported (silos_in recovery) silo ≡ Some false → In silo recovery.awaiting
-is_awaited recovery silo waits = (Decides-among silo recovery.awaiting).0 (by (is_among silo recovery.awaiting) (is_among silo recovery.reported) waits)
+is_awaited recovery silo waits =
+    (Decides-among silo recovery.awaiting).0 (by (is_among silo recovery.awaiting) (is_among silo recovery.reported) waits)
   where
     by : (x y : Bool) → answer y x ≡ Some false → x ≡ true
     by true y h = refl
@@ -62,18 +66,24 @@ is_awaited recovery silo waits = (Decides-among silo recovery.awaiting).0 (by (i
     by false false h = cc
 
 -- one fewer is awaited then
-pub one_fewer : (silo : Silo) (silos : List Silo) → Rising silo_cmp silos → In silo silos → length (filter (λ s. not (silo_eq s silo)) silos) + 1 ≡ length silos
+pub one_fewer : (silo : Silo) (silos : List Silo) → Rising silo_cmp silos → In silo silos
+    → length (filter (λ s. not (silo_eq s silo)) silos) + 1 ≡ length silos
 one_fewer silo [] rising there = absurd there
 one_fewer silo (x ∷ silos) rising (inl here) =
-    ap (λ b. length (cond (not b) (x ∷ filter (λ s. not (silo_eq s silo)) silos) (filter (λ s. not (silo_eq s silo)) silos)) + 1) ((Decides-silo x silo).1 here)
-    ∙ ap (λ l. length l + 1) (filter_all (λ s. not (silo_eq s silo)) silos (λ s later. ap not (apart_back silo s (ap (λ k. silo_cmp k s) (sym here) ∙ rising.0 s later))))
+    ap (λ b. length (cond (not b) (x ∷ filter (λ s. not (silo_eq s silo)) silos) (filter (λ s. not (silo_eq s silo)) silos)) + 1)
+    ((Decides-silo x silo).1 here)
+    ∙ ap (λ l. length l + 1) (filter_all (λ s. not (silo_eq s silo)) silos
+    (λ s later. ap not (apart_back silo s (ap (λ k. silo_cmp k s) (sym here) ∙ rising.0 s later))))
     ∙ add-one (length silos)
 one_fewer silo (x ∷ silos) rising (inr later) =
-    ap (λ b. length (cond (not b) (x ∷ filter (λ s. not (silo_eq s silo)) silos) (filter (λ s. not (silo_eq s silo)) silos)) + 1) (apart x silo (rising.0 silo later))
-    ∙ (let fewer : length (filter (λ s. not (silo_eq s silo)) silos) + 1 ≡ length silos = one_fewer silo silos rising.1 later in omega (arith, fewer))
+    ap (λ b. length (cond (not b) (x ∷ filter (λ s. not (silo_eq s silo)) silos) (filter (λ s. not (silo_eq s silo)) silos)) + 1)
+    (apart x silo (rising.0 silo later))
+    ∙ (let fewer : length (filter (λ s. not (silo_eq s silo)) silos) + 1 ≡ length silos = one_fewer silo silos rising.1 later in
+    omega (arith, fewer))
 
 -- how far the recovery is with it
-pub progress-awaited : (recovery : Recovery) (report : Report) → IsStrictlySortedBy silo_cmp recovery.awaiting → is_asked_for recovery report ≡ true
+pub progress-awaited : (recovery : Recovery) (report : Report) → IsStrictlySortedBy silo_cmp recovery.awaiting
+    → is_asked_for recovery report ≡ true
     → has_reported (silos_in recovery) report.silo ≡ Some false → progress_of (recovered recovery report) ≡ Ok (after_one_more recovery)
 progress-awaited recovery report sorted ours waits =
     ap progress_of (of_awaited recovery report ours waits)
@@ -85,4 +95,5 @@ progress-awaited recovery report sorted ours waits =
     by [] h = ap (λ n. Ok (if n == 1 then Complete else More)) h
     by (x ∷ rest) h =
         on_bool (λ b. ◌≡◌ {A = Result RecoveryProgress ℕ} (Ok More) (Ok (if b then Complete else More))) (length recovery.awaiting == 1)
-        (λ t. let one : length recovery.awaiting ≡ 1 = (Decides-eqb (length recovery.awaiting) 1).0 t in absurd (omega (arith, h, one))) (λ f. refl)
+        (λ t. let one : length recovery.awaiting ≡ 1 = (Decides-eqb (length recovery.awaiting) 1).0 t in absurd (omega (arith, h, one)))
+        (λ f. refl)

@@ -26,10 +26,13 @@ pub are_awaited : (silos : List Awaited) → IsByAddress silos → AreAwaited (t
 are_awaited silos sorted =
     let rising = Rising-from_sorted silo_cmp (silos_of silos) sorted in
     record {
-      awaiting_in_order = sorted-from_Rising silo_cmp (awaiting_of silos) (Rising-kept silo_cmp (λ a. a.silo) (λ a. not a.has_reported) silos rising);
-      reported_in_order = sorted-from_Rising silo_cmp (reported_of silos) (Rising-kept silo_cmp (λ a. a.silo) (λ a. a.has_reported) silos rising);
+      awaiting_in_order =
+          sorted-from_Rising silo_cmp (awaiting_of silos) (Rising-kept silo_cmp (λ a. a.silo) (λ a. not a.has_reported) silos rising);
+      reported_in_order =
+          sorted-from_Rising silo_cmp (reported_of silos) (Rising-kept silo_cmp (λ a. a.silo) (λ a. a.has_reported) silos rising);
       apart = λ silo awaits reports.
-          one_mark silos rising silo (row_awaited silos silo (In-from_Contains silo (awaiting_of silos) awaits)) (row_reported silos silo (In-from_Contains silo (reported_of silos) reports));
+          one_mark silos rising silo (row_awaited silos silo (In-from_Contains silo (awaiting_of silos) awaits))
+          (row_reported silos silo (In-from_Contains silo (reported_of silos) reports));
     }
 
 -- a row of one list is in the other, where both tell the same
@@ -75,10 +78,12 @@ told-unreported rows = λ i. value (awaiting_of-unreported rows i) (reported_of-
     value awaiting reported = record { awaiting = awaiting; reported = reported }
 
 -- those of some rows of a view stand by address
-pub by_address-unreported : (p : Silo × Status → Bool) (rows : List (Silo × Status)) → IsStrictlySortedBy silo_cmp (keys_of rows) → IsByAddress (map unreported (filter p rows))
+pub by_address-unreported : (p : Silo × Status → Bool) (rows : List (Silo × Status)) → IsStrictlySortedBy silo_cmp (keys_of rows)
+    → IsByAddress (map unreported (filter p rows))
 by_address-unreported p rows sorted =
     subst (λ (l : List Silo). IsStrictlySortedBy silo_cmp l) (sym (silos_of-unreported (filter p rows)))
-    (sorted-from_Rising silo_cmp (keys_of (filter p rows)) (Rising-kept silo_cmp (λ row. row.0) p rows (Rising-from_sorted silo_cmp (keys_of rows) sorted)))
+    (sorted-from_Rising silo_cmp (keys_of (filter p rows))
+    (Rising-kept silo_cmp (λ row. row.0) p rows (Rising-from_sorted silo_cmp (keys_of rows) sorted)))
 
 -- and are counted
 pub counted-unreported : (rows : List (Silo × Status)) → length (map unreported rows) ≡ length (awaiting_of (map unreported rows))
@@ -86,7 +91,8 @@ counted-unreported [] = refl
 counted-unreported (row ∷ rows) = ap (λ n. suc n) (counted-unreported rows)
 
 -- ---- after one has reported
-pub told-mark : (silos : List Awaited) (index : ℕ) (a : Awaited) → IsByAddress silos → index < length silos → get_or silos index a ≡ a → a.has_reported ≡ false
+pub told-mark : (silos : List Awaited) (index : ℕ) (a : Awaited) → IsByAddress silos → index < length silos → get_or silos index a ≡ a
+    → a.has_reported ≡ false
     → told (with_mark silos index) ≡ marked (told silos) a.silo
 told-mark silos index a sorted within at waits =
     λ i. value (awaiting-mark silos index a rising within at waits i) (reported-mark silos index a rising within at waits i)
@@ -108,12 +114,14 @@ pub record IsMarked (silos : List Awaited) (missing : ℕ) (silo : Silo) (index 
   pub kept : IsCounted (with_mark silos index) (missing - 1)
   pub is : told (with_mark silos index) ≡ marked (told silos) silo
 
-pub is_marked : (silos : List Awaited) (missing : ℕ) → IsCounted silos missing → (silo : Silo) (index : ℕ) → IsSiloAt silos silo index → has_reported (told silos) silo ≡ Some false
+pub is_marked : (silos : List Awaited) (missing : ℕ) → IsCounted silos missing → (silo : Silo) (index : ℕ) → IsSiloAt silos silo index
+    → has_reported (told silos) silo ≡ Some false
     → IsMarked silos missing silo index
 is_marked silos missing counted silo index stands waits = record {
   kept = record {
     by_address = subst (λ (l : List Silo). IsStrictlySortedBy silo_cmp l) (sym (silos_of-mark silos index)) counted.by_address;
-    counted = let fewer : length (awaiting_of (with_mark silos index)) + 1 ≡ length (awaiting_of silos) = fewer-mark silos index row.0 stands.within row.1 unmarked in omega (arith, fewer, counted.counted);
+    counted =
+        let fewer : length (awaiting_of (with_mark silos index)) + 1 ≡ length (awaiting_of silos) = fewer-mark silos index row.0 stands.within row.1 unmarked in omega (arith, fewer, counted.counted);
   };
   is = told-mark silos index row.0 counted.by_address stands.within row.1 unmarked ∙ ap (λ s. marked (told silos) s) same;
 }
@@ -122,7 +130,8 @@ is_marked silos missing counted silo index stands waits = record {
     row = row_at silos index stands.within
 
     unmarked : row.0.has_reported ≡ false
-    unmarked = same_Some row.0.has_reported false (sym (has_reported-at silos counted.by_address silo index row.0 stands (sym row.1)) ∙ waits)
+    unmarked =
+        same_Some row.0.has_reported false (sym (has_reported-at silos counted.by_address silo index row.0 stands (sym row.1)) ∙ waits)
 
     same : row.0.silo ≡ silo
     same = ap (λ (a : Awaited). a.silo) (sym row.1) ∙ stands.there row.0

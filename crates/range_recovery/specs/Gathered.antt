@@ -1,7 +1,8 @@
 -- Steps of private functions: grains that are taken out of a table again.
 use Rattle.std.specs.Prelude.{List, [], ◌∷◌}
 use Rattle.silo_address.specs.Grain.{Grain}
-use Rattle.directory_rules.specs.Table.{Table, without_grain}
+use Rattle.directory_rules.specs.State.{Table}
+use Rattle.directory_rules.specs.Table.{without_grain}
 
 -- the table without these grains, taken out from the last one to the first
 abbrev pub without_grains : List Grain → Table → Table

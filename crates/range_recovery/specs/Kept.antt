@@ -4,7 +4,7 @@ use Rattle.std.specs.List.Sorted.{IsStrictlySortedBy}
 use Rattle.std.specs.Map.{keys_of}
 use Rattle.silo_address.specs.Silo.{Silo, silo_cmp}
 use Rattle.silo_address.specs.Grain.{grain_cmp}
-use Rattle.directory_rules.specs.Recovery.{Recovery}
+use Rattle.directory_rules.specs.State.{Recovery}
 
 -- the silos stand by address, each once, either awaited still or having reported; the table by grain, each once
 pub record IsRecovery (recovery : Recovery) : Type 0 where

@@ -1,6 +1,7 @@
 -- What comes of a report, as its taker is told.
 use Rattle.std.specs.Prelude.{◌≡◌, ℕ, Result, Ok, Err, IsSomeAnd, IsOk, MatchOption}
-use Rattle.directory_rules.specs.Recovery.{Recovery, Report, Recovered, Awaits_more, Has_union, Rejects, recovered}
+use Rattle.directory_rules.specs.State.{Recovery, Report}
+use Rattle.directory_rules.specs.Recovery.{Recovered, Awaits_more, Has_union, Rejects, recovered}
 use Rattle.range_recovery.specs.declared.error.RecoveryError.{RecoveryError}
 use Rattle.range_recovery.specs.declared.progress.RecoveryProgress.{RecoveryProgress}
 use Rattle.range_recovery.specs.declared.progress.RecoveryProgress.TheVariants.{More, Complete}

@@ -27,7 +27,7 @@ pub struct Recovery {
 }
 
 impl Model for Recovery {
-    ghost use Rattle.directory_rules.specs.Recovery.{Recovery as RecoveryValue};
+    ghost use Rattle.directory_rules.specs.State.{Recovery as RecoveryValue};
 
     ghost Value = { RecoveryValue };
 

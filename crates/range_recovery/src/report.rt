@@ -16,7 +16,7 @@ pub struct Report {
 }
 
 impl Model for Report {
-    ghost use Rattle.directory_rules.specs.Recovery.{Report as ReportValue};
+    ghost use Rattle.directory_rules.specs.State.{Report as ReportValue};
 
     ghost Value = { ReportValue };
 

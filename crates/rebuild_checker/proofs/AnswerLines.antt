@@ -12,7 +12,8 @@ use Rattle.rebuild_checker.specs.declared.check_fault.CheckFault.TheVariants.{Ri
 abbrev line_of : Option DumpFault → List ℕ
 line_of verdict = text_of_lines (verdict_line verdict ∷ [])
 
-pub answer_line : (answer : Result Unit CheckFault) (verdict : Option DumpFault) (text : List ℕ) → Answers answer verdict → IsLineOf answer text
+pub answer_line : (answer : Result Unit CheckFault) (verdict : Option DumpFault) (text : List ℕ) → Answers answer verdict
+    → IsLineOf answer text
     → text ≡ text_of_lines (verdict_line verdict ∷ [])
 answer_line (Ok done) verdict text is line = line ∙ ap line_of (sym is)
 answer_line (Err OutOfMemory) verdict text is line = absurd line
@@ -23,7 +24,8 @@ answer_line (Err (MissingFirm grain)) verdict text is line = line ∙ ap line_of
 answer_line (Err (Stranger grain)) verdict text is line = line ∙ ap line_of (sym is)
 
 -- the line of a fault that has a number
-pub fault_line : (fault : CheckFault) (number : Option ℕ) (n : ℕ) (text : List ℕ) → number ≡ option_map fault_number (fault_of fault) → number ≡ Some n
+pub fault_line : (fault : CheckFault) (number : Option ℕ) (n : ℕ) (text : List ℕ) → number ≡ option_map fault_number (fault_of fault)
+    → number ≡ Some n
     → text ≡ codes "check " ++ (fault_text fault ++ codes "\n") → (let answer : Result Unit CheckFault = Err fault in IsLineOf answer text)
 unfolding digits
 fault_line (RingDiffers silo) number n text its is printed = printed ∙ search rules
@@ -34,10 +36,13 @@ fault_line (Stranger grain) number n text its is printed = printed ∙ search ru
 fault_line OutOfMemory number n text its is printed = absurd (cc)
 
 -- so is what is written of it
-pub line_written : {S E : Type 0} (bytes : S → List ℕ) (result : Result S E) (answer : Result Unit CheckFault) (fault : CheckFault) (number : Option ℕ) (n : ℕ)
+pub line_written : {S E : Type 0} (bytes : S → List ℕ) (result : Result S E) (answer : Result Unit CheckFault) (fault : CheckFault)
+    (number : Option ℕ) (n : ℕ)
     → answer ≡ Err fault → number ≡ option_map fault_number (fault_of fault) → number ≡ Some n
-    → IfOk result (λ text. bytes text ≡ codes "check " ++ (fault_text fault ++ codes "\n")) → IfOk result (λ text. IsLineOf answer (bytes text))
-line_written bytes (Ok text) answer fault number n fails its is printed = subst (λ a. IsLineOf a (bytes text)) (sym fails) (fault_line fault number n (bytes text) its is printed)
+    → IfOk result (λ text. bytes text ≡ codes "check " ++ (fault_text fault ++ codes "\n"))
+    → IfOk result (λ text. IsLineOf answer (bytes text))
+line_written bytes (Ok text) answer fault number n fails its is printed =
+    subst (λ a. IsLineOf a (bytes text)) (sym fails) (fault_line fault number n (bytes text) its is printed)
 line_written bytes (Err error) answer fault number n fails its is printed = tt
 
 -- yes is said exactly where there is no fault
@@ -45,7 +50,8 @@ faulty : {R : Type 0} (verdict : Option DumpFault) (named : DumpFault) (fault : 
     → (let answer : Result Unit CheckFault = Err fault in answer ≡ Ok tt) ↔ R
 faulty verdict named fault is right = (λ yes. absurd (cc), λ r. absurd (let none = right.1 r in cc))
 
-pub yes_if_right : {R : Type 0} (answer : Result Unit CheckFault) (verdict : Option DumpFault) → Answers answer verdict → (verdict ≡ None) ↔ R → answer ≢ Err OutOfMemory
+pub yes_if_right : {R : Type 0} (answer : Result Unit CheckFault) (verdict : Option DumpFault) → Answers answer verdict
+    → (verdict ≡ None) ↔ R → answer ≢ Err OutOfMemory
     → (answer ≡ Ok tt) ↔ R
 yes_if_right (Ok tt) verdict is right other = (λ yes. right.0 is, λ r. refl)
 yes_if_right (Err OutOfMemory) verdict is right other = absurd (other refl)

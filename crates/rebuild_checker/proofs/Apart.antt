@@ -70,7 +70,8 @@ at_most_once : (hash : ℕ) (starts ends : List ℕ) → IsNonDecreasing starts 
     → ((count_by (λ n. leb n hash) starts + length ends) - count_by (λ n. leb n hash) ends) - count_by (λ n. leb n (hash + circle)) ends ≤ 1
 at_most_once hash starts ends up ups long below turn =
     elim (cases_lt 0 (length ends)) [
-      | inl some ↦ elim (cases_lt (hash + circle) (get_or ends (length ends - 1) 0)) [ inl beyond ↦ over some beyond | inr within ↦ under some within ]
+      | inl some ↦ elim (cases_lt (hash + circle) (get_or ends (length ends - 1) 0))
+          [ inl beyond ↦ over some beyond | inr within ↦ under some within ]
       | inr none ↦ nothing none
     ]
   where
@@ -117,22 +118,27 @@ at_most_once hash starts ends up ups long below turn =
             let step = turn.follow ended 0 inside in
             elim (cases_lt hash (get_or ends ended 0)) [
               | inl high ↦ omega (arith, step, high)
-              | inr low ↦ absurd (let more : ended + 1 ≤ ended = at_least hash ends ended ups (omega (arith, inside, long)) low in omega (arith, more))
+              | inr low ↦ absurd (let more : ended + 1 ≤ ended = at_least hash ends ended ups (omega (arith, inside, long)) low in
+                  omega (arith, more))
             ]
 
 pub as_long : (ranges : List Range) (cover : Cover) → IsCover ranges cover → length cover.starts.items ≡ length cover.ends.items
 as_long ranges cover covers =
     length_permutation (map range_start ranges) cover.starts.items covers.starts
-    ∙ (length-map ranges range_start ∙ sym (length_permutation (map range_end ranges) cover.ends.items covers.ends ∙ length-map ranges range_end))
+    ∙ (length-map ranges range_start ∙ sym (length_permutation (map range_end ranges) cover.ends.items covers.ends
+    ∙ length-map ranges range_end))
 
-pub apart_told : (ranges : List Range) (cover : Cover) → IsCover ranges cover → AreInTurn cover.starts.items cover.ends.items → IsApart cover
+pub apart_told : (ranges : List Range) (cover : Cover) → IsCover ranges cover → AreInTurn cover.starts.items cover.ends.items
+    → IsApart cover
 unfolding covers.covering
 apart_told ranges cover covers turn hash below =
     at_most_once hash cover.starts.items cover.ends.items covers.starts_in_order covers.ends_in_order (as_long ranges cover covers)
-    (All-permutation (λ start. start < circle) (map range_start ranges) cover.starts.items covers.starts (starts_below ranges covers.each)) turn
+    (All-permutation (λ start. start < circle) (map range_start ranges) cover.starts.items covers.starts (starts_below ranges covers.each))
+    turn
 
 -- where no hash is in two ranges, one that is named has no more
-pub named_enough : (cover : Cover) → IsApart cover → (hash times : ℕ) → hash < circle → 0 < times → false ≡ ltb times (covers.covering cover hash)
+pub named_enough : (cover : Cover) → IsApart cover → (hash times : ℕ) → hash < circle → 0 < times
+    → false ≡ ltb times (covers.covering cover hash)
 named_enough cover apart hash times below some =
     let most = apart hash below in
     not_less times (covers.covering cover hash) some most

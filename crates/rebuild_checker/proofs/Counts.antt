@@ -3,7 +3,8 @@ use Rattle.std.proofs.Common.{◌≡◌, ℕ, zero, suc, ◌+◌, ◌<◌, ◌�
 use Rattle.std.specs.List.Sorted.{IsPartitionedBy, IsPartitionPoint}
 use Rattle.std.proofs.lemmas.List.Sums.{count_by-le-length, sum_by-cons}
 
-pub count_split : {X : Type 0} (p : X → Bool) (xs : List X) (place : ℕ) → place ≤ length xs → IsPartitionPoint (λ x. p x ≡ true) (λ x. p x ≡ false) xs place
+pub count_split : {X : Type 0} (p : X → Bool) (xs : List X) (place : ℕ) → place ≤ length xs
+    → IsPartitionPoint (λ x. p x ≡ true) (λ x. p x ≡ false) xs place
     → place ≡ count_by p xs
 count_split p [] place bound split = omega (arith, bound)
 count_split p (x ∷ xs) zero bound split =
@@ -13,15 +14,19 @@ count_split p (x ∷ xs) zero bound split =
     same ∙ ap (λ b. cond b 1 0 + count_by p xs) (sym fails) ∙ sym (sum_by-cons (λ y. cond (p y) 1 0) x xs)
 count_split p (x ∷ xs) (suc place) bound split =
     let passes : p x ≡ true = split.0 0 x (omega arith) (omega arith) in
-    let rest : place ≡ count_by p xs = count_split p xs place (omega (arith, bound))
-    (λ k d low high. split.0 (suc k) d (omega arith) (omega (arith, high)), λ k d low high. split.1 (suc k) d (omega (arith, low)) (omega (arith, high))) in
+    let rest : place ≡ count_by p xs = count_split p xs place (omega (arith, bound)) (
+      λ k d low high. split.0 (suc k) d (omega arith) (omega (arith, high)),
+      λ k d low high. split.1 (suc k) d (omega (arith, low))
+          (omega (arith, high)),
+    ) in
     let more : suc place ≡ 1 + count_by p xs = omega (arith, rest) in
     more ∙ ap (λ b. cond b 1 0 + count_by p xs) (sym passes) ∙ sym (sum_by-cons (λ y. cond (p y) 1 0) x xs)
 
 abbrev pub Parts : {X : Type 0} → (X → Bool) → List X → ℕ → Type 0
 Parts p xs place = IsPartitionPoint (λ x. p x ≡ true) (λ x. p x ≡ false) xs place
 
-passing_first : {X : Type 0} (p : X → Bool) (x : X) (xs : List X) (all rest : ℕ) → p x ≡ true → all ≡ 1 + rest → Parts p xs rest → Parts p (x ∷ xs) all
+passing_first : {X : Type 0} (p : X → Bool) (x : X) (xs : List X) (all rest : ℕ) → p x ≡ true → all ≡ 1 + rest → Parts p xs rest
+    → Parts p (x ∷ xs) all
 passing_first {X} p x xs all rest passes more parts = (before, behind)
   where
     before : (k : ℕ) (d : X) → 0 ≤ k → k < all → p (get_or (x ∷ xs) k d) ≡ true
@@ -44,14 +49,17 @@ failing_first {X} p x xs all fails none parts = (before, behind)
 
 pub split_at_count : {X : Type 0} (p : X → Bool) (xs : List X) → IsPartitionedBy p xs → Parts p xs (count_by p xs)
 split_at_count p [] parted = (λ k d low high. absurd (omega (arith, high)), λ k d low high. absurd (omega (arith, high)))
-split_at_count {X} p (x ∷ xs) parted = by (p x) refl (count_by p xs) refl (split_at_count p xs (λ i j d upto within passes. parted (suc i) (suc j) d (omega (arith, upto)) (omega (arith, within)) passes))
+split_at_count {X} p (x ∷ xs) parted =
+    by (p x) refl (count_by p xs) refl (split_at_count p xs
+    (λ i j d upto within passes. parted (suc i) (suc j) d (omega (arith, upto)) (omega (arith, within)) passes))
   where
     counted : (t : Bool) → p x ≡ t → count_by p (x ∷ xs) ≡ cond t 1 0 + count_by p xs
     counted t is = sum_by-cons (λ y. cond (p y) 1 0) x xs ∙ ap (λ b. cond b 1 0 + count_by p xs) is
 
     by : (t : Bool) → p x ≡ t → (rest : ℕ) → rest ≡ count_by p xs → Parts p xs rest → Parts p (x ∷ xs) (count_by p (x ∷ xs))
     by true is rest told parts = passing_first p x xs (count_by p (x ∷ xs)) rest is (counted true is ∙ ap (λ n. 1 + n) (sym told)) parts
-    by false is zero told parts = failing_first p x xs (count_by p (x ∷ xs)) is (let whole = counted false is in omega (arith, whole, told)) parts
+    by false is zero told parts =
+        failing_first p x xs (count_by p (x ∷ xs)) is (let whole = counted false is in omega (arith, whole, told)) parts
     by false is (suc rest) told parts =
         let bound = count_by-le-length p xs in
         let first : p (get_or xs 0 x) ≡ true = parts.0 0 x (omega arith) (omega arith) in

@@ -13,7 +13,8 @@ use Rattle.rebuild_checker.specs.declared.cover.Cover.{Cover}
 
 -- one range: it has the hash if it begins by it and doesn't end by it, or if it ends beyond it a turn later
 one_balance : (start size hash turn : ℕ) → start < turn → size ≤ turn → hash < turn
-    → cond (ltb (cond (leb start hash) (hash - start) ((hash + turn) - start)) size) 1 0 + (cond (leb (start + size) hash) 1 0 + cond (leb (start + size) (hash + turn)) 1 0)
+    → cond (ltb (cond (leb start hash) (hash - start) ((hash + turn) - start)) size) 1 0 +
+    (cond (leb (start + size) hash) 1 0 + cond (leb (start + size) (hash + turn)) 1 0)
     ≡ cond (leb start hash) 1 0 + 1
 one_balance start size hash turn starts fits below = grind (arith, nat_tests)
 

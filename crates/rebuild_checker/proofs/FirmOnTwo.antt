@@ -18,7 +18,8 @@ use Rattle.rebuild_checker.specs.Lesser.{lesser_of}
 use Rattle.rebuild_checker.proofs.LeastOf.{least-append}
 use Rattle.rebuild_checker.proofs.Listed.{filter-flat_map, map-flat_map, map-map}
 
-list_any-flat_map : {X Y : Type 0} (p : Y → Bool) (f : X → List Y) (xs : List X) → list_any p (flat_map f xs) ≡ list_any (λ x. list_any p (f x)) xs
+list_any-flat_map : {X Y : Type 0} (p : Y → Bool) (f : X → List Y) (xs : List X)
+    → list_any p (flat_map f xs) ≡ list_any (λ x. list_any p (f x)) xs
 list_any-flat_map p f [] = refl
 list_any-flat_map p f (x ∷ xs) = list_any-append p (f x) (flat_map f xs) ∙ ap (λ b. list_any p (f x) || b) (list_any-flat_map p f xs)
 
@@ -44,7 +45,8 @@ firm_later later nodes has grain =
     ∙ (list_any_alike (is_at (grain_cmp grain)) (grain_eq grain) (grain_tie grain) (flat_map firm_grains nodes)
     ∙ list_any-flat_map (grain_eq grain) firm_grains nodes)
 
-cut_at : (nodes : List (Bor DumpNode)) (index at : ℕ) (node : Bor DumpNode) → at < length nodes → node ≡ get_or nodes at node → index ≡ at + 1
+cut_at : (nodes : List (Bor DumpNode)) (index at : ℕ) (node : Bor DumpNode) → at < length nodes → node ≡ get_or nodes at node
+    → index ≡ at + 1
     → nodes_lent (drop at nodes) ≡ node.now ∷ nodes_lent (drop index nodes)
 cut_at nodes index at node within here next =
     ap nodes_lent (drop-cons nodes at node within)
@@ -60,11 +62,14 @@ pub one_before : (nodes : List (Bor DumpNode)) (index at : ℕ) (node : Bor Dump
 one_before nodes index at node later next within here step has adds grain =
     adds.0 grain
     ∙ (ap (λ b. b || list_any (is_at (grain_cmp grain)) (firm_grains node.now)) (has grain)
-    ∙ (either (list_any (is_at (grain_cmp grain)) (flat_map firm_grains (nodes_lent (drop index nodes)))) (list_any (is_at (grain_cmp grain)) (firm_grains node.now))
+    ∙ (either (list_any (is_at (grain_cmp grain)) (flat_map firm_grains (nodes_lent (drop index nodes))))
+    (list_any (is_at (grain_cmp grain)) (firm_grains node.now))
     ∙ (sym (list_any-append (is_at (grain_cmp grain)) (firm_grains node.now) (flat_map firm_grains (nodes_lent (drop index nodes))))
-    ∙ ap (λ (ns : List DumpNode). list_any (is_at (grain_cmp grain)) (flat_map firm_grains ns)) (sym (cut_at nodes index at node within here step)))))
+    ∙ ap (λ (ns : List DumpNode). list_any (is_at (grain_cmp grain)) (flat_map firm_grains ns))
+    (sym (cut_at nodes index at node within here step)))))
 
-pub least_before : (nodes : List (Bor DumpNode)) (index at : ℕ) (node : Bor DumpNode) (later : BTreeSet Grain) (least : Option Grain) (shared : List Grain)
+pub least_before : (nodes : List (Bor DumpNode)) (index at : ℕ) (node : Bor DumpNode) (later : BTreeSet Grain) (least : Option Grain)
+    (shared : List Grain)
     → at < length nodes → node ≡ get_or nodes at node → index ≡ at + 1
     → HasItems grain_cmp later (flat_map firm_grains (nodes_lent (drop index nodes)))
     → least ≡ least_grain (firm_on_two (nodes_lent (drop index nodes)))
@@ -72,7 +77,8 @@ pub least_before : (nodes : List (Bor DumpNode)) (index at : ℕ) (node : Bor Du
     → lesser_of (least_grain shared) least ≡ least_grain (firm_on_two (nodes_lent (drop at nodes)))
 least_before nodes index at node later least shared within here step has so_far is =
     ap (λ (gs : List Grain). lesser_of (least_grain gs) least)
-    (is ∙ filter_agree (contains grain_cmp later) (λ grain. list_any (is_firm_on grain) rest) (firm_later later rest has) (firm_grains node.now))
+    (is ∙ filter_agree (contains grain_cmp later) (λ grain. list_any (is_firm_on grain) rest) (firm_later later rest has)
+    (firm_grains node.now))
     ∙ (ap (lesser_of (least_grain (filter (λ grain. list_any (is_firm_on grain) rest) (firm_grains node.now)))) so_far
     ∙ (sym (least-append (filter (λ grain. list_any (is_firm_on grain) rest) (firm_grains node.now)) (firm_on_two rest))
     ∙ ap (λ (ns : List DumpNode). least_grain (firm_on_two ns)) (sym (cut_at nodes index at node within here step))))
@@ -89,10 +95,15 @@ apart_from (x ∷ xs) ys apart =
     both_apart : (list_any (grain_eq x) (xs ++ ys) ≡ false) × (are_distinct_by grain_eq (xs ++ ys) ≡ true)
     both_apart = split (list_any (grain_eq x) (xs ++ ys)) (are_distinct_by grain_eq (xs ++ ys)) apart
 
-    by : (t : Bool) → list_any (grain_eq x) ys ≡ t → (are_distinct_by grain_eq (xs ++ ys) ≡ true → filter (λ grain. list_any (grain_eq grain) ys) xs ≡ [])
+    by : (t : Bool) → list_any (grain_eq x) ys ≡ t →
+        (are_distinct_by grain_eq (xs ++ ys) ≡ true → filter (λ grain. list_any (grain_eq grain) ys) xs ≡ [])
         → filter (λ grain. list_any (grain_eq grain) ys) (x ∷ xs) ≡ []
-    by true there later = absurd (never (list_any (grain_eq x) xs) (sym (list_any-append (grain_eq x) xs ys ∙ ap (λ b. list_any (grain_eq x) xs || b) there) ∙ both_apart.0))
-    by false none later = ap (λ b. cond b (x ∷ filter (λ grain. list_any (grain_eq grain) ys) xs) (filter (λ grain. list_any (grain_eq grain) ys) xs)) none ∙ later both_apart.1
+    by true there later =
+        absurd (never (list_any (grain_eq x) xs) (sym (list_any-append (grain_eq x) xs ys ∙ ap (λ b. list_any (grain_eq x) xs || b) there)
+        ∙ both_apart.0))
+    by false none later =
+        ap (λ b. cond b (x ∷ filter (λ grain. list_any (grain_eq grain) ys) xs) (filter (λ grain. list_any (grain_eq grain) ys) xs)) none
+        ∙ later both_apart.1
 
 behind : (xs ys : List Grain) → are_distinct_by grain_eq (xs ++ ys) ≡ true → are_distinct_by grain_eq ys ≡ true
 behind [] ys apart = apart
@@ -108,11 +119,14 @@ none_twice (node ∷ nodes) apart =
     ∙ none_twice nodes (behind (firm_grains node) (flat_map firm_grains nodes) apart)
 
 -- the firm grains, node by node
-pub firm_listed : (nodes : List (Bor DumpNode)) (held : List (Bor DumpHeld)) (grains : List Grain) → grains ≡ map (λ (one : Bor DumpHeld). one.now.grain) held
-    → held_lent held ≡ filter (λ (one : DumpHeld). is_firm_phase one.phase) (held_on nodes) → grains ≡ flat_map firm_grains (nodes_lent nodes)
+pub firm_listed : (nodes : List (Bor DumpNode)) (held : List (Bor DumpHeld)) (grains : List Grain)
+    → grains ≡ map (λ (one : Bor DumpHeld). one.now.grain) held
+    → held_lent held ≡ filter (λ (one : DumpHeld). is_firm_phase one.phase) (held_on nodes)
+    → grains ≡ flat_map firm_grains (nodes_lent nodes)
 firm_listed nodes held grains is firm =
     is
     ∙ (sym (map-map (λ (one : DumpHeld). one.grain) (λ (one : Bor DumpHeld). one.now) held)
-    ∙ (ap (map (λ (one : DumpHeld). one.grain)) (firm ∙ filter-flat_map (λ (one : DumpHeld). is_firm_phase one.phase) (λ (node : Bor DumpNode). node.now.held) nodes)
+    ∙ (ap (map (λ (one : DumpHeld). one.grain)) (firm
+    ∙ filter-flat_map (λ (one : DumpHeld). is_firm_phase one.phase) (λ (node : Bor DumpNode). node.now.held) nodes)
     ∙ (map-flat_map (λ (one : DumpHeld). one.grain) (λ (node : Bor DumpNode). firm_held node.now) nodes
     ∙ sym (flat_map-map firm_grains (λ (node : Bor DumpNode). node.now) nodes))))

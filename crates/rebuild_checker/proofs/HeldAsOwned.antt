@@ -34,16 +34,19 @@ four true false false d = refl
 four false b c d = refl
 
 both_bounds : (node : DumpNode) (pieces : List DumpPiece)
-    → (list_all (is_held_as_owned node) (map (λ piece. piece.range.start) pieces) && list_all (is_held_as_owned node) (map (λ piece. ahead piece.range.start piece.range.size) pieces))
+    → (list_all (is_held_as_owned node) (map (λ piece. piece.range.start) pieces) && list_all (is_held_as_owned node)
+    (map (λ piece. ahead piece.range.start piece.range.size) pieces))
     ≡ list_all (λ piece. is_right_at_bounds node piece.range) pieces
 both_bounds node [] = refl
 both_bounds node (piece ∷ pieces) =
     four (is_held_as_owned node piece.range.start) (list_all (is_held_as_owned node) (map (λ p. p.range.start) pieces))
-    (is_held_as_owned node (ahead piece.range.start piece.range.size)) (list_all (is_held_as_owned node) (map (λ p. ahead p.range.start p.range.size) pieces))
+    (is_held_as_owned node (ahead piece.range.start piece.range.size))
+    (list_all (is_held_as_owned node) (map (λ p. ahead p.range.start p.range.size) pieces))
     ∙ ap (λ b. is_right_at_bounds node piece.range && b) (both_bounds node pieces)
 
 pub all_turns : (node : DumpNode)
-    → has_its_ranges node ≡ (list_all (λ point. is_held_as_owned node point.place) node.ring && list_all (λ piece. is_right_at_bounds node piece.range) node.pieces)
+    → has_its_ranges node ≡ (list_all (λ point. is_held_as_owned node point.place) node.ring && list_all
+    (λ piece. is_right_at_bounds node piece.range) node.pieces)
 all_turns node =
     let R : ℕ → Bool = is_held_as_owned node in
     let starts : List ℕ = map (λ piece. piece.range.start) node.pieces in

@@ -11,12 +11,14 @@ gathered f p xs index x within is =
     ap (λ ys. map f (filter p ys)) (take_more xs index x within ∙ ap (λ y. take index xs ++ y ∷ []) (sym is))
     ∙ (ap (map f) (filter-append p (take index xs) (x ∷ [])) ∙ map-append f (filter p (take index xs)) (filter p (x ∷ [])))
 
-pub kept_more : {X Y : Type 0} (f : X → Y) (p : X → Bool) (xs : List X) (index : ℕ) (x : X) → index < length xs → x ≡ get_or xs index x → p x ≡ true
+pub kept_more : {X Y : Type 0} (f : X → Y) (p : X → Bool) (xs : List X) (index : ℕ) (x : X) → index < length xs → x ≡ get_or xs index x
+    → p x ≡ true
     → map f (filter p (take (index + 1) xs)) ≡ map f (filter p (take index xs)) ++ f x ∷ []
 kept_more f p xs index x within is passes =
     gathered f p xs index x within is ∙ ap (λ t. map f (filter p (take index xs)) ++ map f (cond t (x ∷ []) [])) passes
 
-pub left_more : {X Y : Type 0} (f : X → Y) (p : X → Bool) (xs : List X) (index : ℕ) (x : X) → index < length xs → x ≡ get_or xs index x → p x ≡ false
+pub left_more : {X Y : Type 0} (f : X → Y) (p : X → Bool) (xs : List X) (index : ℕ) (x : X) → index < length xs → x ≡ get_or xs index x
+    → p x ≡ false
     → map f (filter p (take (index + 1) xs)) ≡ map f (filter p (take index xs))
 left_more f p xs index x within is fails =
     gathered f p xs index x within is

@@ -38,7 +38,8 @@ or_none : (b : Bool) → b ≡ (b || false)
 or_none true = refl
 or_none false = refl
 
-least_up_to : (most : Grain) (grains : List Grain) → is_up_to most (least_grain grains) ≡ list_any (λ grain. not (is_lt (grain_cmp most grain))) grains
+least_up_to : (most : Grain) (grains : List Grain)
+    → is_up_to most (least_grain grains) ≡ list_any (λ grain. not (is_lt (grain_cmp most grain))) grains
 least_up_to most [] = refl
 least_up_to most (x ∷ grains) =
     by (least_grain grains) ∙ ap (λ b. not (is_lt (grain_cmp most x)) || b) (least_up_to most grains)
@@ -79,20 +80,26 @@ any_of_passing p q (entry ∷ entries) = by (p entry) ∙ ap (λ b. (p entry && 
     rest : List Entry
     rest = filter p entries
 
-    by : (t : Bool) → list_any q (map (λ (e : Entry). e.grain) (cond t (entry ∷ rest) rest)) ≡ ((t && q entry.grain) || list_any q (map (λ (e : Entry). e.grain) rest))
+    by : (t : Bool) → list_any q (map (λ (e : Entry). e.grain) (cond t (entry ∷ rest) rest))
+        ≡ ((t && q entry.grain) || list_any q (map (λ (e : Entry). e.grain) rest))
     by true = refl
     by false = refl
 
 pub least_moved : (p : Entry → Bool) (entries others : List Entry) → IsPermutation entries others
-    → least_grain (map (λ (entry : Entry). entry.grain) (filter p entries)) ≡ least_grain (map (λ (entry : Entry). entry.grain) (filter p others))
+    → least_grain (map (λ (entry : Entry). entry.grain) (filter p entries)) ≡ least_grain
+    (map (λ (entry : Entry). entry.grain) (filter p others))
 least_moved p entries others moved = same_up_to _ _ same
   where
     counted : (most : Grain) (list : List Entry)
-        → is_up_to most (least_grain (map (λ (e : Entry). e.grain) (filter p list))) ≡ list_any (λ (e : Entry). p e && not (is_lt (grain_cmp most e.grain))) list
+        → is_up_to most (least_grain (map (λ (e : Entry). e.grain) (filter p list))) ≡ list_any
+        (λ (e : Entry). p e && not (is_lt (grain_cmp most e.grain))) list
     counted most list =
-        least_up_to most (map (λ (e : Entry). e.grain) (filter p list)) ∙ any_of_passing p (λ grain. not (is_lt (grain_cmp most grain))) list
+        least_up_to most (map (λ (e : Entry). e.grain) (filter p list))
+        ∙ any_of_passing p (λ grain. not (is_lt (grain_cmp most grain))) list
 
-    same : (most : Grain) → is_up_to most (least_grain (map (λ (e : Entry). e.grain) (filter p entries))) ≡ is_up_to most (least_grain (map (λ (e : Entry). e.grain) (filter p others)))
+    same : (most : Grain) → is_up_to most (least_grain (map (λ (e : Entry). e.grain) (filter p entries))) ≡ is_up_to most
+        (least_grain (map (λ (e : Entry). e.grain) (filter p others)))
     same most =
         counted most entries
-        ∙ (list_any-IsPermutation (λ (e : Entry). p e && not (is_lt (grain_cmp most e.grain))) entries others moved ∙ sym (counted most others))
+        ∙ (list_any-IsPermutation (λ (e : Entry). p e && not (is_lt (grain_cmp most e.grain))) entries others moved
+        ∙ sym (counted most others))

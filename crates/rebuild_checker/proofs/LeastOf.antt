@@ -33,7 +33,8 @@ pick_again {K} lt weak a b c =
     by false false true x y z = absurd (let no : false ≡ true = sym (weak.chain c b a y x) ∙ z in cc)
     by false false false x y z = refl
 
-lesser_again : (a b : Grain) (rest : Option Grain) → lesser_grain (lesser_grain a (Some b)) rest ≡ lesser_grain a (Some (lesser_grain b rest))
+lesser_again : (a b : Grain) (rest : Option Grain)
+    → lesser_grain (lesser_grain a (Some b)) rest ≡ lesser_grain a (Some (lesser_grain b rest))
 lesser_again a b None = refl
 lesser_again a b (Some c) = pick_again (λ one other. is_lt (grain_cmp one other)) (ranks_by grain_cmp_total (λ g. g)) a b c
 
@@ -43,7 +44,8 @@ turned Equal a b = refl
 turned Greater a b = refl
 
 -- what `min` answers
-least_folded : (first : Grain) (rest : List Grain) → fold (λ one other. min_by_ordering (grain_cmp one other) one other) first rest ≡ lesser_grain first (least_grain rest)
+least_folded : (first : Grain) (rest : List Grain)
+    → fold (λ one other. min_by_ordering (grain_cmp one other) one other) first rest ≡ lesser_grain first (least_grain rest)
 least_folded first [] = refl
 least_folded first (next ∷ rest) =
     least_folded (min_by_ordering (grain_cmp first next) first next) rest
@@ -51,7 +53,8 @@ least_folded first (next ∷ rest) =
     (turned (grain_cmp first next) first next ∙ ap (λ o. cond (is_lt o) next first) (sym (grain_cmp_total.antisymm next first)))
     ∙ lesser_again first next (least_grain rest))
 
-pub least_reduced : (grains : List Grain) → reduce (λ one other. min_by_ordering (grain_cmp one other) one other) grains ≡ least_grain grains
+pub least_reduced : (grains : List Grain) → reduce (λ one other. min_by_ordering (grain_cmp one other) one other) grains ≡ least_grain
+    grains
 least_reduced [] = refl
 least_reduced (grain ∷ grains) = ap Some (least_folded grain grains)
 

@@ -25,12 +25,14 @@ map-flat_map g f [] = refl
 map-flat_map g f (x ∷ xs) = map-append g (f x) (flat_map f xs) ∙ ap (λ zs. map g (f x) ++ zs) (map-flat_map g f xs)
 
 -- filtered list by list
-pub filter-flat_map : {X Y : Type 0} (p : Y → Bool) (f : X → List Y) (xs : List X) → filter p (flat_map f xs) ≡ flat_map (λ x. filter p (f x)) xs
+pub filter-flat_map : {X Y : Type 0} (p : Y → Bool) (f : X → List Y) (xs : List X)
+    → filter p (flat_map f xs) ≡ flat_map (λ x. filter p (f x)) xs
 filter-flat_map p f [] = refl
 filter-flat_map p f (x ∷ xs) = filter-append p (f x) (flat_map f xs) ∙ ap (λ zs. filter p (f x) ++ zs) (filter-flat_map p f xs)
 
 -- what stands behind references
-kept : {X Y : Type 0} (t : Bool) (f : X → Y) (x : X) (all : List Y) (rest : List X) → all ≡ map f rest → cond t (f x ∷ all) all ≡ map f (cond t (x ∷ rest) rest)
+kept : {X Y : Type 0} (t : Bool) (f : X → Y) (x : X) (all : List Y) (rest : List X) → all ≡ map f rest
+    → cond t (f x ∷ all) all ≡ map f (cond t (x ∷ rest) rest)
 kept true f x all rest is = ap (λ ys. f x ∷ ys) is
 kept false f x all rest is = is
 
@@ -41,17 +43,23 @@ filter-map p f (x ∷ xs) = kept (p (f x)) f x (filter p (map f xs)) (filter (λ
 pub flat_map-lent : {X Y : Type 0} (f : X → List Y) (p : X → Bool) (xs : List (Bor X))
     → flat_map (λ (x : Bor X). f x.now) (filter (λ (x : Bor X). p x.now) xs) ≡ flat_map f (filter p (map (λ (x : Bor X). x.now) xs))
 flat_map-lent {X} f p xs =
-    sym (flat_map-map f (λ (x : Bor X). x.now) (filter (λ (x : Bor X). p x.now) xs)) ∙ ap (flat_map f) (sym (filter-map p (λ (x : Bor X). x.now) xs))
+    sym (flat_map-map f (λ (x : Bor X). x.now) (filter (λ (x : Bor X). p x.now) xs))
+    ∙ ap (flat_map f) (sym (filter-map p (λ (x : Bor X). x.now) xs))
 
 -- the settled pieces of live nodes that have seen the current version
 pub current_told : {E : Type 0} (dump : DumpValue) (current : ℕ) (nodes : List (Bor DumpNode)) (result : Result (Vec (Bor DumpPiece)) E)
     → current ≡ dump.current → nodes_lent nodes ≡ live_nodes dump
-    → IfOk result (λ pieces. map (λ piece. piece.now) pieces.items ≡ filter (λ piece. is_settled_state piece.state) (flat_map (λ node. node.now.pieces) (filter (λ node. node.now.seen == current) nodes)))
+    → IfOk result (λ pieces. map (λ piece. piece.now) pieces.items ≡ filter (λ piece. is_settled_state piece.state)
+    (flat_map (λ node. node.now.pieces) (filter (λ node. node.now.seen == current) nodes)))
     → IfOk result (λ pieces. pieces_lent pieces.items ≡ current_pieces dump)
 current_told dump current nodes result now live told = IfOk-weaker result _ _
     (λ pieces is. is
-    ∙ (ap (filter (λ (piece : DumpPiece). is_settled_state piece.state)) (flat_map-lent (λ (node : DumpNode). node.pieces) (λ node. node.seen == current) nodes)
-    ∙ (filter-flat_map (λ (piece : DumpPiece). is_settled_state piece.state) (λ (node : DumpNode). node.pieces) (filter (λ node. node.seen == current) (nodes_lent nodes))
-    ∙ (ap (λ (ns : List DumpNode). flat_map (λ (node : DumpNode). filter (λ (piece : DumpPiece). is_settled_state piece.state) node.pieces) (filter (λ (node : DumpNode). node.seen == current) ns)) live
-    ∙ ap (λ (version : ℕ). flat_map (λ (node : DumpNode). filter (λ (piece : DumpPiece). is_settled_state piece.state) node.pieces) (filter (λ (node : DumpNode). node.seen == version) (live_nodes dump))) now))))
+    ∙ (ap (filter (λ (piece : DumpPiece). is_settled_state piece.state))
+    (flat_map-lent (λ (node : DumpNode). node.pieces) (λ node. node.seen == current) nodes)
+    ∙ (filter-flat_map (λ (piece : DumpPiece). is_settled_state piece.state) (λ (node : DumpNode). node.pieces)
+    (filter (λ node. node.seen == current) (nodes_lent nodes))
+    ∙ (ap (λ (ns : List DumpNode). flat_map (λ (node : DumpNode). filter (λ (piece : DumpPiece). is_settled_state piece.state) node.pieces)
+    (filter (λ (node : DumpNode). node.seen == current) ns)) live
+    ∙ ap (λ (version : ℕ). flat_map (λ (node : DumpNode). filter (λ (piece : DumpPiece). is_settled_state piece.state) node.pieces)
+    (filter (λ (node : DumpNode). node.seen == version) (live_nodes dump))) now))))
     told

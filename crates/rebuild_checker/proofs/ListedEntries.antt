@@ -23,13 +23,16 @@ strangers_told : (dump : DumpValue) (nodes : List (Bor DumpNode)) (pieces : List
 strangers_told dump nodes pieces live current =
     ap (λ (entries : List Entry). filter (λ entry. not (is_entry_among entries entry)) (entries_in pieces)) (held_told dump nodes live)
     ∙ ap (filter (λ entry. not (is_entry_among (held_entries dump) entry)))
-    (sym (flat_map-map (λ (piece : DumpPiece). piece.entries) (λ (piece : Bor DumpPiece). piece.now) pieces) ∙ ap (flat_map (λ (piece : DumpPiece). piece.entries)) current)
+    (sym (flat_map-map (λ (piece : DumpPiece). piece.entries) (λ (piece : Bor DumpPiece). piece.now) pieces)
+    ∙ ap (flat_map (λ (piece : DumpPiece). piece.entries)) current)
 
 -- the grains of what an index names and isn't held
 names_left : (p : Entry → Bool) (names : List Named)
-    → map (λ (one : Named). one.1.now) (filter (λ one. p (entry_named one)) names) ≡ map (λ (entry : Entry). entry.grain) (filter p (entries_named names))
+    → map (λ (one : Named). one.1.now) (filter (λ one. p (entry_named one)) names) ≡ map (λ (entry : Entry). entry.grain)
+    (filter p (entries_named names))
 names_left p names =
-    sym (map-map (λ (entry : Entry). entry.grain) entry_named (filter (λ one. p (entry_named one)) names)) ∙ ap (map (λ (entry : Entry). entry.grain)) (sym (filter-map p entry_named names))
+    sym (map-map (λ (entry : Entry). entry.grain) entry_named (filter (λ one. p (entry_named one)) names))
+    ∙ ap (map (λ (entry : Entry). entry.grain)) (sym (filter-map p entry_named names))
 
 -- the least of what is left, and the least of the strangers
 pub least_strange : (dump : DumpValue) (left names : List Named) (nodes : List (Bor DumpNode)) (pieces : List (Bor DumpPiece))
@@ -40,5 +43,7 @@ pub least_strange : (dump : DumpValue) (left names : List Named) (nodes : List (
 least_strange dump left names nodes pieces live current enters told =
     ap (λ (ns : List Named). least_grain (map (λ (one : Named). one.1.now) ns)) told
     ∙ (ap least_grain (names_left (λ entry. not (is_entry_among (map entry_of_held (held_on nodes)) entry)) names)
-    ∙ (sym (least_moved (λ entry. not (is_entry_among (map entry_of_held (held_on nodes)) entry)) (entries_in pieces) (entries_named names) enters.each)
-    ∙ ap (λ (entries : List Entry). least_grain (map (λ (entry : Entry). entry.grain) entries)) (strangers_told dump nodes pieces live current)))
+    ∙ (sym (least_moved (λ entry. not (is_entry_among (map entry_of_held (held_on nodes)) entry)) (entries_in pieces) (entries_named names)
+    enters.each)
+    ∙ ap (λ (entries : List Entry). least_grain (map (λ (entry : Entry). entry.grain) entries))
+    (strangers_told dump nodes pieces live current)))

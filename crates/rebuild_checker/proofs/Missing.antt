@@ -40,7 +40,8 @@ among_by_grain : (entry : Entry) (entries : List Entry) (t s : Bool) → list_an
     → list_any (grain_eq entry.grain) (map (λ (one : Entry). one.grain) entries) ≡ true
 among_by_grain entry [] t s is = absurd (cc)
 among_by_grain entry (one ∷ entries) t s is = by (grain_eq entry.grain one.grain) (activation_eq entry.activation one.activation)
-    (list_any (entry_eq entry) entries) (list_any (grain_eq entry.grain) (map (λ (e : Entry). e.grain) entries)) is (among_by_grain entry entries t s)
+    (list_any (entry_eq entry) entries) (list_any (grain_eq entry.grain) (map (λ (e : Entry). e.grain) entries)) is
+    (among_by_grain entry entries t s)
   where
     by : (g a rest grains : Bool) → ((g && a) || rest) ≡ true → (rest ≡ true → grains ≡ true) → (g || grains) ≡ true
     by true a rest grains so later = refl
@@ -62,7 +63,9 @@ count_once entry (one ∷ entries) apart =
     once one here there none =
         let same : entry ≡ one = (Decides-entry entry one).0 here in
         let found : list_any (grain_eq one.grain) (map (λ (e : Entry). e.grain) entries) ≡ true
-        = subst (λ (e : Entry). list_any (grain_eq e.grain) (map (λ (x : Entry). x.grain) entries) ≡ true) same (among_by_grain entry entries true true there) in
+        =
+        subst (λ (e : Entry). list_any (grain_eq e.grain) (map (λ (x : Entry). x.grain) entries) ≡ true) same
+        (among_by_grain entry entries true true there) in
         let no : not true ≡ true = ap not (sym found) ∙ none in
         absurd (cc)
 
@@ -74,13 +77,15 @@ count_once entry (one ∷ entries) apart =
 
 -- a piece has the hash of each of its entries
 inside_if_among : (range : Range) (hash : Grain → ℕ) (entry : Entry) (entries : List Entry)
-    → list_all (λ one. holds range (hash one.grain)) entries ≡ true → list_any (entry_eq entry) entries ≡ true → holds range (hash entry.grain) ≡ true
+    → list_all (λ one. holds range (hash one.grain)) entries ≡ true → list_any (entry_eq entry) entries ≡ true
+    → holds range (hash entry.grain) ≡ true
 inside_if_among range hash entry [] all is = absurd (cc)
 inside_if_among range hash entry (one ∷ entries) all is =
     let parts = both (holds range (hash one.grain)) (list_all (λ (e : Entry). holds range (hash e.grain)) entries) all in
     by (entry_eq entry one) (list_any (entry_eq entry) entries) refl is parts.0 (inside_if_among range hash entry entries parts.1)
   where
-    by : (t s : Bool) → entry_eq entry one ≡ t → (t || s) ≡ true → holds range (hash one.grain) ≡ true → (s ≡ true → holds range (hash entry.grain) ≡ true)
+    by : (t s : Bool) → entry_eq entry one ≡ t → (t || s) ≡ true → holds range (hash one.grain) ≡ true
+        → (s ≡ true → holds range (hash entry.grain) ≡ true)
         → holds range (hash entry.grain) ≡ true
     by true s same so here later = ap (λ (e : Entry). holds range (hash e.grain)) ((Decides-entry entry one).0 same) ∙ here
     by false s same so here later = later so
@@ -92,7 +97,8 @@ piece_balance : (dump : DumpValue) (entry : Entry) (piece : DumpPiece) → is_ri
 piece_balance dump entry piece right =
     let parts = both (has_piece_numbers piece) (has_entries_inside dump piece && is_by_grain piece) right in
     let two = both (has_entries_inside dump piece) (is_by_grain piece) parts.1 in
-    by (holds piece.range (hash_grain dump.hashing entry.grain)) (is_entry_among piece.entries entry) _ (count_once entry piece.entries two.1)
+    by (holds piece.range (hash_grain dump.hashing entry.grain)) (is_entry_among piece.entries entry) _
+    (count_once entry piece.entries two.1)
     (inside_if_among piece.range (hash_grain dump.hashing) entry piece.entries two.0)
   where
     by : (h a : Bool) (n : ℕ) → n ≡ cond a 1 0 → (a ≡ true → h ≡ true) → cond h 1 0 ≡ n + cond (h && not a) 1 0
@@ -121,7 +127,8 @@ balance dump entry (piece ∷ pieces) right =
 -- whether some pass, by how many do
 some_counted : {X : Type 0} (p : X → Bool) (xs : List X) → list_any p xs ≡ ltb 0 (count_by p xs)
 some_counted p [] = refl
-some_counted p (x ∷ xs) = by (p x) (list_any p xs) (count_by p xs) (some_counted p xs) ∙ ap (ltb 0) (sym (sum_by-cons (λ y. cond (p y) 1 0) x xs))
+some_counted p (x ∷ xs) =
+    by (p x) (list_any p xs) (count_by p xs) (some_counted p xs) ∙ ap (ltb 0) (sym (sum_by-cons (λ y. cond (p y) 1 0) x xs))
   where
     by : (t s : Bool) (n : ℕ) → s ≡ ltb 0 n → (t || s) ≡ ltb 0 (cond t 1 0 + n)
     by true s n is = grind (arith, nat_tests)
@@ -138,21 +145,27 @@ pub lacking_told : (dump : DumpValue) (cover : Cover) (names : List Named) (piec
     → (entry : Entry) → is_lacking dump.hashing cover names entry ≡ list_any (is_missing_in dump entry) (current_pieces dump)
 lacking_told dump cover names pieces current right covers index entry =
     ap (λ n. ltb n (covering cover (hash_grain dump.hashing entry.grain))) entered
-    ∙ (ap (ltb (count_of entry (flat_map (λ (piece : DumpPiece). piece.entries) (current_pieces dump)))) (held ∙ balance dump entry (current_pieces dump) right)
+    ∙ (ap (ltb (count_of entry (flat_map (λ (piece : DumpPiece). piece.entries) (current_pieces dump))))
+    (held ∙ balance dump entry (current_pieces dump) right)
     ∙ (more_than _ _ ∙ sym (some_counted (is_missing_in dump entry) (current_pieces dump))))
   where
     entered : count_of entry (entries_named names) ≡ count_of entry (flat_map (λ (piece : DumpPiece). piece.entries) (current_pieces dump))
     entered =
         count_index _ names index entry
         ∙ ap (count_of entry)
-        (sym (flat_map-map (λ (piece : DumpPiece). piece.entries) (λ (piece : Bor DumpPiece). piece.now) pieces) ∙ ap (flat_map (λ (piece : DumpPiece). piece.entries)) current)
+        (sym (flat_map-map (λ (piece : DumpPiece). piece.entries) (λ (piece : Bor DumpPiece). piece.now) pieces)
+        ∙ ap (flat_map (λ (piece : DumpPiece). piece.entries)) current)
 
-    held : covering cover (hash_grain dump.hashing entry.grain) ≡ count_by (λ (piece : DumpPiece). holds piece.range (hash_grain dump.hashing entry.grain)) (current_pieces dump)
+    held : covering cover (hash_grain dump.hashing entry.grain) ≡ count_by
+        (λ (piece : DumpPiece). holds piece.range (hash_grain dump.hashing entry.grain)) (current_pieces dump)
     held =
-        covering_is_count (map (λ (piece : Bor DumpPiece). piece.now.range) pieces) cover (hash_grain dump.hashing entry.grain) (grain_below dump.hashing entry.grain) covers
+        covering_is_count (map (λ (piece : Bor DumpPiece). piece.now.range) pieces) cover (hash_grain dump.hashing entry.grain)
+        (grain_below dump.hashing entry.grain) covers
         ∙ (ap (count_by (λ (range : Range). holds range (hash_grain dump.hashing entry.grain)))
-        (sym (map-map (λ (piece : DumpPiece). piece.range) (λ (piece : Bor DumpPiece). piece.now) pieces) ∙ ap (map (λ (piece : DumpPiece). piece.range)) current)
-        ∙ fold-map (λ a (range : Range). a + cond (holds range (hash_grain dump.hashing entry.grain)) 1 0) (λ (piece : DumpPiece). piece.range) 0 (current_pieces dump))
+        (sym (map-map (λ (piece : DumpPiece). piece.range) (λ (piece : Bor DumpPiece). piece.now) pieces)
+        ∙ ap (map (λ (piece : DumpPiece). piece.range)) current)
+        ∙ fold-map (λ a (range : Range). a + cond (holds range (hash_grain dump.hashing entry.grain)) 1 0)
+        (λ (piece : DumpPiece). piece.range) 0 (current_pieces dump))
 
 -- the grains of those that fail it
 pub missing_told : (dump : DumpValue) (nodes : List (Bor DumpNode)) (lacks : Entry → Bool) → nodes_lent nodes ≡ live_nodes dump
@@ -172,7 +185,8 @@ missing_told dump nodes lacks live tells =
 
     listed : map entry_of_held firm ≡ firm_entries dump
     listed =
-        ap (map entry_of_held) (filter-flat_map (λ (held : DumpHeld). is_firm_phase held.phase) (λ (node : Bor DumpNode). node.now.held) nodes)
+        ap (map entry_of_held) (filter-flat_map (λ (held : DumpHeld). is_firm_phase held.phase) (λ (node : Bor DumpNode). node.now.held)
+        nodes)
         ∙ (map-flat_map entry_of_held (λ (node : Bor DumpNode). firm_held node.now) nodes
         ∙ (sym (flat_map-map (λ (node : DumpNode). map entry_of_held (firm_held node)) (λ (node : Bor DumpNode). node.now) nodes)
         ∙ ap (flat_map (λ (node : DumpNode). map entry_of_held (firm_held node))) live))

@@ -45,28 +45,36 @@ turned Greater = refl
 
 tied_as_entry : (one other : Named) → is_eq (named_cmp other one) ≡ is_at (entry_cmp (entry_named one)) (entry_named other)
 tied_as_entry one other =
-    ap is_eq (named_total.antisymm other one) ∙ turned (named_cmp one other) ∙ either_way (activation_cmp one.0 other.0) (grain_cmp one.1.now other.1.now)
+    ap is_eq (named_total.antisymm other one) ∙ turned (named_cmp one other)
+    ∙ either_way (activation_cmp one.0 other.0) (grain_cmp one.1.now other.1.now)
 
 pub named_alike : (one other : Named) → is_eq (named_cmp other one) ≡ true → entry_named one ≡ entry_named other
-named_alike one other ties = (Decides-entry (entry_named one) (entry_named other)).0 (sym (tied_as_entry one other ∙ entry_tie (entry_named one) (entry_named other)) ∙ ties)
+named_alike one other ties =
+    (Decides-entry (entry_named one) (entry_named other)).0
+    (sym (tied_as_entry one other ∙ entry_tie (entry_named one) (entry_named other)) ∙ ties)
 
 -- ---- Whether one is among them.
-some_at : {X : Type 0} (p : X → Bool) (xs : List X) (index : ℕ) → index < length xs → ((d : X) → p (get_or xs index d) ≡ true) → list_any p xs ≡ true
+some_at : {X : Type 0} (p : X → Bool) (xs : List X) (index : ℕ) → index < length xs → ((d : X) → p (get_or xs index d) ≡ true)
+    → list_any p xs ≡ true
 some_at p [] index within passes = absurd (omega (arith, within))
 some_at p (x ∷ xs) zero within passes = ap (λ b. b || list_any p xs) (passes x)
 some_at p (x ∷ xs) (suc index) within passes = or_right (p x) (list_any p xs) (some_at p xs index (omega (arith, within)) passes)
 
-none_at : {X : Type 0} (p : X → Bool) (xs : List X) → ((index : ℕ) (d : X) → index < length xs → p (get_or xs index d) ≡ false) → list_any p xs ≡ false
+none_at : {X : Type 0} (p : X → Bool) (xs : List X) → ((index : ℕ) (d : X) → index < length xs → p (get_or xs index d) ≡ false)
+    → list_any p xs ≡ false
 none_at p [] fails = refl
-none_at p (x ∷ xs) fails = ap (λ b. b || list_any p xs) (fails 0 x (omega arith)) ∙ none_at p xs (λ index d within. fails (suc index) d (omega (arith, within)))
+none_at p (x ∷ xs) fails =
+    ap (λ b. b || list_any p xs) (fails 0 x (omega arith)) ∙ none_at p xs (λ index d within. fails (suc index) d (omega (arith, within)))
 
-among_alike : (one : Named) (names : List Named) → list_any (λ other. is_eq (named_cmp other one)) names ≡ is_entry_among (entries_named names) (entry_named one)
+among_alike : (one : Named) (names : List Named) → list_any (λ other. is_eq (named_cmp other one)) names ≡ is_entry_among
+    (entries_named names) (entry_named one)
 among_alike one [] = refl
 among_alike one (other ∷ names) =
     ap (λ b. b || list_any (λ n. is_eq (named_cmp n one)) names) (tied_as_entry one other ∙ entry_tie (entry_named one) (entry_named other))
     ∙ ap (λ b. entry_eq (entry_named one) (entry_named other) || b) (among_alike one names)
 
-pub named_hit : (one : Named) (names : List Named) (index : ℕ) → index < length names → ((d : Named) → named_cmp (get_or names index d) one ≡ Equal)
+pub named_hit : (one : Named) (names : List Named) (index : ℕ) → index < length names
+    → ((d : Named) → named_cmp (get_or names index d) one ≡ Equal)
     → true ≡ is_entry_among (entries_named names) (entry_named one)
 named_hit one names index within hit =
     sym (some_at (λ other. is_eq (named_cmp other one)) names index within (λ d. ap is_eq (hit d))) ∙ among_alike one names
@@ -74,13 +82,16 @@ named_hit one names index within hit =
 pub named_at : (one : Named) (names : List Named) (index : ℕ) → index < length names → (here : Named) → here ≡ get_or names index here
     → is_eq (named_cmp here one) ≡ true → is_entry_among (entries_named names) (entry_named one) ≡ true
 named_at one names index within here is_here ties =
-    sym (named_hit one names index within (λ d. ap (λ n. named_cmp n one) (get_or_default names index d here within ∙ sym is_here) ∙ Equal-from (named_cmp here one) ties))
+    sym (named_hit one names index within (λ d. ap (λ n. named_cmp n one) (get_or_default names index d here within ∙ sym is_here)
+    ∙ Equal-from (named_cmp here one) ties))
 
-rises : (one : Named) (names : List Named) → IsSorted named_cmp names → IsNonDecreasingBy (λ other. ordering_index (named_cmp other one)) names
+rises : (one : Named) (names : List Named) → IsSorted named_cmp names
+    → IsNonDecreasingBy (λ other. ordering_index (named_cmp other one)) names
 rises one names in_order = searchable_from_sorted named_total (λ (n : Named). n) names one in_order
 
 pub named_miss : (one : Named) (names : List Named) (index : ℕ) → IsSorted named_cmp names
-    → (IsNonDecreasingBy (λ other. ordering_index (named_cmp other one)) names → IsPartitionPoint (λ other. named_cmp other one ≡ Less) (λ other. named_cmp other one ≡ Greater) names index)
+    → (IsNonDecreasingBy (λ other. ordering_index (named_cmp other one)) names
+    → IsPartitionPoint (λ other. named_cmp other one ≡ Less) (λ other. named_cmp other one ≡ Greater) names index)
     → false ≡ is_entry_among (entries_named names) (entry_named one)
 named_miss one names index in_order parts =
     sym (none_at (λ other. is_eq (named_cmp other one)) names apart) ∙ among_alike one names
@@ -108,10 +119,12 @@ lt_down Greater Equal low is = is
 lt_down Greater Greater low is = is
 
 pub parted_le : (one : Named) (names : List Named) → IsSorted named_cmp names → IsPartitionedBy (λ other. is_le (named_cmp other one)) names
-parted_le one names in_order i j d upto within = le_down (named_cmp (get_or names i d) one) (named_cmp (get_or names j d) one) (rises one names in_order i j d upto within)
+parted_le one names in_order i j d upto within =
+    le_down (named_cmp (get_or names i d) one) (named_cmp (get_or names j d) one) (rises one names in_order i j d upto within)
 
 pub parted_lt : (one : Named) (names : List Named) → IsSorted named_cmp names → IsPartitionedBy (λ other. is_lt (named_cmp other one)) names
-parted_lt one names in_order i j d upto within = lt_down (named_cmp (get_or names i d) one) (named_cmp (get_or names j d) one) (rises one names in_order i j d upto within)
+parted_lt one names in_order i j d upto within =
+    lt_down (named_cmp (get_or names i d) one) (named_cmp (get_or names j d) one) (rises one names in_order i j d upto within)
 
 -- where neighbours tell that those which pass a test end
 split_between : {X : Type 0} (p : X → Bool) (xs : List X) (index : ℕ) → IsPartitionedBy p xs → 0 < index → index < length xs
@@ -146,7 +159,8 @@ pub ends_between : (one : Named) (names : List Named) (index : ℕ) → IsSorted
     → is_le (named_cmp before one) ≡ true → is_gt (named_cmp here one) ≡ true
     → index ≡ count_by (λ other. is_le (named_cmp other one)) names
 ends_between one names index in_order past within before here is_before is_here not_above is_above =
-    split_between (λ other. is_le (named_cmp other one)) names index (parted_le one names in_order) past within before here is_before is_here not_above
+    split_between (λ other. is_le (named_cmp other one)) names index (parted_le one names in_order) past within before here is_before
+    is_here not_above
     (above_ends (named_cmp here one) is_above)
 
 not_below : (o : Ordering) → is_ge o ≡ true → is_lt o ≡ false
@@ -159,7 +173,8 @@ pub begins_between : (one : Named) (names : List Named) (index : ℕ) → IsSort
     → is_lt (named_cmp before one) ≡ true → is_ge (named_cmp here one) ≡ true
     → index ≡ count_by (λ other. is_lt (named_cmp other one)) names
 begins_between one names index in_order past within before here is_before is_here is_below is_not =
-    split_between (λ other. is_lt (named_cmp other one)) names index (parted_lt one names in_order) past within before here is_before is_here is_below
+    split_between (λ other. is_lt (named_cmp other one)) names index (parted_lt one names in_order) past within before here is_before
+    is_here is_below
     (not_below (named_cmp here one) is_not)
 
 -- what ties is neither above nor below
@@ -179,7 +194,8 @@ one_parted Equal = refl
 one_parted Greater = refl
 
 pub count_parted : (one : Named) (names : List Named)
-    → count_by (λ other. is_le (named_cmp other one)) names ≡ count_by (λ other. is_lt (named_cmp other one)) names + count_of (entry_named one) (entries_named names)
+    → count_by (λ other. is_le (named_cmp other one)) names ≡ count_by (λ other. is_lt (named_cmp other one)) names + count_of
+    (entry_named one) (entries_named names)
 count_parted one [] = refl
 count_parted one (other ∷ names) =
     joined _ _ _ _ _ _ _ _ _
@@ -219,8 +235,10 @@ pub alike_between : (one : Named) (names : List Named) (from to k : ℕ) (d : Na
     → from ≤ k → k < to → k < length names → entry_named one ≡ entry_named (get_or names k d)
 alike_between one names from to k d in_order from_is to_is low high within =
     named_alike one (get_or names k d) (tied_between (named_cmp (get_or names k d) one)
-    ((split_at_count (λ other. is_lt (named_cmp other one)) names (parted_lt one names in_order)).1 k d (omega (arith, low, from_is)) within)
-    ((split_at_count (λ other. is_le (named_cmp other one)) names (parted_le one names in_order)).0 k d (omega arith) (omega (arith, high, to_is))))
+    ((split_at_count (λ other. is_lt (named_cmp other one)) names (parted_lt one names in_order)).1 k d (omega (arith, low, from_is))
+    within)
+    ((split_at_count (λ other. is_le (named_cmp other one)) names (parted_le one names in_order)).0 k d (omega arith)
+    (omega (arith, high, to_is))))
 
 pub times_told : (one : Named) (names : List Named) (from to : ℕ)
     → from ≡ count_by (λ other. is_lt (named_cmp other one)) names → to ≡ count_by (λ other. is_le (named_cmp other one)) names
@@ -234,4 +252,5 @@ among_index entries names index entry = sym (list_any-IsPermutation (entry_eq en
 
 pub count_index : (entries : List Entry) (names : List Named) → IsIndex entries names → (entry : Entry)
     → count_of entry (entries_named names) ≡ count_of entry entries
-count_index entries names index entry = sum_by-IsPermutation (λ (one : Entry). cond (is_at (entry_cmp entry) one) 1 0) entries (entries_named names) index.each
+count_index entries names index entry =
+    sum_by-IsPermutation (λ (one : Entry). cond (is_at (entry_cmp entry) one) 1 0) entries (entries_named names) index.each

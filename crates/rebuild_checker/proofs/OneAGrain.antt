@@ -28,15 +28,18 @@ use Rattle.rebuild_checker.proofs.Grains.{grains_in}
 use Rattle.hash_ring.proofs.HashesBelow.{grain_below}
 
 -- ---- In one piece: entries that rise by grain are of different grains.
-by_entries : (entries : List Entry) → are_distinct_by (λ (one other : Entry). is_at (grain_cmp one.grain) other.grain) entries ≡ are_distinct (map (λ (one : Entry). one.grain) entries)
+by_entries : (entries : List Entry) → are_distinct_by (λ (one other : Entry). is_at (grain_cmp one.grain) other.grain) entries
+    ≡ are_distinct (map (λ (one : Entry). one.grain) entries)
 by_entries [] = refl
 by_entries (one ∷ entries) =
     ap (λ b. not b && are_distinct_by (λ (a b : Entry). is_at (grain_cmp a.grain) b.grain) entries)
-    (list_any_alike (λ (other : Entry). is_at (grain_cmp one.grain) other.grain) (λ (other : Entry). grain_eq one.grain other.grain) (λ other. grain_tie one.grain other.grain) entries
+    (list_any_alike (λ (other : Entry). is_at (grain_cmp one.grain) other.grain) (λ (other : Entry). grain_eq one.grain other.grain)
+    (λ other. grain_tie one.grain other.grain) entries
     ∙ mapped entries)
     ∙ ap (λ b. not (list_any (grain_eq one.grain) (map (λ (e : Entry). e.grain) entries)) && b) (by_entries entries)
   where
-    mapped : (es : List Entry) → list_any (λ (other : Entry). grain_eq one.grain other.grain) es ≡ list_any (grain_eq one.grain) (map (λ (e : Entry). e.grain) es)
+    mapped : (es : List Entry) → list_any (λ (other : Entry). grain_eq one.grain other.grain) es ≡ list_any (grain_eq one.grain)
+        (map (λ (e : Entry). e.grain) es)
     mapped [] = refl
     mapped (e ∷ es) = ap (λ b. grain_eq one.grain e.grain || b) (mapped es)
 
@@ -56,7 +59,8 @@ rises : (entries : List Entry) → are_in_order grain_cmp (map (λ (one : Entry)
 rises [] ordered differ k d within = absurd (omega (arith, within))
 rises (one ∷ []) ordered differ k d within = absurd (omega (arith, within))
 rises (one ∷ next ∷ rest) ordered differ zero d within =
-    above one.grain next.grain (both (not (is_lt (grain_cmp next.grain one.grain))) (are_in_order grain_cmp (map (λ (e : Entry). e.grain) (next ∷ rest))) ordered).0
+    above one.grain next.grain (both (not (is_lt (grain_cmp next.grain one.grain)))
+    (are_in_order grain_cmp (map (λ (e : Entry). e.grain) (next ∷ rest))) ordered).0
     (differ 0 d within)
 rises (one ∷ next ∷ rest) ordered differ (suc k) d within =
     let later = (both (not (is_lt (grain_cmp next.grain one.grain))) (are_in_order grain_cmp (map (λ (e : Entry). e.grain) (next ∷ rest))) ordered).1 in
@@ -64,10 +68,12 @@ rises (one ∷ next ∷ rest) ordered differ (suc k) d within =
     subst (λ (n : ℕ). true ≡ is_lt (grain_cmp (get_or (next ∷ rest) k d).grain (get_or (one ∷ next ∷ rest) n d).grain)) e
     (rises (next ∷ rest) later behind k d (omega (arith, within)))
   where
-    behind : (j : ℕ) (a : Entry) → j + 1 < length (next ∷ rest) → true ≡ not (grain_eq (get_or (next ∷ rest) j a).grain (get_or (next ∷ rest) (j + 1) a).grain)
+    behind : (j : ℕ) (a : Entry) → j + 1 < length (next ∷ rest)
+        → true ≡ not (grain_eq (get_or (next ∷ rest) j a).grain (get_or (next ∷ rest) (j + 1) a).grain)
     behind j a low =
         let e : suc j + 1 ≡ suc (j + 1) = omega arith in
-        subst (λ (n : ℕ). true ≡ not (grain_eq (get_or (next ∷ rest) j a).grain (get_or (one ∷ next ∷ rest) n a).grain)) e (differ (suc j) a (omega (arith, low)))
+        subst (λ (n : ℕ). true ≡ not (grain_eq (get_or (next ∷ rest) j a).grain (get_or (one ∷ next ∷ rest) n a).grain)) e
+        (differ (suc j) a (omega (arith, low)))
 
 -- entries that stand by grain, each of another grain than the one before it
 pub rising_by_grain : (entries : List Entry) (answer : Bool) → are_in_order grain_cmp (map (λ (one : Entry). one.grain) entries) ≡ true
@@ -75,18 +81,22 @@ pub rising_by_grain : (entries : List Entry) (answer : Bool) → are_in_order gr
     → are_distinct (map (λ (one : Entry). one.grain) entries) ≡ true
 rising_by_grain entries true ordered each is =
     sym (by_entries entries)
-    ∙ rising_told (λ (one other : Entry). grain_cmp one.grain other.grain) (on_total (λ (one : Entry). one.grain) grain_cmp_total) entries true (rises entries ordered each) refl
+    ∙ rising_told (λ (one other : Entry). grain_cmp one.grain other.grain) (on_total (λ (one : Entry). one.grain) grain_cmp_total) entries
+    true (rises entries ordered each) refl
 rising_by_grain entries false ordered each is = absurd (cc)
 
 -- ---- An entry's grain is hashed into its piece.
-inside_by_grain : (range : Range) (hash : Grain → ℕ) (grain : Grain) (entries : List Entry) → list_all (λ (one : Entry). holds range (hash one.grain)) entries ≡ true
+inside_by_grain : (range : Range) (hash : Grain → ℕ) (grain : Grain) (entries : List Entry)
+    → list_all (λ (one : Entry). holds range (hash one.grain)) entries ≡ true
     → list_any (grain_eq grain) (map (λ (one : Entry). one.grain) entries) ≡ true → holds range (hash grain) ≡ true
 inside_by_grain range hash grain [] all is = absurd (cc)
 inside_by_grain range hash grain (one ∷ entries) all is =
     let parts = both (holds range (hash one.grain)) (list_all (λ (e : Entry). holds range (hash e.grain)) entries) all in
-    by (grain_eq grain one.grain) (list_any (grain_eq grain) (map (λ (e : Entry). e.grain) entries)) refl is parts.0 (inside_by_grain range hash grain entries parts.1)
+    by (grain_eq grain one.grain) (list_any (grain_eq grain) (map (λ (e : Entry). e.grain) entries)) refl is parts.0
+    (inside_by_grain range hash grain entries parts.1)
   where
-    by : (t s : Bool) → grain_eq grain one.grain ≡ t → (t || s) ≡ true → holds range (hash one.grain) ≡ true → (s ≡ true → holds range (hash grain) ≡ true)
+    by : (t s : Bool) → grain_eq grain one.grain ≡ t → (t || s) ≡ true → holds range (hash one.grain) ≡ true
+        → (s ≡ true → holds range (hash grain) ≡ true)
         → holds range (hash grain) ≡ true
     by true s same so here later = ap (λ (g : Grain). holds range (hash g)) ((Decides-grain grain one.grain).0 same) ∙ here
     by false s same so here later = later so
@@ -102,12 +112,14 @@ held_somewhere dump grain [] all is = absurd (cc)
 held_somewhere dump grain (piece ∷ pieces) all is =
     let parts = both (has_entries_inside dump piece) (list_all (has_entries_inside dump) pieces) all in
     by (list_any (grain_eq grain) (map (λ (one : Entry). one.grain) piece.entries)) (list_any (grain_eq grain) (grains_in pieces)) refl
-    (sym (ap (list_any (grain_eq grain)) (map-append (λ (one : Entry). one.grain) piece.entries (flat_map (λ (p : DumpPiece). p.entries) pieces))
+    (sym (ap (list_any (grain_eq grain)) (map-append (λ (one : Entry). one.grain) piece.entries
+    (flat_map (λ (p : DumpPiece). p.entries) pieces))
     ∙ list_any-append (grain_eq grain) (map (λ (one : Entry). one.grain) piece.entries) (grains_in pieces)) ∙ is)
     (inside_by_grain piece.range (hash_grain dump.hashing) grain piece.entries parts.0) (held_somewhere dump grain pieces parts.1)
   where
     by : (t s : Bool) → list_any (grain_eq grain) (map (λ (one : Entry). one.grain) piece.entries) ≡ t → (t || s) ≡ true
-        → (list_any (grain_eq grain) (map (λ (one : Entry). one.grain) piece.entries) ≡ true → holds piece.range (hash_grain dump.hashing grain) ≡ true)
+        → (list_any (grain_eq grain) (map (λ (one : Entry). one.grain) piece.entries) ≡ true
+        → holds piece.range (hash_grain dump.hashing grain) ≡ true)
         → (s ≡ true → 1 ≤ count_by (λ p. holds p.range (hash_grain dump.hashing grain)) pieces)
         → 1 ≤ count_by (λ p. holds p.range (hash_grain dump.hashing grain)) (piece ∷ pieces)
     by true s here so inside later =
@@ -119,7 +131,8 @@ held_somewhere dump grain (piece ∷ pieces) all is =
         omega (arith, whole, some)
 
 -- ---- Two lists of distinct grains with none in common.
-joined : (xs ys : List Grain) → are_distinct xs ≡ true → are_distinct ys ≡ true → list_all (λ grain. not (list_any (grain_eq grain) ys)) xs ≡ true → are_distinct (xs ++ ys) ≡ true
+joined : (xs ys : List Grain) → are_distinct xs ≡ true → are_distinct ys ≡ true
+    → list_all (λ grain. not (list_any (grain_eq grain) ys)) xs ≡ true → are_distinct (xs ++ ys) ≡ true
 joined [] ys first second apart = second
 joined (x ∷ xs) ys first second apart =
     let a = both (not (list_any (grain_eq x) xs)) (are_distinct xs) first in
@@ -142,7 +155,8 @@ apart_pieces dump (piece ∷ pieces) once all by_grain =
     let b = both (is_by_grain piece) (list_all is_by_grain pieces) by_grain in
     ap are_distinct (map-append (λ (one : Entry). one.grain) piece.entries (flat_map (λ (p : DumpPiece). p.entries) pieces))
     ∙ joined (map (λ (one : Entry). one.grain) piece.entries) (grains_in pieces) b.0
-    (apart_pieces dump pieces (λ grain. let whole = counted dump grain piece pieces in let most = once grain in omega (arith, whole, most)) a.1 b.1)
+    (apart_pieces dump pieces (λ grain. let whole = counted dump grain piece pieces in let most = once grain in omega (arith, whole, most))
+    a.1 b.1)
     (none piece.entries a.0 a.1)
   where
     alone : (grain : Grain) → holds piece.range (hash_grain dump.hashing grain) ≡ true → list_all (has_entries_inside dump) pieces ≡ true
@@ -154,7 +168,8 @@ apart_pieces dump (piece ∷ pieces) once all by_grain =
         absurd (omega (arith, whole, some, most))
     alone grain here rest false among = refl
 
-    none : (entries : List Entry) → list_all (λ (one : Entry). holds piece.range (hash_grain dump.hashing one.grain)) entries ≡ true → list_all (has_entries_inside dump) pieces ≡ true
+    none : (entries : List Entry) → list_all (λ (one : Entry). holds piece.range (hash_grain dump.hashing one.grain)) entries ≡ true
+        → list_all (has_entries_inside dump) pieces ≡ true
         → list_all (λ grain. not (list_any (grain_eq grain) (grains_in pieces))) (map (λ (one : Entry). one.grain) entries) ≡ true
     none [] here rest = refl
     none (one ∷ entries) here rest =
@@ -171,5 +186,6 @@ one_a_grain dump node cover covers apart all by_grain = apart_pieces dump node.p
     once grain =
         let at_most = apart (hash_grain dump.hashing grain) (grain_below dump.hashing grain) in
         let told = covering_is_count (ranges_of node) cover (hash_grain dump.hashing grain) (grain_below dump.hashing grain) covers
-        ∙ fold-map (λ a (range : Range). a + cond (holds range (hash_grain dump.hashing grain)) 1 0) (λ (p : DumpPiece). p.range) 0 node.pieces in
+        ∙ fold-map (λ a (range : Range). a + cond (holds range (hash_grain dump.hashing grain)) 1 0) (λ (p : DumpPiece). p.range) 0
+        node.pieces in
         omega (arith, at_most, told)

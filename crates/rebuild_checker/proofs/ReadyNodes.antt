@@ -23,7 +23,8 @@ use Rattle.rebuild_checker.specs.Ready.{IsReady}
 use Rattle.rebuild_checker.proofs.Rows.{dump_is}
 
 -- what all pass each passes
-each_passes : (test : DumpNode → Bool) (nodes : List DumpNode) → list_all test nodes ≡ true → (node : DumpNode) → In node nodes → test node ≡ true
+each_passes : (test : DumpNode → Bool) (nodes : List DumpNode) → list_all test nodes ≡ true → (node : DumpNode) → In node nodes
+    → test node ≡ true
 each_passes test [] all node there = absurd there
 each_passes test (n ∷ ns) all node (inl here) = ap test (sym here) ∙ (both (test n) (list_all test ns) all).0
 each_passes test (n ∷ ns) all node (inr later) = each_passes test ns (both (test n) (list_all test ns) all).1 node later
@@ -45,17 +46,20 @@ each_stands (piece ∷ pieces) all =
     (both (has_entries_if_settled piece && has_from_if_awaiting piece) (has_entries_in_order piece) parts.0).1
     ∙ each_stands pieces parts.1
 
-stand_by_grain : (dump : DumpValue) → is_dump dump ≡ true → (node : DumpNode) → In node dump.nodes → list_all has_entries_in_order node.pieces ≡ true
+stand_by_grain : (dump : DumpValue) → is_dump dump ≡ true → (node : DumpNode) → In node dump.nodes
+    → list_all has_entries_in_order node.pieces ≡ true
 unfolding shape.is_dump
 stand_by_grain dump is node there =
     let nodes = (both (has_silos_once dump && has_silos_in_order dump && list_all (is_row_of dump) dump.rows) (list_all (is_node_of dump) dump.nodes)
     (both (has_numbers dump) (has_shape dump) is).1).1 in
     let whole = each_passes (is_node_of dump) dump.nodes nodes node there in
     each_stands node.pieces
-    (both (has_known_silos dump node && holds_its_own node && holds_activations_once node && holds_grains_once node && has_seen_a_version dump node && has_pieces_in_order node)
+    (both (has_known_silos dump node && holds_its_own node && holds_activations_once node && holds_grains_once node && has_seen_a_version
+    dump node && has_pieces_in_order node)
     (list_all is_piece node.pieces) whole).1
 
-pub is_ready : (dump : DumpValue) → is_dump dump ≡ true → list_all (has_its_ring dump) (live_nodes dump) ≡ true → (nodes : List (Bor DumpNode)) → nodes_lent nodes ≡ live_nodes dump
+pub is_ready : (dump : DumpValue) → is_dump dump ≡ true → list_all (has_its_ring dump) (live_nodes dump) ≡ true
+    → (nodes : List (Bor DumpNode)) → nodes_lent nodes ≡ live_nodes dump
     → (index : ℕ) (node : Bor DumpNode) → index < length nodes → node ≡ get_or nodes index node → IsReady node.now
 is_ready dump is right nodes live index node within at =
     let lent : In node.now (nodes_lent nodes) = In-map (λ (n : Bor DumpNode). n.now) node nodes (In-from_place node nodes index within (sym at)) in

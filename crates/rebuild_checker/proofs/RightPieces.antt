@@ -23,7 +23,8 @@ use Rattle.rebuild_checker.specs.Ready.{is_by_grain}
 abbrev pub is_right : DumpValue → DumpPiece → Bool
 is_right dump piece = has_piece_numbers piece && (has_entries_inside dump piece && is_by_grain piece)
 
-filtered : {X : Type 0} (t : Bool) (p : X → Bool) (x : X) (rest : List X) → p x ≡ true → list_all p rest ≡ true → list_all p (cond t (x ∷ rest) rest) ≡ true
+filtered : {X : Type 0} (t : Bool) (p : X → Bool) (x : X) (rest : List X) → p x ≡ true → list_all p rest ≡ true
+    → list_all p (cond t (x ∷ rest) rest) ≡ true
 filtered true p x rest here there = and_from (p x) (list_all p rest) here there
 filtered false p x rest here there = there
 
@@ -33,14 +34,16 @@ list_all-filter p q (x ∷ xs) all =
     let parts = both (p x) (list_all p xs) all in
     filtered (q x) p x (filter q xs) parts.0 (list_all-filter p q xs parts.1)
 
-list_all-joined : {X : Type 0} (p q : X → Bool) (xs : List X) → list_all p xs ≡ true → list_all q xs ≡ true → list_all (λ x. p x && q x) xs ≡ true
+list_all-joined : {X : Type 0} (p q : X → Bool) (xs : List X) → list_all p xs ≡ true → list_all q xs ≡ true
+    → list_all (λ x. p x && q x) xs ≡ true
 list_all-joined p q [] first second = refl
 list_all-joined p q (x ∷ xs) first second =
     let a = both (p x) (list_all p xs) first in
     let b = both (q x) (list_all q xs) second in
     and_from (p x && q x) (list_all (λ y. p y && q y) xs) (and_from (p x) (q x) a.0 b.0) (list_all-joined p q xs a.1 b.1)
 
-list_all-implied : {X : Type 0} (p q : X → Bool) → ((x : X) → p x ≡ true → q x ≡ true) → (xs : List X) → list_all p xs ≡ true → list_all q xs ≡ true
+list_all-implied : {X : Type 0} (p q : X → Bool) → ((x : X) → p x ≡ true → q x ≡ true) → (xs : List X) → list_all p xs ≡ true
+    → list_all q xs ≡ true
 list_all-implied p q implies [] all = refl
 list_all-implied p q implies (x ∷ xs) all =
     let parts = both (p x) (list_all p xs) all in
@@ -58,16 +61,19 @@ distinct_parts (x ∷ xs) ys apart =
     let front = none_of_more (list_any (grain_eq x) xs) (list_any (grain_eq x) ys) (ap not (sym (list_any-append (grain_eq x) xs ys)) ∙ parts.0) in
     (and_from (not (list_any (grain_eq x) xs)) (are_distinct xs) front rest.0, rest.1)
 
-each_by_grain : (pieces : List DumpPiece) → are_distinct (map (λ entry. entry.grain) (flat_map (λ (piece : DumpPiece). piece.entries) pieces)) ≡ true
+each_by_grain : (pieces : List DumpPiece) → are_distinct
+    (map (λ entry. entry.grain) (flat_map (λ (piece : DumpPiece). piece.entries) pieces)) ≡ true
     → list_all is_by_grain pieces ≡ true
 each_by_grain [] apart = refl
 each_by_grain (piece ∷ pieces) apart =
     let parts = distinct_parts (map (λ (entry : Entry). entry.grain) piece.entries) (map (λ (entry : Entry). entry.grain) (flat_map (λ (p : DumpPiece). p.entries) pieces))
-    (ap are_distinct (sym (map-append (λ (entry : Entry). entry.grain) piece.entries (flat_map (λ (p : DumpPiece). p.entries) pieces))) ∙ apart) in
+    (ap are_distinct (sym (map-append (λ (entry : Entry). entry.grain) piece.entries (flat_map (λ (p : DumpPiece). p.entries) pieces)))
+    ∙ apart) in
     and_from (is_by_grain piece) (list_all is_by_grain pieces) parts.0 (each_by_grain pieces parts.1)
 
 -- the pieces of a node
-node_right : (dump : DumpValue) (node : DumpNode) → (has_right_pieces dump node && has_node_numbers node) ≡ true → list_all (is_right dump) node.pieces ≡ true
+node_right : (dump : DumpValue) (node : DumpNode) → (has_right_pieces dump node && has_node_numbers node) ≡ true
+    → list_all (is_right dump) node.pieces ≡ true
 node_right dump node is =
     let two = both (has_right_pieces dump node) (has_node_numbers node) is in
     let right = both (has_its_ranges node && list_all (has_entries_inside dump) node.pieces) (has_one_entry_a_grain node) two.0 in
@@ -93,10 +99,12 @@ current_right dump is right =
     (λ node. list_all (is_right dump) (filter (λ (piece : DumpPiece). is_settled_state piece.state) node.pieces))
     (λ node so. list_all-filter (is_right dump) (λ (piece : DumpPiece). is_settled_state piece.state) node.pieces (node_right dump node so))
     (filter (λ (node : DumpNode). node.seen == dump.current) (live_nodes dump))
-    (list_all-filter (λ node. has_right_pieces dump node && has_node_numbers node) (λ (node : DumpNode). node.seen == dump.current) (live_nodes dump)
+    (list_all-filter (λ node. has_right_pieces dump node && has_node_numbers node) (λ (node : DumpNode). node.seen == dump.current)
+    (live_nodes dump)
     (list_all-joined (has_right_pieces dump) has_node_numbers (live_nodes dump) right (live_numbers dump is)))
 
-each_range : (dump : DumpValue) (pieces : List (Bor DumpPiece)) → list_all (λ (piece : Bor DumpPiece). is_right dump piece.now) pieces ≡ true
+each_range : (dump : DumpValue) (pieces : List (Bor DumpPiece))
+    → list_all (λ (piece : Bor DumpPiece). is_right dump piece.now) pieces ≡ true
     → All (λ (piece : Bor DumpPiece). IsRange piece.now.range) pieces
 each_range dump [] right = All-nil (λ (piece : Bor DumpPiece). IsRange piece.now.range)
 each_range dump (piece ∷ pieces) right =

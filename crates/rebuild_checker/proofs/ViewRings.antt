@@ -48,14 +48,18 @@ same_keys : (dump : DumpValue) (rows : List DumpRow) → keys_of (map (entry_of 
 same_keys dump [] = refl
 same_keys dump (row ∷ rows) = ap (λ l. row.silo ∷ l) (same_keys dump rows)
 
-lookup_in : {Y : Type 0} (es : List (Silo × Y)) → IsStrictlySortedBy silo_cmp (keys_of es) → (e : Silo × Y) → In e es → lookup (is_at (silo_cmp e.0)) es ≡ Some e.1
+lookup_in : {Y : Type 0} (es : List (Silo × Y)) → IsStrictlySortedBy silo_cmp (keys_of es) → (e : Silo × Y) → In e es
+    → lookup (is_at (silo_cmp e.0)) es ≡ Some e.1
 lookup_in es s e there =
     let at = Contains-from_In e es there in
-    lookup_from_place (eq_by_cmp_equiv silo_cmp_total) es at.0 e.0 e.1 (IsDistinct-from_sorted silo_cmp (keys_of es) s) (slice_get_read es (length es) at.0 e refl at.1 (sym at.2))
+    lookup_from_place (eq_by_cmp_equiv silo_cmp_total) es at.0 e.0 e.1 (IsDistinct-from_sorted silo_cmp (keys_of es) s)
+    (slice_get_read es (length es) at.0 e refl at.1 (sym at.2))
 
-places_found : (dump : DumpValue) → is_dump dump ≡ true → (row : DumpRow) → In row dump.rows → places_of (dump_places dump) row.silo ≡ Some (its_places dump row)
+places_found : (dump : DumpValue) → is_dump dump ≡ true → (row : DumpRow) → In row dump.rows
+    → places_of (dump_places dump) row.silo ≡ Some (its_places dump row)
 places_found dump is row there =
-    lookup_in (map (entry_of dump) dump.rows) (subst (λ l. IsStrictlySortedBy silo_cmp l) (sym (same_keys dump dump.rows)) (rows_rise dump is))
+    lookup_in (map (entry_of dump) dump.rows) (subst (λ l. IsStrictlySortedBy silo_cmp l) (sym (same_keys dump dump.rows))
+    (rows_rise dump is))
     (entry_of dump row) (In-map (entry_of dump) row dump.rows there)
 
 -- ---- The view in which everyone who ever joined is Active.
@@ -63,13 +67,16 @@ abbrev everyone : DumpValue → ViewValue
 everyone dump = record { version = 0; rows = map (λ e. (e.0, Active)) (map row_in_dump dump.rows) }
 
 everyone_rises : (dump : DumpValue) → is_dump dump ≡ true → IsByAddress (everyone dump)
-everyone_rises dump is = subst (λ l. IsStrictlySortedBy silo_cmp l) (sym (keys_of-map_values (λ (r : Row). Active) (map row_in_dump dump.rows))) (rows_rise dump is)
+everyone_rises dump is =
+    subst (λ l. IsStrictlySortedBy silo_cmp l) (sym (keys_of-map_values (λ (r : Row). Active) (map row_in_dump dump.rows)))
+    (rows_rise dump is)
 
 all_active : (es : List (Silo × Row)) → keys_of (filter (λ row. is_active row.1) (map (λ e. (e.0, Active)) es)) ≡ keys_of es
 all_active [] = refl
 all_active (e ∷ es) = ap (λ l. e.0 ∷ l) (all_active es)
 
-by_rows : (dump : DumpValue) (rows : List DumpRow) → ((row : DumpRow) → In row rows → places_of (dump_places dump) row.silo ≡ Some (its_places dump row))
+by_rows : (dump : DumpValue) (rows : List DumpRow)
+    → ((row : DumpRow) → In row rows → places_of (dump_places dump) row.silo ≡ Some (its_places dump row))
     → flat_map (silo_points (dump_places dump)) (keys_of (map row_in_dump rows)) ≡ flat_map (row_points dump) rows
 by_rows dump [] each = refl
 by_rows dump (row ∷ rows) each =
@@ -78,26 +85,30 @@ by_rows dump (row ∷ rows) each =
     λ i. first i ++ rest i
 
 everyones : (dump : DumpValue) → is_dump dump ≡ true → points_of (everyone dump) (dump_places dump) ≡ points_by_row dump
-everyones dump is = ap (flat_map (silo_points (dump_places dump))) (all_active (map row_in_dump dump.rows)) ∙ by_rows dump dump.rows (places_found dump is)
+everyones dump is =
+    ap (flat_map (silo_points (dump_places dump))) (all_active (map row_in_dump dump.rows)) ∙ by_rows dump dump.rows (places_found dump is)
 
 -- all points after a sort
 pub all_sorted : (dump : DumpValue) → is_dump dump ≡ true → (points sorted : List Point) → points ≡ points_by_row dump
     → IsPermutation points sorted → IsSorted point_cmp sorted → sorted ≡ all_points dump
 all_sorted dump is points sorted its moved in_order =
     sorted_is_inserted point_cmp_total point_cmp_exact naming_cmp_total points sorted
-    (subst (λ l. Rising naming_cmp l) (everyones dump is ∙ sym its) (points_of-rising (everyone dump) (dump_places dump) (everyone_rises dump is))) moved in_order
+    (subst (λ l. Rising naming_cmp l) (everyones dump is ∙ sym its)
+    (points_of-rising (everyone dump) (dump_places dump) (everyone_rises dump is))) moved in_order
     ∙ ap sorted_points its
 
 -- ---- Of all points those of a view.
 view_rises : (dump : DumpValue) → is_dump dump ≡ true → (version : ℕ) → IsByAddress (dump_view dump version)
 view_rises dump is version = sorted-picked silo_cmp_total (status_in version) (map row_in_dump dump.rows) (rows_rise dump is)
 
-active_among : (version : ℕ) (row : Option Row) → option_map_or (λ status. is_active status) (option_and_then (status_in version) row) false ≡ true
+active_among : (version : ℕ) (row : Option Row) → option_map_or (λ status. is_active status) (option_and_then (status_in version) row) false
+    ≡ true
     → option_map_or (λ status. is_active status) (option_map (λ (r : Row). Active) row) false ≡ true
 active_among version None active = active
 active_among version (Some row) active = refl
 
-active_in_everyone : (dump : DumpValue) → is_dump dump ≡ true → (version : ℕ) (silo : Silo) → is_active_in (dump_view dump version) silo ≡ true → is_active_in (everyone dump) silo ≡ true
+active_in_everyone : (dump : DumpValue) → is_dump dump ≡ true → (version : ℕ) (silo : Silo)
+    → is_active_in (dump_view dump version) silo ≡ true → is_active_in (everyone dump) silo ≡ true
 active_in_everyone dump is version silo active =
     let is_one : Option Status → Bool = λ o. option_map_or (λ status. is_active status) o false in
     ap is_one (lookup-map_values (λ (r : Row). Active) (is_at (silo_cmp silo)) (map row_in_dump dump.rows))
@@ -105,7 +116,8 @@ active_in_everyone dump is version silo active =
     (sym (ap is_one (lookup-picked silo_cmp_total (status_in version) silo (map row_in_dump dump.rows) (rows_rise dump is))) ∙ active)
 
 pub ring_left : (dump : DumpValue) → is_dump dump ≡ true → (version : ℕ)
-    → filter (λ point. is_active_in (dump_view dump version) point.silo) (all_points dump) ≡ sorted_ring (dump_view dump version) (dump_places dump)
+    → filter (λ point. is_active_in (dump_view dump version) point.silo) (all_points dump) ≡ sorted_ring (dump_view dump version)
+    (dump_places dump)
 ring_left dump is version =
     same_rising point_cmp_total (filter kept (all_points dump)) (sorted_ring view places)
     (Rising-filter point_cmp kept (all_points dump) (Rising-inserted point_cmp_total (points_by_row dump) [] tt))
@@ -129,7 +141,8 @@ ring_left dump is version =
         let found = In-from_filter kept p (all_points dump) there in
         let raw = only p (points_by_row dump) (In-from_inserted point_cmp_total p (points_by_row dump) [] found.0) in
         let its = In-from_points_of (everyone dump) places p (subst (λ l. In p l) (sym (everyones dump is)) raw) in
-        In-all_inserted point_cmp_total point_cmp_exact p (points_of view places) [] (In-points_of view places p p.silo (In-active view p.silo found.1) its.1)
+        In-all_inserted point_cmp_total point_cmp_exact p (points_of view places) []
+        (In-points_of view places p p.silo (In-active view p.silo found.1) its.1)
 
     back : (p : Point) → In p (sorted_ring view places) → In p (filter kept (all_points dump))
     back p there =
@@ -138,7 +151,8 @@ ring_left dump is version =
         let active = active_in view (view_rises dump is version) p.silo its.0 in
         let everywhere = In-points_of (everyone dump) places p p.silo (In-active (everyone dump) p.silo (active_in_everyone dump is version p.silo active)) its.1 in
         In-filter kept p (all_points dump)
-        (In-all_inserted point_cmp_total point_cmp_exact p (points_by_row dump) [] (subst (λ l. In p l) (everyones dump is) everywhere)) active
+        (In-all_inserted point_cmp_total point_cmp_exact p (points_by_row dump) [] (subst (λ l. In p l) (everyones dump is) everywhere))
+        active
 
 -- ---- What a comparison of a node's ring to that of the view tells.
 turned : (same : Bool) (differ : Bool) → differ ≡ not same → same ≡ not differ

@@ -23,7 +23,8 @@ pub distance-itself : (place : ℕ) → distance place place ≡ 0
 distance-itself place = grind (arith, nat_tests)
 
 -- the other way round makes up the circle
-pub distance-back : (place hash : ℕ) → place < circle → hash < circle → 0 < distance place hash → distance place hash + distance hash place ≡ circle
+pub distance-back : (place hash : ℕ) → place < circle → hash < circle → 0 < distance place hash
+    → distance place hash + distance hash place ≡ circle
 distance-back place hash p h d = grind (arith, nat_tests)
 
 pub distance-zero : (place hash : ℕ) → place < circle → hash < circle → distance place hash ≡ 0 → place ≡ hash
@@ -50,20 +51,24 @@ hash-lt range hash ok h = grind (arith, nat_tests)
 
 -- the test tells the set
 pub Decides-holds : (range : Range) (hash : ℕ) → IsRange range → hash < circle → Decides (holds range hash) (Holds range hash)
-Decides-holds range hash ok h = (λ e. (distance range.start hash, grind (arith, nat_tests), grind (arith, nat_tests)), λ has. grind (arith, nat_tests))
+Decides-holds range hash ok h =
+    (λ e. (distance range.start hash, grind (arith, nat_tests), grind (arith, nat_tests)), λ has. grind (arith, nat_tests))
 
 -- a hash of the inner range, by the test
-within_keeps : (inner outer : Range) (hash : ℕ) → IsRange inner → IsRange outer → hash < circle → within inner outer ≡ true → holds inner hash ≡ true → holds outer hash ≡ true
+within_keeps : (inner outer : Range) (hash : ℕ) → IsRange inner → IsRange outer → hash < circle → within inner outer ≡ true
+    → holds inner hash ≡ true → holds outer hash ≡ true
 within_keeps inner outer hash i o h e has = grind (arith, nat_tests)
 
 -- where the test fails, the first hash of the inner range that the outer one hasn't comes at `first_missing` steps
 abbrev first_missing : Range → Range → ℕ
 first_missing inner outer = outer.size - distance outer.start inner.start
 
-missing_is_inner : (inner outer : Range) → IsRange inner → IsRange outer → within inner outer ≡ false → first_missing inner outer < inner.size
+missing_is_inner : (inner outer : Range) → IsRange inner → IsRange outer → within inner outer ≡ false
+    → first_missing inner outer < inner.size
 missing_is_inner inner outer i o e = grind (arith, nat_tests)
 
-missing_is_out : (inner outer : Range) → IsRange inner → IsRange outer → within inner outer ≡ false → holds outer (ahead inner.start (first_missing inner outer)) ≡ false
+missing_is_out : (inner outer : Range) → IsRange inner → IsRange outer → within inner outer ≡ false
+    → holds outer (ahead inner.start (first_missing inner outer)) ≡ false
 missing_is_out inner outer i o e = grind (arith, nat_tests)
 
 not_within : (inner outer : Range) → IsRange inner → IsRange outer → within inner outer ≡ false → ¬ (IsWithin inner outer)
@@ -81,9 +86,11 @@ Decides-within inner outer i o = (
   λ e hash has.
       let below : hash < circle = hash-lt inner hash i has in
       (Decides-holds outer hash o below).0 (within_keeps inner outer hash i o below e ((Decides-holds inner hash i below).1 has)),
-  λ all. elim (within inner outer) as (λ b. within inner outer ≡ b → b ≡ true) [ true ↦ λ e. refl | false ↦ λ e. absurd (not_within inner outer i o e all) ] refl,
+  λ all. elim (within inner outer) as (λ b. within inner outer ≡ b → b ≡ true)
+      [ true ↦ λ e. refl | false ↦ λ e. absurd (not_within inner outer i o e all) ] refl,
 )
 
 -- seen from a base, the distance between two hashes is that of their steps from it
-pub distance-turn : (base place hash : ℕ) → base < circle → place < circle → hash < circle → distance place hash ≡ distance (distance base place) (distance base hash)
+pub distance-turn : (base place hash : ℕ) → base < circle → place < circle → hash < circle
+    → distance place hash ≡ distance (distance base place) (distance base hash)
 distance-turn base place hash b p h = grind (arith, nat_tests)

@@ -11,16 +11,21 @@ use Rattle.ring_range.proofs.Parts.{holds-part, IsRange-part, size-part, start-p
 use Rattle.ring_range.proofs.Pairs.{Two, Pair, pair_common, pair_apart, pair_absent, pair_nearer, pair_fewest}
 
 -- the three cases, in steps from this range's start
-steps_both : (size more far steps : ℕ) → size ≤ circle → more < circle → far < circle → steps < circle → ((nat_le 0 steps && nat_lt steps (min size ((far + more) - circle))) || (nat_le far steps && nat_lt steps (min size (far + more)))) ≡ (nat_lt steps size && nat_lt (distance far steps) more)
+steps_both : (size more far steps : ℕ) → size ≤ circle → more < circle → far < circle → steps < circle
+    → ((nat_le 0 steps && nat_lt steps (min size ((far + more) - circle))) || (nat_le far steps && nat_lt steps (min size (far + more))))
+    ≡ (nat_lt steps size && nat_lt (distance far steps) more)
 steps_both size more far steps s m f b = grind (arith, nat_tests)
 
-steps_apart : (size more far steps : ℕ) → more < circle → ((nat_le 0 steps && nat_lt steps (min size ((far + more) - circle))) && (nat_le far steps && nat_lt steps (min size (far + more)))) ≡ false
+steps_apart : (size more far steps : ℕ) → more < circle
+    → ((nat_le 0 steps && nat_lt steps (min size ((far + more) - circle))) && (nat_le far steps && nat_lt steps (min size (far + more))))
+    ≡ false
 steps_apart size more far steps m = grind (arith, nat_tests)
 
 steps_gap : (size more far : ℕ) → more < circle → 0 < min size ((far + more) - circle) → min size ((far + more) - circle) < far
 steps_gap size more far m some = omega arith
 
-steps_end : (size more far : ℕ) → (size < circle) ⊎ (more ≡ 0) → far < circle → far < min size (far + more) → far + (min size (far + more) - far) < circle
+steps_end : (size more far : ℕ) → (size < circle) ⊎ (more ≡ 0) → far < circle → far < min size (far + more)
+    → far + (min size (far + more) - far) < circle
 steps_end size more far (inl short) f on = omega arith
 steps_end size more far (inr none) f on = omega arith
 
@@ -39,7 +44,9 @@ and_comm true false = refl
 and_comm false true = refl
 and_comm false false = refl
 
-by_tests : (P : List Range → Type 0) (full whole none : Bool) (a b c d : List Range) → (full ≡ true → P a) → (full ≡ false → whole ≡ true → P b) → (full ≡ false → whole ≡ false → none ≡ true → P c) → (full ≡ false → whole ≡ false → none ≡ false → P d) → P (cond full a (cond whole b (cond none c d)))
+by_tests : (P : List Range → Type 0) (full whole none : Bool) (a b c d : List Range) → (full ≡ true → P a)
+    → (full ≡ false → whole ≡ true → P b) → (full ≡ false → whole ≡ false → none ≡ true → P c)
+    → (full ≡ false → whole ≡ false → none ≡ false → P d) → P (cond full a (cond whole b (cond none c d)))
 by_tests P true whole none a b c d p q r s = p refl
 by_tests P false true none a b c d p q r s = q refl refl
 by_tests P false false true a b c d p q r s = r refl refl refl
@@ -96,10 +103,12 @@ module _ (this other : Range) (t : IsRange this) (o : IsRange other) where
   abbrev further : Range
   further = meet_further_on this other
 
-  holds_at_start : (hash : ℕ) → hash < circle → holds at_start hash ≡ (nat_le 0 (distance this.start hash) && nat_lt (distance this.start hash) at_start_to)
+  holds_at_start : (hash : ℕ) → hash < circle → holds at_start hash
+      ≡ (nat_le 0 (distance this.start hash) && nat_lt (distance this.start hash) at_start_to)
   holds_at_start hash h = holds-part this 0 at_start_to hash t (omega arith) h
 
-  holds_further : (hash : ℕ) → hash < circle → holds further hash ≡ (nat_le far (distance this.start hash) && nat_lt (distance this.start hash) further_to)
+  holds_further : (hash : ℕ) → hash < circle → holds further hash
+      ≡ (nat_le far (distance this.start hash) && nat_lt (distance this.start hash) further_to)
   holds_further hash h = holds-part this far further_to hash t (omega arith) h
 
   holds_other : (hash : ℕ) → hash < circle → holds other hash ≡ nat_lt (distance far (distance this.start hash)) other.size
@@ -108,11 +117,13 @@ module _ (this other : Range) (t : IsRange this) (o : IsRange other) where
   far-lt : far < circle
   far-lt = distance-lt this.start other.start t.start_below o.start_below
 
-  parts_both : other.size < circle → (hash : ℕ) → hash < circle → (holds at_start hash || holds further hash) ≡ (holds this hash && holds other hash)
+  parts_both : other.size < circle → (hash : ℕ) → hash < circle
+      → (holds at_start hash || holds further hash) ≡ (holds this hash && holds other hash)
   parts_both short hash h =
       ap (λ b. b || holds further hash) (holds_at_start hash h)
       ∙ ap (λ b. (nat_le 0 (distance this.start hash) && nat_lt (distance this.start hash) at_start_to) || b) (holds_further hash h)
-      ∙ steps_both this.size other.size far (distance this.start hash) t.size_within short far-lt (distance-lt this.start hash t.start_below h)
+      ∙ steps_both this.size other.size far (distance this.start hash) t.size_within short far-lt
+      (distance-lt this.start hash t.start_below h)
       ∙ ap (λ b. holds this hash && b) (sym (holds_other hash h))
 
   parts_apart : other.size < circle → (hash : ℕ) → hash < circle → (holds at_start hash && holds further hash) ≡ false
@@ -124,7 +135,8 @@ module _ (this other : Range) (t : IsRange this) (o : IsRange other) where
   size_at_start : at_start.size ≡ at_start_to
   size_at_start = omega (arith, size-part this 0 at_start_to)
 
-  two_parts : other.size < circle → (this.size < circle) ⊎ (other.size ≡ 0) → 0 < at_start.size → 0 < further.size → Two this at_start further
+  two_parts : other.size < circle → (this.size < circle) ⊎ (other.size ≡ 0) → 0 < at_start.size → 0 < further.size
+      → Two this at_start further
   two_parts short not_whole some more =
       let from : 0 < at_start_to = omega (arith, size_at_start) in
       let on : far < further_to = omega (arith, size-part this far further_to) in
@@ -159,14 +171,16 @@ module _ (this other : Range) (t : IsRange this) (o : IsRange other) where
   }
 
   -- what holds of each pair holds where they meet
-  meet_by_pairs : (P : List Range → Type 0) → ((first second : Range) → Pair this other first second → P (first ∷ second ∷ [])) → P (meet_of this other)
+  meet_by_pairs : (P : List Range → Type 0) → ((first second : Range) → Pair this other first second → P (first ∷ second ∷ []))
+      → P (meet_of this other)
   unfolding meet_of
   meet_by_pairs P each =
       by_tests P (other.size == circle) ((this.size == circle) && nat_lt 0 other.size) (at_start.size == 0) _ _ _ _
       (λ full. each this (nothing_of this) (pair_full_other (eqb-true _ _ full)))
       (λ short full. let whole = test_whole _ _ full in each other (nothing_of this) (pair_full_this whole.0 whole.1))
       (λ short not_whole none. each further at_start (pair_one_part (test_less _ _ o.size_within short) (eqb-true _ _ none)))
-      (λ short not_whole some. each at_start further (pair_parts (test_less _ _ o.size_within short) (test_open _ _ t.size_within not_whole) (test_some _ some)))
+      (λ short not_whole some. each at_start further (pair_parts (test_less _ _ o.size_within short) (test_open _ _ t.size_within not_whole)
+      (test_some _ some)))
 
 pub common : (this other : Range) → IsRange this → IsRange other → AreCommon this other (meet_of this other)
 common this other t o = meet_by_pairs this other t o (AreCommon this other) (λ first second p. pair_common this other first second t o p)
@@ -178,16 +192,20 @@ pub fewest : (this other : Range) → IsRange this → IsRange other → AreFewe
 fewest this other t o = meet_by_pairs this other t o (AreFewest this other) (λ first second p. pair_fewest this other first second t o p)
 
 pub nearer_first : (this other : Range) → IsRange this → IsRange other → AreNearerFirst this (meet_of this other)
-nearer_first this other t o = meet_by_pairs this other t o (AreNearerFirst this) (λ first second p. pair_nearer this other first second t o p)
+nearer_first this other t o =
+    meet_by_pairs this other t o (AreNearerFirst this) (λ first second p. pair_nearer this other first second t o p)
 
 pub absent : (this other : Range) → IsRange this → IsRange other → AreAbsentAtStart this (meet_of this other)
 absent this other t o = meet_by_pairs this other t o (AreAbsentAtStart this) (λ first second p. pair_absent this other first second t o p)
 
 -- the parts are ranges, and a hash is in one of them where it is in both, by the tests
 pub ranges : (this other : Range) → IsRange this → IsRange other → All IsRange (meet_of this other)
-ranges this other t o = meet_by_pairs this other t o (All IsRange) (λ first second p. All-cons IsRange first (second ∷ []) p.first_ok (All-cons IsRange second [] p.second_ok (All-nil IsRange)))
+ranges this other t o =
+    meet_by_pairs this other t o (All IsRange) (λ first second p. All-cons IsRange first (second ∷ []) p.first_ok
+    (All-cons IsRange second [] p.second_ok (All-nil IsRange)))
 
-pub held : (this other : Range) (hash : ℕ) → IsRange this → IsRange other → hash < circle → list_any (λ part. holds part hash) (meet_of this other) ≡ (holds this hash && holds other hash)
+pub held : (this other : Range) (hash : ℕ) → IsRange this → IsRange other → hash < circle
+    → list_any (λ part. holds part hash) (meet_of this other) ≡ (holds this hash && holds other hash)
 held this other hash t o h =
     meet_by_pairs this other t o (λ parts. list_any (λ part. holds part hash) parts ≡ (holds this hash && holds other hash))
     (λ first second p. ap (λ b. holds first hash || b) (or_comm (holds second hash) false) ∙ p.both hash h)

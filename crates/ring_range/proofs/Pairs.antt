@@ -44,13 +44,15 @@ AllPairs-one R p i j d lt below = absurd (omega arith)
 AllPairs-none : (R : Range → Range → Type 0) → AllPairs R []
 AllPairs-none R i j d lt below = absurd (omega arith)
 
-pairs_of : (R : Range → Range → Type 0) (p q : Range) (some more : Bool) → (more ≡ true → R p q) → AllPairs R (cond some (p ∷ cond more (q ∷ []) []) (cond more (q ∷ []) []))
+pairs_of : (R : Range → Range → Type 0) (p q : Range) (some more : Bool) → (more ≡ true → R p q)
+    → AllPairs R (cond some (p ∷ cond more (q ∷ []) []) (cond more (q ∷ []) []))
 pairs_of R p q true true h = AllPairs-two R p q (h refl)
 pairs_of R p q true false h = AllPairs-one R p
 pairs_of R p q false true h = AllPairs-one R q
 pairs_of R p q false false h = AllPairs-none R
 
-present_len : (p q : Range) (some more : Bool) → length (cond some (p ∷ cond more (q ∷ []) []) (cond more (q ∷ []) [])) ≡ cond some 1 0 + cond more 1 0
+present_len : (p q : Range) (some more : Bool) → length (cond some (p ∷ cond more (q ∷ []) []) (cond more (q ∷ []) [])) ≡ cond some 1 0 +
+    cond more 1 0
 present_len p q true true = refl
 present_len p q true false = refl
 present_len p q false true = refl
@@ -70,15 +72,19 @@ inside : (near far more k : ℕ) → (k < near) ⊎ ((far ≤ k) × (k < far + m
 inside near far more k (inl lt) = grind (arith, nat_tests)
 inside near far more k (inr between) = grind (arith, nat_tests)
 
-outside : (near far more k : ℕ) → near ≤ k → (k < far) ⊎ (far + more ≤ k) → k < circle → far + more < circle → (nat_lt k near || nat_lt (distance far k) more) ≡ false
+outside : (near far more k : ℕ) → near ≤ k → (k < far) ⊎ (far + more ≤ k) → k < circle → far + more < circle
+    → (nat_lt k near || nat_lt (distance far k) more) ≡ false
 outside near far more k past (inl lt) below end = grind (arith, nat_tests)
 outside near far more k past (inr le) below end = grind (arith, nat_tests)
 
-round : (from size near far end : ℕ) → from < circle → size ≤ circle → 0 < near → near < far → far < end → end < circle → nat_lt (distance from 0) size ≡ true → nat_lt (distance from near) size ≡ false → nat_lt (distance from far) size ≡ true → nat_lt (distance from end) size ≡ false → ⊥
+round : (from size near far end : ℕ) → from < circle → size ≤ circle → 0 < near → near < far → far < end → end < circle
+    → nat_lt (distance from 0) size ≡ true → nat_lt (distance from near) size ≡ false → nat_lt (distance from far) size ≡ true
+    → nat_lt (distance from end) size ≡ false → ⊥
 round from size near far end f z n g m e at_0 at_near at_far at_end = grind (arith, nat_tests)
 
 -- no one range has the steps from 0 on and the steps from `far` on, and not those between and not those behind
-no_gaps : (from size near far more : ℕ) → from < circle → size ≤ circle → 0 < near → near < far → far + more < circle → 0 < more → ((k : ℕ) → k < circle → nat_lt (distance from k) size ≡ (nat_lt k near || nat_lt (distance far k) more)) → ⊥
+no_gaps : (from size near far more : ℕ) → from < circle → size ≤ circle → 0 < near → near < far → far + more < circle → 0 < more
+    → ((k : ℕ) → k < circle → nat_lt (distance from k) size ≡ (nat_lt k near || nat_lt (distance far k) more)) → ⊥
 no_gaps from size near far more f z n g e m same =
     let at_0 : nat_lt (distance from 0) size ≡ true = same 0 (omega arith) ∙ inside near far more 0 (inl n) in
     let at_near : nat_lt (distance from near) size ≡ false = same near (omega arith) ∙ outside near far more near (omega arith) (inl (omega arith)) (omega arith) (omega arith) in
@@ -104,7 +110,9 @@ module _ (this other first second : Range) (t : IsRange this) (o : IsRange other
       decided h = Decides-and _ _ (Decides-holds this hash t h) (Decides-holds other hash o h)
 
       parts : hash < circle → Decides (holds this hash && holds other hash) (Holds first hash ⊎ Holds second hash)
-      parts h = Decides-at _ _ (sym (p.both hash h)) (Decides-or _ _ (Decides-holds first hash p.first_ok h) (Decides-holds second hash p.second_ok h))
+      parts h =
+          Decides-at _ _ (sym (p.both hash h)) (Decides-or _ _ (Decides-holds first hash p.first_ok h)
+          (Decides-holds second hash p.second_ok h))
 
       below : Holds first hash ⊎ Holds second hash → hash < circle
       below (inl has) = hash-lt first hash p.first_ok has
@@ -136,30 +144,39 @@ module _ (this other first second : Range) (t : IsRange this) (o : IsRange other
       All-cons P first (second ∷ []) p.first_absent (All-cons P second [] p.second_absent (All-nil P))
 
   pub pair_nearer : AreNearerFirst this (first ∷ second ∷ [])
-  pair_nearer = pairs_of (λ part later. distance this.start part.start < distance this.start later.start) first second (nat_lt 0 first.size) (nat_lt 0 second.size)
+  pair_nearer =
+      pairs_of (λ part later. distance this.start part.start < distance this.start later.start) first second (nat_lt 0 first.size)
+      (nat_lt 0 second.size)
       (λ e. let two = p.two (ltb-true 0 second.size e) in nearer this first second two)
 
   -- a range of the common hashes, at so many steps from this one's start
-  single_at : (range : Range) → IsRange range → AreCommon this other (range ∷ []) → (k : ℕ) → k < circle → nat_lt (distance (distance this.start range.start) k) range.size ≡ (holds first (ahead this.start k) || holds second (ahead this.start k))
+  single_at : (range : Range) → IsRange range → AreCommon this other (range ∷ []) → (k : ℕ) → k < circle
+      → nat_lt (distance (distance this.start range.start) k) range.size
+      ≡ (holds first (ahead this.start k) || holds second (ahead this.start k))
   single_at range r same k lt =
       let hash : ℕ = ahead this.start k in
       let h : hash < circle = ahead-lt this.start k t.start_below (omega arith) in
       let held : Decides (holds range hash) (Holds this hash × Holds other hash) =
-      Decides-like _ (λ has. (same hash).0 (Any-only (λ part. Holds part hash) range has)) (λ has. Any-one (λ part. Holds part hash) range ((same hash).1 has)) (Decides-holds range hash r h) in
+      Decides-like _ (λ has. (same hash).0 (Any-only (λ part. Holds part hash) range has))
+      (λ has. Any-one (λ part. Holds part hash) range ((same hash).1 has)) (Decides-holds range hash r h) in
       let both : Decides (holds this hash && holds other hash) (Holds this hash × Holds other hash) = Decides-and _ _ (Decides-holds this hash t h) (Decides-holds other hash o h) in
       let turned : distance range.start hash ≡ distance (distance this.start range.start) k =
-      distance-turn this.start range.start hash t.start_below r.start_below h ∙ ap (distance (distance this.start range.start)) (distance-ahead this.start k t.start_below lt) in
+      distance-turn this.start range.start hash t.start_below r.start_below h
+      ∙ ap (distance (distance this.start range.start)) (distance-ahead this.start k t.start_below lt) in
       ap (λ d. nat_lt d range.size) (sym turned) ∙ same_from_decides _ _ held both ∙ sym (p.both hash h)
 
   -- the same, where there are two parts
-  single_steps : (range : Range) → IsRange range → AreCommon this other (range ∷ []) → Two this first second → (k : ℕ) → k < circle → nat_lt (distance (distance this.start range.start) k) range.size ≡ (nat_lt k first.size || nat_lt (distance (distance this.start second.start) k) second.size)
+  single_steps : (range : Range) → IsRange range → AreCommon this other (range ∷ []) → Two this first second → (k : ℕ) → k < circle
+      → nat_lt (distance (distance this.start range.start) k) range.size
+      ≡ (nat_lt k first.size || nat_lt (distance (distance this.start second.start) k) second.size)
   single_steps range r same two k lt =
       let hash : ℕ = ahead this.start k in
       let h : hash < circle = ahead-lt this.start k t.start_below (omega arith) in
       let steps : distance this.start hash ≡ k = distance-ahead this.start k t.start_below lt in
       let front : holds first hash ≡ nat_lt k first.size = ap (λ place. nat_lt (distance place hash) first.size) two.first_at ∙ ap (λ d. nat_lt d first.size) steps in
       let back : holds second hash ≡ nat_lt (distance (distance this.start second.start) k) second.size =
-      ap (λ d. nat_lt d second.size) (distance-turn this.start second.start hash t.start_below p.second_ok.start_below h ∙ ap (distance (distance this.start second.start)) steps) in
+      ap (λ d. nat_lt d second.size) (distance-turn this.start second.start hash t.start_below p.second_ok.start_below h
+      ∙ ap (distance (distance this.start second.start)) steps) in
       single_at range r same k lt ∙ ap (λ b. b || holds second hash) front ∙ ap (λ b. nat_lt k first.size || b) back
 
   -- no one range has the common hashes where the second part isn't empty
@@ -167,18 +184,23 @@ module _ (this other first second : Range) (t : IsRange this) (o : IsRange other
   no_single range r same some =
       let two = p.two some in
       no_gaps (distance this.start range.start) range.size first.size (distance this.start second.start) second.size
-      (distance-lt this.start range.start t.start_below r.start_below) r.size_within two.first_some two.gap two.end some (single_steps range r same two)
+      (distance-lt this.start range.start t.start_below r.start_below) r.size_within two.first_some two.gap two.end some
+      (single_steps range r same two)
 
   -- a part that has a hash has a common one
   some_first : AreCommon this other [] → ¬ (0 < first.size)
   some_first none some =
       let has = Holds-ahead first 0 p.first_ok some in
-      Any-none (λ part. Holds part (ahead first.start 0)) ((none (ahead first.start 0)).1 ((pair_common (ahead first.start 0)).0 (Any-first (λ part. Holds part (ahead first.start 0)) first second has)))
+      Any-none (λ part. Holds part (ahead first.start 0))
+      ((none (ahead first.start 0)).1 ((pair_common (ahead first.start 0)).0
+      (Any-first (λ part. Holds part (ahead first.start 0)) first second has)))
 
   some_second : AreCommon this other [] → ¬ (0 < second.size)
   some_second none some =
       let has = Holds-ahead second 0 p.second_ok some in
-      Any-none (λ part. Holds part (ahead second.start 0)) ((none (ahead second.start 0)).1 ((pair_common (ahead second.start 0)).0 (Any-second (λ part. Holds part (ahead second.start 0)) first second has)))
+      Any-none (λ part. Holds part (ahead second.start 0))
+      ((none (ahead second.start 0)).1 ((pair_common (ahead second.start 0)).0
+      (Any-second (λ part. Holds part (ahead second.start 0)) first second has)))
 
   pub pair_fewest : AreFewest this other (first ∷ second ∷ [])
   pair_fewest [] ok same =

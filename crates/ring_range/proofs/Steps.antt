@@ -41,7 +41,8 @@ insert_above x k xs lt = rw (le-ltb k x (omega arith), other_test k x lt) refl
     other_test k x lt = grind (arith, nat_tests)
 
 cases : (k x : ℕ) → (k < x) ⊎ ((k ≡ x) ⊎ (x < k))
-cases k x = elim (cases_lt k x) [ inl lt ↦ inl lt | inr le ↦ elim (cases_lt x k) [ inl lt ↦ inr (inr lt) | inr ge ↦ inr (inl (omega arith)) ] ]
+cases k x =
+    elim (cases_lt k x) [ inl lt ↦ inl lt | inr le ↦ elim (cases_lt x k) [ inl lt ↦ inr (inr lt) | inr ge ↦ inr (inl (omega arith)) ] ]
 
 pub Rises-below : (from : ℕ) (steps : List ℕ) (size : ℕ) → Rises from steps size → from < size
 Rises-below from [] size r = r
@@ -57,7 +58,8 @@ pub Each-weaker : (P Q : ℕ → Type 0) → ((n : ℕ) → P n → Q n) → (st
 Each-weaker P Q f [] all = tt
 Each-weaker P Q f (step ∷ steps) all = (f step all.0, Each-weaker P Q f steps all.1)
 
-Rises-insert : (from : ℕ) (steps : List ℕ) (size k : ℕ) → from < k → k < size → Rises from steps size → Rises from (insert_key nat_cmp steps k) size
+Rises-insert : (from : ℕ) (steps : List ℕ) (size k : ℕ) → from < k → k < size → Rises from steps size
+    → Rises from (insert_key nat_cmp steps k) size
 Rises-insert from [] size k lt below r = (lt, below)
 Rises-insert from (x ∷ xs) size k lt below r =
     let P : List ℕ → Type 0 = λ steps. Rises from steps size in
@@ -102,8 +104,12 @@ Each-insert P (x ∷ xs) k h all =
     ]
 
 -- one more place by its two cases
-with_cut_cases : (range : Range) (steps : List ℕ) (place : ℕ) (P : List ℕ → Type 0) → (0 < distance range.start place → distance range.start place < range.size → P (insert_key nat_cmp steps (distance range.start place))) → P steps → P (with_cut range steps place)
-with_cut_cases range steps place P cut stay = by_test P (nat_lt 0 (distance range.start place)) (nat_lt (distance range.start place) range.size) _ _ (λ a b. cut (ltb-true _ _ a) (ltb-true _ _ b)) stay
+with_cut_cases : (range : Range) (steps : List ℕ) (place : ℕ) (P : List ℕ → Type 0)
+    → (0 < distance range.start place → distance range.start place < range.size → P (insert_key nat_cmp steps (distance range.start place)))
+    → P steps → P (with_cut range steps place)
+with_cut_cases range steps place P cut stay =
+    by_test P (nat_lt 0 (distance range.start place)) (nat_lt (distance range.start place) range.size) _ _
+    (λ a b. cut (ltb-true _ _ a) (ltb-true _ _ b)) stay
   where
     by_test : (P : List ℕ → Type 0) (a b : Bool) (x y : List ℕ) → (a ≡ true → b ≡ true → P x) → P y → P (cond (a && b) x y)
     by_test P true true x y cut stay = cut refl refl
@@ -111,23 +117,29 @@ with_cut_cases range steps place P cut stay = by_test P (nat_lt 0 (distance rang
     by_test P false b x y cut stay = stay
 
 -- what holds of no steps, and with one more cut, holds of all
-steps_by : (range : Range) (P : List ℕ → Type 0) (places steps : List ℕ) → ((steps : List ℕ) (place : ℕ) → P steps → P (with_cut range steps place)) → P steps → P (fold (with_cut range) steps places)
+steps_by : (range : Range) (P : List ℕ → Type 0) (places steps : List ℕ)
+    → ((steps : List ℕ) (place : ℕ) → P steps → P (with_cut range steps place)) → P steps → P (fold (with_cut range) steps places)
 steps_by range P [] steps more now = now
 steps_by range P (place ∷ places) steps more now = steps_by range P places (with_cut range steps place) more (more steps place now)
 
 pub Rises-cut_steps : (range : Range) (places : List ℕ) → 0 < range.size → Rises 0 (cut_steps range places) range.size
 Rises-cut_steps range places some =
     let P : List ℕ → Type 0 = λ steps. Rises 0 steps range.size in
-    steps_by range P places [] (λ steps place r. with_cut_cases range steps place P (λ up below. Rises-insert 0 steps range.size (distance range.start place) up below r) r) some
+    steps_by range P places [] (λ steps place r. with_cut_cases range steps place P
+    (λ up below. Rises-insert 0 steps range.size (distance range.start place) up below r) r) some
 
 kept : (range : Range) (n : ℕ) (places steps : List ℕ) → In n steps → In n (fold (with_cut range) steps places)
 kept range n places steps h =
     let P : List ℕ → Type 0 = λ steps. In n steps in
-    steps_by range P places steps (λ steps place h. with_cut_cases range steps place P (λ up below. In-kept steps (distance range.start place) n h) h) h
+    steps_by range P places steps (λ steps place h. with_cut_cases range steps place P
+    (λ up below. In-kept steps (distance range.start place) n h) h) h
 
 -- each place that lies inside is among the steps
-cut_at_place : (range : Range) (steps : List ℕ) (place : ℕ) → 0 < distance range.start place → distance range.start place < range.size → In (distance range.start place) (with_cut range steps place)
-cut_at_place range steps place up below = rw (lt-ltb 0 (distance range.start place) up, lt-ltb (distance range.start place) range.size below) (In-insert steps (distance range.start place))
+cut_at_place : (range : Range) (steps : List ℕ) (place : ℕ) → 0 < distance range.start place → distance range.start place < range.size
+    → In (distance range.start place) (with_cut range steps place)
+cut_at_place range steps place up below =
+    rw (lt-ltb 0 (distance range.start place) up, lt-ltb (distance range.start place) range.size below)
+    (In-insert steps (distance range.start place))
 
 abbrev IsCutIn : Range → List ℕ → ℕ → Type 0
 IsCutIn range steps place = 0 < distance range.start place → distance range.start place < range.size → In (distance range.start place) steps
@@ -139,18 +151,23 @@ places_in range (place ∷ places) steps =
     (λ up below. kept range (distance range.start place) places (with_cut range steps place) (cut_at_place range steps place up below))
     (places_in range places (with_cut range steps place))
 
-pub In-cut_steps : (range : Range) (places : List ℕ) → All (λ place. 0 < distance range.start place → distance range.start place < range.size → In (distance range.start place) (cut_steps range places)) places
+pub In-cut_steps : (range : Range) (places : List ℕ)
+    → All (λ place. 0 < distance range.start place → distance range.start place < range.size
+    → In (distance range.start place) (cut_steps range places)) places
 In-cut_steps range places = places_in range places []
 
 -- and each step is the one to a place
-steps_of : (range : Range) (P : ℕ → Type 0) (places steps : List ℕ) → All (λ place. P (distance range.start place)) places → Each P steps → Each P (fold (with_cut range) steps places)
+steps_of : (range : Range) (P : ℕ → Type 0) (places steps : List ℕ) → All (λ place. P (distance range.start place)) places → Each P steps
+    → Each P (fold (with_cut range) steps places)
 steps_of range P [] steps all each = each
 steps_of range P (place ∷ places) steps all each =
     let Q : ℕ → Type 0 = λ place. P (distance range.start place) in
     let now : Each P (with_cut range steps place) = with_cut_cases range steps place (λ steps. Each P steps) (λ up below. Each-insert P steps (distance range.start place) (All-head Q place places all) each) each in
     steps_of range P places (with_cut range steps place) (All-tail Q place places all) now
 
-pub Each-cut_steps : (range : Range) (places : List ℕ) → range.start < circle → All (λ place. place < circle) places → Each (λ step. Contains places (ahead range.start step)) (cut_steps range places)
+pub Each-cut_steps : (range : Range) (places : List ℕ) → range.start < circle → All (λ place. place < circle) places
+    → Each (λ step. Contains places (ahead range.start step)) (cut_steps range places)
 Each-cut_steps range places s below =
     let P : ℕ → Type 0 = λ step. Contains places (ahead range.start step) in
-    steps_of range P places [] (λ k d lt. subst (Contains places) (sym (ahead-distance range.start _ s (below k d lt))) (All-contains_itself places k d lt)) tt
+    steps_of range P places [] (λ k d lt. subst (Contains places) (sym (ahead-distance range.start _ s (below k d lt)))
+    (All-contains_itself places k d lt)) tt

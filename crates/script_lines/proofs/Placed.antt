@@ -15,12 +15,14 @@ onto_nil : (read : Result (List ℕ) ℕ) → onto [] read ≡ read
 onto_nil (Ok places) = refl
 onto_nil (Err fault) = refl
 
-onto_more : (before : List ℕ) (place : ℕ) (read : Result (List ℕ) ℕ) → onto before (read >>= λ places. Ok (place ∷ places)) ≡ onto (before ++ place ∷ []) read
+onto_more : (before : List ℕ) (place : ℕ) (read : Result (List ℕ) ℕ)
+    → onto before (read >>= λ places. Ok (place ∷ places)) ≡ onto (before ++ place ∷ []) read
 onto_more before place (Ok places) = ap Ok (sym (append_assoc before (place ∷ []) places))
 onto_more before place (Err fault) = refl
 
 -- a word that is a place
-pub places_more : (before : List ℕ) (words : List (List ℕ)) (word : List ℕ) (behind : List (List ℕ)) (place : ℕ) → words ≡ word ∷ behind → Ok place ≡ hash_word word
+pub places_more : (before : List ℕ) (words : List (List ℕ)) (word : List ℕ) (behind : List (List ℕ)) (place : ℕ) → words ≡ word ∷ behind
+    → Ok place ≡ hash_word word
     → onto before (places_in words) ≡ onto (before ++ place ∷ []) (places_in behind)
 places_more before words word behind place split reads =
     ap (λ (ws : List (List ℕ)). onto before (places_in ws)) split

@@ -13,7 +13,8 @@ pub spaced-sentence : (word : List ℕ) (words : List (List ℕ)) → spaced (wo
 unfolding spaced
 spaced-sentence word [] = refl
 spaced-sentence word (next ∷ words) =
-    ap (λ (t : List ℕ). word ++ space ∷ t) (spaced-sentence next words) ∙ sym (append_assoc word (space ∷ sentence (next ∷ words)) (space ∷ []))
+    ap (λ (t : List ℕ). word ++ space ∷ t) (spaced-sentence next words)
+    ∙ sym (append_assoc word (space ∷ sentence (next ∷ words)) (space ∷ []))
 
 -- a text behind a marked one
 pub behind_the_mark : (before between after text more : List ℕ) (mark : ℕ)

@@ -17,7 +17,8 @@ use Rattle.script_lines.proofs.SpacedWords.{behind_the_mark}
 -- how a silo's text begins: the four bytes of its IP address, and a colon
 abbrev ip_text : List ℕ → List ℕ
 ip_text ip =
-    decimal (slice_index ip 0) ++ dot ∷ (decimal (slice_index ip 1) ++ dot ∷ (decimal (slice_index ip 2) ++ dot ∷ (decimal (slice_index ip 3) ++ colon ∷ [])))
+    decimal (slice_index ip 0) ++ dot ∷ (decimal (slice_index ip 1) ++ dot ∷
+    (decimal (slice_index ip 2) ++ dot ∷ (decimal (slice_index ip 3) ++ colon ∷ [])))
 
 -- the parts of a silo's text, with a mark behind them
 pub silo_parts : (silo : Silo) (mark : ℕ)
@@ -26,7 +27,8 @@ silo_parts silo mark = simp append_assoc refl
 
 -- the parts written one behind the other are the text
 pub silo_written : (before ip port after : List ℕ) (silo : Silo) (mark : ℕ)
-    → ip ≡ before ++ ip_text silo.ip → port ≡ ip ++ (decimal silo.port ++ at_sign ∷ []) → after ≡ port ++ (decimal silo.generation ++ mark ∷ [])
+    → ip ≡ before ++ ip_text silo.ip → port ≡ ip ++ (decimal silo.port ++ at_sign ∷ [])
+    → after ≡ port ++ (decimal silo.generation ++ mark ∷ [])
     → after ≡ before ++ (silo_text silo ++ mark ∷ [])
 silo_written before ip port after silo mark first second third =
     behind_the_mark ip port after (decimal silo.port) (decimal silo.generation ++ mark ∷ []) at_sign second third

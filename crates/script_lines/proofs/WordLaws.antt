@@ -12,7 +12,8 @@ use Rattle.texts.specs.Words.{space, is_some_bytes, pieces_at, words_in}
 use Rattle.script_lines.proofs.Pieces.{pieces_at-mark, pieces_at-whole, pieces_at-cut}
 
 -- a piece with a byte is a word
-kept_first : (word : List ℕ) (pieces : List (List ℕ)) → 0 < length word → filter is_some_bytes (word ∷ pieces) ≡ word ∷ filter is_some_bytes pieces
+kept_first : (word : List ℕ) (pieces : List (List ℕ)) → 0 < length word
+    → filter is_some_bytes (word ∷ pieces) ≡ word ∷ filter is_some_bytes pieces
 kept_first word pieces some = rw (lt-ltb 0 (length word) some) refl
 
 -- a space in front adds no word
@@ -20,7 +21,8 @@ words_in-space : (byte : ℕ) (line : List ℕ) → byte ≡ space → words_in 
 words_in-space byte line is = ap (filter is_some_bytes) (pieces_at-mark space byte line is)
 
 -- nor do several
-words_in-spaces : (n : ℕ) (line : List ℕ) → n ≤ length line → ((k : ℕ) → k < n → get_or line k 0 ≡ space) → words_in line ≡ words_in (drop n line)
+words_in-spaces : (n : ℕ) (line : List ℕ) → n ≤ length line → ((k : ℕ) → k < n → get_or line k 0 ≡ space)
+    → words_in line ≡ words_in (drop n line)
 words_in-spaces zero line within spaces = refl
 words_in-spaces (suc n) [] within spaces = refl
 words_in-spaces (suc n) (byte ∷ line) within spaces =
@@ -35,10 +37,12 @@ words_in-front : (n : ℕ) (line : List ℕ) → 0 < n → n < length line → (
     → words_in line ≡ take n line ∷ words_in (drop n line)
 words_in-front n line some within others is =
     let cut : pieces_at space line ≡ take n line ∷ pieces_at space (drop (suc n) line) =
-    ap (pieces_at space) (sym (append-nil line)) ∙ pieces_at-cut space n line [] within others is ∙ ap (λ (rest : List ℕ). take n line ∷ pieces_at space rest) (append-nil (drop (suc n) line)) in
+    ap (pieces_at space) (sym (append-nil line)) ∙ pieces_at-cut space n line [] within others is
+    ∙ ap (λ (rest : List ℕ). take n line ∷ pieces_at space rest) (append-nil (drop (suc n) line)) in
     let long : length (take n line) ≡ n = length-take-le n line (omega arith) in
     let behind : words_in (drop n line) ≡ words_in (drop (suc n) line) = ap words_in (drop-cons line n 0 within) ∙ words_in-space (get_or line n 0) (drop (suc n) line) is in
-    ap (filter is_some_bytes) cut ∙ kept_first (take n line) (pieces_at space (drop (suc n) line)) (omega arith) ∙ ap (λ (words : List (List ℕ)). take n line ∷ words) (sym behind)
+    ap (filter is_some_bytes) cut ∙ kept_first (take n line) (pieces_at space (drop (suc n) line)) (omega arith)
+    ∙ ap (λ (words : List (List ℕ)). take n line ∷ words) (sym behind)
 
 -- a first byte that isn't a space stands before the first space
 above_zero : (line : List ℕ) (end : ℕ) → get_or line 0 0 ≢ space → get_or line end 0 ≡ space → 0 < end
@@ -68,7 +72,8 @@ words_in-first line end some first is =
     ])
 
 -- a line of spaces has no word
-pub words_in-none : (line : List ℕ) (n : ℕ) → n ≤ length line → ((k : ℕ) → k < n → get_or line k 0 ≡ space) → length line ≤ n → words_in line ≡ []
+pub words_in-none : (line : List ℕ) (n : ℕ) → n ≤ length line → ((k : ℕ) → k < n → get_or line k 0 ≡ space) → length line ≤ n
+    → words_in line ≡ []
 words_in-none line n within spaces past = words_in-spaces n line within spaces ∙ ap words_in (drop_of_length-le line past)
 
 -- behind n spaces stands the first word
@@ -81,4 +86,5 @@ words_in-from line n end within spaces first is =
     let behind : from ≡ drop n line = take_rest line n in
     let long : length from ≡ length line - n = ap length behind ∙ length-drop n line in
     let begins : get_or from 0 0 ≡ get_or line n 0 = ap (λ (bytes : List ℕ). get_or bytes 0 0) behind ∙ get_or-drop n line 0 0 ∙ ap (λ k. get_or line k 0) (add-zero n) in
-    words_in-spaces n line (omega arith) spaces ∙ ap words_in (sym behind) ∙ words_in-first from end (omega arith) (λ space_first. first (sym begins ∙ space_first)) is
+    words_in-spaces n line (omega arith) spaces ∙ ap words_in (sym behind)
+    ∙ words_in-first from end (omega arith) (λ space_first. first (sym begins ∙ space_first)) is

@@ -4,7 +4,9 @@ use Rattle.script_lines.proofs.SpacedWords.{behind_the_mark, nothing_spaced, the
 use Rattle.script_lines.proofs.Texts.{activation_written, range_written, silo_written, span_written}
 
 -- marked texts
-pub ruleset part_by_part = (begins_with_itself, begins_with_the_first, behind_the_mark, silo_written, activation_written, span_written, range_written)
+pub ruleset part_by_part =
+    (begins_with_itself, begins_with_the_first, behind_the_mark, silo_written, activation_written, span_written, range_written)
 
 -- words
-pub ruleset word_by_word = (begins_with_itself, begins_with_the_first, nothing_spaced, then_spaced, then_behind_one, then_behind_two, then_behind_four)
+pub ruleset word_by_word =
+    (begins_with_itself, begins_with_the_first, nothing_spaced, then_spaced, then_behind_one, then_behind_two, then_behind_four)

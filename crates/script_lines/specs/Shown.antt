@@ -9,8 +9,7 @@ use Rattle.ring_range.specs.Range.{Range}
 use Rattle.ring_range.specs.Text.{range_text}
 use Rattle.hash_ring.specs.declared.point.Point.{Point}
 use Rattle.directory_rules.specs.declared.letter_kind.LetterKind.{LetterKind}
-use Rattle.directory_rules.specs.Node.{Node}
-use Rattle.directory_rules.specs.World.{World}
+use Rattle.directory_rules.specs.State.{Node, World}
 use Rattle.texts.specs.Words.{sentence}
 use Rattle.script_rules.specs.Lines.{kind_word}
 use Rattle.script_rules.specs.Show.{status_word, owner_words, place_words, is_served}

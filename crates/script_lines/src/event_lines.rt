@@ -164,9 +164,10 @@ fn push_subject(out: &mut Vec<u8>, silo: &SiloAddress, effect: &Effect) -> Resul
     ensures kept { BeginsWith out.old.items out.new.items }
 {
     match effect {
-        Effect::Started(entry) | Effect::Closing(entry) | Effect::Cached(entry) => {
-            push_entry(out, entry)
-        }
+        Effect::Started(entry)
+        | Effect::Closing(entry)
+        | Effect::Cancelled(entry)
+        | Effect::Cached(entry) => push_entry(out, entry),
         Effect::Offered { entry, to } => push_offered(out, entry, to),
         Effect::Finding(grain) | Effect::Forgot(grain) | Effect::NothingCached(grain) => {
             push_grain(out, grain)

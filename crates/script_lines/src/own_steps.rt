@@ -24,6 +24,7 @@ pub fn own_step(name: &[u8], words: &[u8]) -> Option<Result<OwnStep, ScriptFault
     match name {
         b"wake" => Some(wake(words)),
         b"close" => Some(close(words)),
+        b"cancel" => Some(cancel(words)),
         b"find" => Some(find(words)),
         b"forget" => Some(forget(words)),
         b"nudge" => Some(nudge(words)),
@@ -46,6 +47,13 @@ fn close(words: &[u8]) -> Result<OwnStep, ScriptFault>
     Ok(OwnStep::Close(grain))
 }
 
+fn cancel(words: &[u8]) -> Result<OwnStep, ScriptFault>
+    ensures { told (λ step. step) result ≡ script.a_grain own.Cancel (words_in words.now) }
+{
+    let grain = a_grain(words)?;
+    Ok(OwnStep::Cancel(grain))
+}
+
 fn find(words: &[u8]) -> Result<OwnStep, ScriptFault>
     ensures { told (λ step. step) result ≡ script.a_grain own.Find (words_in words.now) }
 {
@@ -61,12 +69,26 @@ fn forget(words: &[u8]) -> Result<OwnStep, ScriptFault>
 }
 
 fn nudge(words: &[u8]) -> Result<OwnStep, ScriptFault>
-    ensures { told (λ step. step) result ≡ script.no_word own.Nudge (words_in words.now) }
+    ensures { told (λ step. step) result ≡ script.a_part (words_in words.now) }
 {
-    match split_word(words) {
-        None => Ok(OwnStep::Nudge),
+    let Some((part, more)) = split_word(words) else {
+        return Ok(OwnStep::Nudge);
+    };
+    match split_word(more) {
+        None => part_word(part),
         Some(_) => Err(ScriptFault::WordCount),
     }
+}
+
+/// Of what part a nudge is: of the ranges, or of a grain.
+fn part_word(part: &[u8]) -> Result<OwnStep, ScriptFault>
+    ensures { told (λ step. step) result ≡ script.part_word part.now }
+{
+    if part == b"ranges".as_slice() {
+        return Ok(OwnStep::NudgeRanges);
+    }
+    let grain = grain_word(part)?;
+    Ok(OwnStep::NudgeGrain(grain))
 }
 
 fn offer(words: &[u8]) -> Result<OwnStep, ScriptFault>

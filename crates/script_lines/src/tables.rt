@@ -44,6 +44,7 @@ pub(crate) fn effect_word(effect: &Effect) -> &'static [u8]
         Effect::Skip => b"skip",
         Effect::Started(_) => b"started",
         Effect::Closing(_) => b"closing",
+        Effect::Cancelled(_) => b"cancelled",
         Effect::Offered { .. } => b"offered",
         Effect::Cached(_) => b"cached",
         Effect::Finding(_) => b"finding",

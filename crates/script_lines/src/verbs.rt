@@ -21,7 +21,7 @@ use std::alloc::Global;
 
 /// What each command is written as.
 pub(crate) const COMMANDS: &str =
-    "join SILO PLACE.., leave SILO, kill SILO, nudge SILO, see SILO VERSION, sync, wake SILO GRAIN, close SILO GRAIN, find SILO GRAIN, forget SILO GRAIN, offer SILO GRAIN SILO, deliver LETTER, lose LETTER, settle, owner HASH, place SILO POLICY GRAIN, show, mail, dump or check";
+    "join SILO PLACE.., leave SILO, kill SILO, nudge SILO, nudge SILO GRAIN, nudge SILO ranges, see SILO VERSION, sync, wake SILO GRAIN, close SILO GRAIN, cancel SILO GRAIN, find SILO GRAIN, forget SILO GRAIN, offer SILO GRAIN SILO, deliver LETTER, lose LETTER, settle, owner HASH, place SILO POLICY GRAIN, show, mail, dump or check";
 
 /// The command of that verb, with the words behind it.
 pub(crate) fn command_named(alloc: Global, verb: &[u8], words: &[u8]) -> Result<Command, ReadError>

@@ -3,7 +3,7 @@ use Rattle.std.proofs.Common.{arith, ◌≡◌, refl, ap, ◌∙◌, ℕ, zero, 
 use Rattle.std.specs.Prelude.{false, count_by, option_map, Option, Some, None, Result, Ok, Err}
 use Rattle.std.proofs.lemmas.List.Sums.{count_by-le-length}
 use Rattle.directory_rules.specs.Event.{Deliver}
-use Rattle.directory_rules.specs.World.{Posted, World, Accepted}
+use Rattle.directory_rules.specs.State.{Posted, World, Accepted}
 use Rattle.directory_rules.specs.Laws.{IsMail}
 use Rattle.directory_rules.specs.Happens as rule
 use Rattle.script_rules.specs.Lines.{outcome_line}
@@ -16,20 +16,25 @@ abbrev number_of : Option (ℕ × Posted) → Option ℕ
 number_of next = option_map (λ e. e.0) next
 
 after_same : (bound : ℕ) (F G : Session → Performed) → ((session : Session) → On (AtMost bound) session.world → F session ≡ G session)
-    → (session : Session) (result : Result Accepted ℕ) → After (AtMost bound) result → after_event result session F ≡ after_event result session G
-after_same bound F G same session (Ok accepted) at_most = ap (before (outcome_line accepted.outcome)) (same (with_world session accepted.world) at_most)
+    → (session : Session) (result : Result Accepted ℕ) → After (AtMost bound) result
+    → after_event result session F ≡ after_event result session G
+after_same bound F G same session (Ok accepted) at_most =
+    ap (before (outcome_line accepted.outcome)) (same (with_world session accepted.world) at_most)
 after_same bound F G same session (Err refusal) at_most = refl
 
 next_same : (bound : ℕ) (F G : Session → Performed) → ((session : Session) → On (AtMost bound) session.world → F session ≡ G session)
-    → (session : Session) → On (AtMost (suc bound)) session.world → (next : Option (ℕ × Posted)) → find_in session.world session.world.mail ≡ next
+    → (session : Session) → On (AtMost (suc bound)) session.world → (next : Option (ℕ × Posted))
+    → find_in session.world session.world.mail ≡ next
     → deliver_next (number_of next) session F ≡ deliver_next (number_of next) session G
 next_same bound F G same session at_most None none = refl
 next_same bound F G same session at_most (Some e) found =
     after_same bound F G same session (rule.happens session.world (Deliver e.0))
-    (next_delivered bound session.world e.0 e.1 (found_next session.world 0 session.world.sent session.world.mail e at_most.0.rising found) at_most)
+    (next_delivered bound session.world e.0 e.1 (found_next session.world 0 session.world.sent session.world.mail e at_most.0.rising found)
+    at_most)
 
 -- where no letter is fresh there is none to deliver
-none_left : (session : Session) (F : Session → Performed) → On (AtMost 0) session.world → (next : Option (ℕ × Posted)) → find_in session.world session.world.mail ≡ next
+none_left : (session : Session) (F : Session → Performed) → On (AtMost 0) session.world → (next : Option (ℕ × Posted))
+    → find_in session.world session.world.mail ≡ next
     → deliver_next (number_of next) session F ≡ delivered_within 0 session
 none_left session F at_most None none = refl
 none_left session F at_most (Some e) found =
@@ -40,13 +45,16 @@ none_left session F at_most (Some e) found =
 
 no_more : (more : ℕ) (session : Session) → On (AtMost 0) session.world → delivered_within more session ≡ delivered_within 0 session
 no_more zero session at_most = refl
-no_more (suc more) session at_most = none_left session (λ next. delivered_within more next) at_most (find_in session.world session.world.mail) refl
+no_more (suc more) session at_most =
+    none_left session (λ next. delivered_within more next) at_most (find_in session.world session.world.mail) refl
 
-settled_more : (bound more : ℕ) (session : Session) → On (AtMost bound) session.world → delivered_within (bound + more) session ≡ delivered_within bound session
+settled_more : (bound more : ℕ) (session : Session) → On (AtMost bound) session.world
+    → delivered_within (bound + more) session ≡ delivered_within bound session
 settled_more zero more session at_most = no_more (0 + more) session at_most
 settled_more (suc bound) more session at_most =
     ap (λ n. delivered_within n session) (one_first bound more)
-    ∙ next_same bound (λ next. delivered_within (bound + more) next) (λ next. delivered_within bound next) (settled_more bound more) session at_most (find_in session.world session.world.mail) refl
+    ∙ next_same bound (λ next. delivered_within (bound + more) next) (λ next. delivered_within bound next) (settled_more bound more) session
+    at_most (find_in session.world session.world.mail) refl
   where
     one_first : (bound more : ℕ) → suc bound + more ≡ suc (bound + more)
     one_first bound more = omega arith

@@ -45,6 +45,7 @@ effect_words effect.Next = codes "next" ∷ []
 effect_words effect.Skip = codes "skip" ∷ []
 effect_words (effect.Started entry) = codes "started" ∷ []
 effect_words (effect.Closing entry) = codes "closing" ∷ []
+effect_words (effect.Cancelled entry) = codes "cancelled" ∷ []
 effect_words (effect.Offered entry to) = codes "offered" ∷ []
 effect_words (effect.Cached entry) = codes "cached" ∷ []
 effect_words (effect.Finding grain) = codes "finding" ∷ []
@@ -85,6 +86,7 @@ entry_words entry = activation_text entry.activation ∷ grain_text entry.grain 
 abbrev pub subject_words : Silo → Effect → List (List ℕ)
 subject_words silo (effect.Started entry) = entry_words entry
 subject_words silo (effect.Closing entry) = entry_words entry
+subject_words silo (effect.Cancelled entry) = entry_words entry
 subject_words silo (effect.Offered entry to) = entry_words entry ++ codes "to" ∷ silo_text to ∷ []
 subject_words silo (effect.Cached entry) = entry_words entry
 subject_words silo (effect.Finding grain) = grain_text grain ∷ []

@@ -7,8 +7,8 @@ use Rattle.silo_address.specs.Silo.{Silo}
 use Rattle.membership_view.specs.Views.{joining_version}
 use Rattle.directory_rules.specs.Settings.{Settings}
 use Rattle.directory_rules.specs.Event.{Event, See, Deliver}
-use Rattle.directory_rules.specs.Node.{Node}
-use Rattle.directory_rules.specs.World.{World, Accepted, first_world}
+use Rattle.directory_rules.specs.State.{Node, World, Accepted}
+use Rattle.directory_rules.specs.World.{first_world}
 use Rattle.directory_rules.specs.Happens.{happens, least_deliverable}
 use Rattle.texts.specs.Printed.{Output, text_of_lines}
 use Rattle.script_rules.specs.Script.{Command, Happen, Sync, Settle, Owner, Place, Show, Mail, Dump, Check, lines_of, read_line}

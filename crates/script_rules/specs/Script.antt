@@ -168,14 +168,29 @@ a_silo_a_policy_and_a_grain of words = Err 922
 
 -- ---- What an application asks of its silo.
 
+-- the word that nudges the ranges alone
+abbrev pub ranges_word : List ℕ
+ranges_word = codes "ranges"
+
+-- a word that says of what part a nudge is: of the ranges, or of a grain
+abbrev pub part_word : List ℕ → Result OwnStep ℕ
+part_word part = if bytes_eq part ranges_word then Ok own.NudgeRanges else a_grain own.NudgeGrain (part ∷ [])
+
+-- perhaps such a word; without it the nudge is of all
+abbrev pub a_part : Grammar OwnStep
+a_part [] = Ok own.Nudge
+a_part (part ∷ []) = part_word part
+a_part words = Err 922
+
 -- each such step under its name, with what stands behind the name
 abbrev pub own_steps : List (List ℕ × Grammar OwnStep)
 own_steps =
     (codes "wake", a_grain own.Wake)
     ∷ (codes "close", a_grain own.Close)
+    ∷ (codes "cancel", a_grain own.Cancel)
     ∷ (codes "find", a_grain own.Find)
     ∷ (codes "forget", a_grain own.Forget)
-    ∷ (codes "nudge", no_word own.Nudge)
+    ∷ (codes "nudge", a_part)
     ∷ (codes "offer", a_grain_and_a_silo own.Offer)
     ∷ []
 

@@ -17,9 +17,9 @@ use Rattle.directory_rules.specs.declared.held.Held.{Held}
 use Rattle.directory_rules.specs.declared.held.Phase.{Phase}
 use Rattle.directory_rules.specs.declared.held.Phase.TheVariants.{Asking, Firm, Closing}
 use Rattle.directory_rules.specs.declared.policy.Policy.{Policy}
-use Rattle.directory_rules.specs.Letter.{Letter, kind_of}
-use Rattle.directory_rules.specs.Node.{Node}
-use Rattle.directory_rules.specs.World.{World, current_view, current_ring}
+use Rattle.directory_rules.specs.State.{Letter, Node, World}
+use Rattle.directory_rules.specs.Letter.{kind_of}
+use Rattle.directory_rules.specs.World.{current_view, current_ring}
 use Rattle.directory_rules.specs.Sight.{was_settled, entries_within}
 use Rattle.directory_rules.specs.Placement.{silo_for}
 use Rattle.directory_rules.specs.Happens.{node_of, absent_number}

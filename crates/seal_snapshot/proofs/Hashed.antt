@@ -25,14 +25,21 @@ silo_parts silo mark = simp append_assoc refl
 
 -- and those of an activation's
 pub activation_parts : (activation : ActivationId) (mark : ℕ)
-    → (silo_text activation.silo ++ exclamation_mark ∷ []) ++ (decimal activation.count ++ mark ∷ []) ≡ activation_text activation ++ mark ∷ []
+    → (silo_text activation.silo ++ exclamation_mark ∷ []) ++ (decimal activation.count ++ mark ∷ []) ≡ activation_text activation ++ mark ∷
+    []
 activation_parts activation mark = simp append_assoc refl
 
 -- and those of an address
-pub ip_parts : (ip : List ℕ) (first second third fourth : ℕ) → first ≡ slice_index ip 0 → second ≡ slice_index ip 1 → third ≡ slice_index ip 2 → fourth ≡ slice_index ip 3
-    → (decimal first ++ dot ∷ []) ++ ((decimal second ++ dot ∷ []) ++ ((decimal third ++ dot ∷ []) ++ (decimal fourth ++ colon ∷ []))) ≡ ip_text ip
+pub ip_parts : (ip : List ℕ) (first second third fourth : ℕ) → first ≡ slice_index ip 0 → second ≡ slice_index ip 1
+    → third ≡ slice_index ip 2 → fourth ≡ slice_index ip 3
+    → (decimal first ++ dot ∷ []) ++ ((decimal second ++ dot ∷ []) ++ ((decimal third ++ dot ∷ []) ++ (decimal fourth ++ colon ∷ [])))
+    ≡ ip_text ip
 ip_parts ip first second third fourth one two three four =
-    ap (λ n. (decimal n ++ dot ∷ []) ++ ((decimal second ++ dot ∷ []) ++ ((decimal third ++ dot ∷ []) ++ (decimal fourth ++ colon ∷ [])))) one
-    ∙ ap (λ n. (decimal (slice_index ip 0) ++ dot ∷ []) ++ ((decimal n ++ dot ∷ []) ++ ((decimal third ++ dot ∷ []) ++ (decimal fourth ++ colon ∷ [])))) two
-    ∙ ap (λ n. (decimal (slice_index ip 0) ++ dot ∷ []) ++ ((decimal (slice_index ip 1) ++ dot ∷ []) ++ ((decimal n ++ dot ∷ []) ++ (decimal fourth ++ colon ∷ [])))) three
-    ∙ ap (λ n. (decimal (slice_index ip 0) ++ dot ∷ []) ++ ((decimal (slice_index ip 1) ++ dot ∷ []) ++ ((decimal (slice_index ip 2) ++ dot ∷ []) ++ (decimal n ++ colon ∷ [])))) four
+    ap (λ n. (decimal n ++ dot ∷ []) ++ ((decimal second ++ dot ∷ []) ++ ((decimal third ++ dot ∷ []) ++ (decimal fourth ++ colon ∷ []))))
+    one
+    ∙ ap (λ n. (decimal (slice_index ip 0) ++ dot ∷ []) ++
+    ((decimal n ++ dot ∷ []) ++ ((decimal third ++ dot ∷ []) ++ (decimal fourth ++ colon ∷ [])))) two
+    ∙ ap (λ n. (decimal (slice_index ip 0) ++ dot ∷ []) ++
+    ((decimal (slice_index ip 1) ++ dot ∷ []) ++ ((decimal n ++ dot ∷ []) ++ (decimal fourth ++ colon ∷ [])))) three
+    ∙ ap (λ n. (decimal (slice_index ip 0) ++ dot ∷ []) ++
+    ((decimal (slice_index ip 1) ++ dot ∷ []) ++ ((decimal (slice_index ip 2) ++ dot ∷ []) ++ (decimal n ++ colon ∷ [])))) four

@@ -5,7 +5,7 @@ use Rattle.std.specs.List.Sorted.{IsPartitionedBy}
 use Rattle.std.specs.Prelude.{nat_lt, ◌==◌, ◌&&◌, ◌||◌}
 use Rattle.std.proofs.lemmas.Bool.{and_parts, or_cases, cases_eq, or_right, and_from}
 use Rattle.std.proofs.lemmas.List.Elements.{All-filter, All-append}
-use Rattle.directory_rules.specs.Snapshot.{Snapshot}
+use Rattle.directory_rules.specs.State.{Snapshot}
 use Rattle.directory_rules.proofs.Cases.{on_bool}
 use Rattle.hash_ring.proofs.Members.{In-left, In-right, All-of, All-from_each}
 use Rattle.seal_snapshot.specs.Shelf.{AreInOrder, comes_before, is_before}
@@ -19,7 +19,9 @@ of_before version start s before = by (or_cases (nat_lt s.version version) ((s.v
   where
     by : (nat_lt s.version version ≡ true) ⊎ (((s.version == version) && nat_lt s.range.start start) ≡ true) → IsBefore version start s
     by (inl less) = inl (ltb-true s.version version less)
-    by (inr more) = let parts = and_parts (s.version == version) (nat_lt s.range.start start) more in inr (eqb-true s.version version parts.0, ltb-true s.range.start start parts.1)
+    by (inr more) =
+        let parts = and_parts (s.version == version) (nat_lt s.range.start start) more in
+        inr (eqb-true s.version version parts.0, ltb-true s.range.start start parts.1)
 
 pub before_of : (version start : ℕ) (s : Snapshot) → IsBefore version start s → is_before version start s ≡ true
 before_of version start s (inl less) = ap (λ b. b || ((s.version == version) && nat_lt s.range.start start)) (lt-ltb s.version version less)
@@ -28,8 +30,10 @@ before_of version start s (inr more) =
     (and_from (s.version == version) (nat_lt s.range.start start) (eq-eqb s.version version more.0) (lt-ltb s.range.start start more.1))
 
 -- what comes before what is before a place is before it too
-pub before_both : (version start : ℕ) (a b : Snapshot) → comes_before a b ≡ true → is_before version start b ≡ true → is_before version start a ≡ true
-before_both version start a b one other = before_of version start a (by (of_before b.version b.range.start a one) (of_before version start b other))
+pub before_both : (version start : ℕ) (a b : Snapshot) → comes_before a b ≡ true → is_before version start b ≡ true
+    → is_before version start a ≡ true
+before_both version start a b one other =
+    before_of version start a (by (of_before b.version b.range.start a one) (of_before version start b other))
   where
     by : IsBefore b.version b.range.start a → IsBefore version start b → IsBefore version start a
     by (inl less) (inl below) = inl (omega arith)
@@ -46,7 +50,8 @@ apart a b before version start = by (of_before b.version b.range.start a before)
     by (inr more) = let e = more.1 in omega arith
 
 -- by places
-pub ordered_at : (shelf : List Snapshot) (i k : ℕ) (d : Snapshot) → AreInOrder shelf → i < k → k < length shelf → comes_before (get_or shelf i d) (get_or shelf k d) ≡ true
+pub ordered_at : (shelf : List Snapshot) (i k : ℕ) (d : Snapshot) → AreInOrder shelf → i < k → k < length shelf
+    → comes_before (get_or shelf i d) (get_or shelf k d) ≡ true
 ordered_at [] i k d order above within = absurd (omega arith)
 ordered_at (s ∷ shelf) i zero d order above within = absurd (omega arith)
 ordered_at (s ∷ shelf) zero (suc k) d order above within = order.0 k d (omega arith)
@@ -58,7 +63,8 @@ partitioned version start shelf order i j d least within before = by (cases_eq i
   where
     by : (i ≡ j) ⊎ (i ≡ j → ⊥) → is_before version start (get_or shelf i d) ≡ true
     by (inl same) = ap (λ k. is_before version start (get_or shelf k d)) same ∙ before
-    by (inr other) = before_both version start (get_or shelf i d) (get_or shelf j d) (ordered_at shelf i j d order (least_below other) within) before
+    by (inr other) =
+        before_both version start (get_or shelf i d) (get_or shelf j d) (ordered_at shelf i j d order (least_below other) within) before
       where
         least_below : (i ≡ j → ⊥) → i < j
         least_below other = omega (arith, other)
@@ -71,7 +77,8 @@ in_order-filter p (s ∷ shelf) order =
     (λ t. (All-filter p (λ other. comes_before s other ≡ true) shelf order.0, in_order-filter p shelf order.1))
     (λ f. in_order-filter p shelf order.1)
 
-pub in_order-kept : (p : Snapshot → Bool) (shelf behind : List Snapshot) → AreInOrder (shelf ++ behind) → AreInOrder (filter p shelf ++ behind)
+pub in_order-kept : (p : Snapshot → Bool) (shelf behind : List Snapshot) → AreInOrder (shelf ++ behind)
+    → AreInOrder (filter p shelf ++ behind)
 in_order-kept p [] behind order = order
 in_order-kept p (s ∷ shelf) behind order =
     on_bool (λ b. AreInOrder (cond b (s ∷ filter p shelf) (filter p shelf) ++ behind)) (p s)
@@ -83,5 +90,6 @@ in_order-kept p (s ∷ shelf) behind order =
 
     all : All Behind (filter p shelf ++ behind)
     all = All-append Behind (filter p shelf) behind
-        (All-filter p Behind shelf (All-from_each Behind shelf (λ other there. All-of Behind (shelf ++ behind) other order.0 (In-left other shelf behind there))))
+        (All-filter p Behind shelf (All-from_each Behind shelf
+        (λ other there. All-of Behind (shelf ++ behind) other order.0 (In-left other shelf behind there))))
         (All-from_each Behind behind (λ other there. All-of Behind (shelf ++ behind) other order.0 (In-right other shelf behind there)))

@@ -7,7 +7,8 @@ use Rattle.std.proofs.lemmas.Bool.{and_parts, cases_order, false_from_ne_true}
 use Rattle.std.proofs.lemmas.List.Elements.{All-head, All-tail}
 use Rattle.silo_address.specs.Silo.{Silo, silo_eq}
 use Rattle.ring_range.specs.Range.{Range, range_eq}
-use Rattle.directory_rules.specs.Snapshot.{Snapshot, is_snapshot, shelf_answer, page_from, Has_none, Is_behind}
+use Rattle.directory_rules.specs.State.{Snapshot}
+use Rattle.directory_rules.specs.Snapshot.{is_snapshot, shelf_answer, page_from, Has_none, Is_behind}
 use Rattle.seal_snapshot.specs.Shelf.{AreInOrder, IsAt, comes_before, is_before}
 use Rattle.seal_snapshot.proofs.Order.{apart, ordered_at}
 
@@ -31,15 +32,19 @@ module _ (version : ℕ) (range : Range) (to : Silo) where
       apart a b before (p.0 ∙ sym q.0) (p.1 ∙ sym q.1)
 
   -- ---- where there is one, it is found
-  front_fails : (x : Snapshot) (shelf : List Snapshot) (i : ℕ) → AreInOrder (x ∷ shelf) → i < length shelf → HoldsAt (λ s. test s ≡ true) shelf i → test x ≡ false
-  front_fails x shelf i order within passes = false_from_ne_true (test x) (λ p. never_both x (get_or shelf i x) (order.0 i x within) p (passes x))
+  front_fails : (x : Snapshot) (shelf : List Snapshot) (i : ℕ) → AreInOrder (x ∷ shelf) → i < length shelf
+      → HoldsAt (λ s. test s ≡ true) shelf i → test x ≡ false
+  front_fails x shelf i order within passes =
+      false_from_ne_true (test x) (λ p. never_both x (get_or shelf i x) (order.0 i x within) p (passes x))
 
-  find_at : (shelf : List Snapshot) (i : ℕ) (s : Snapshot) → AreInOrder shelf → i < length shelf → HoldsAt (λ s. test s ≡ true) shelf i → s ≡ get_or shelf i s
+  find_at : (shelf : List Snapshot) (i : ℕ) (s : Snapshot) → AreInOrder shelf → i < length shelf → HoldsAt (λ s. test s ≡ true) shelf i
+      → s ≡ get_or shelf i s
       → find test shelf ≡ Some s
   find_at [] i s order within passes here = absurd (omega arith)
   find_at (x ∷ shelf) zero s order within passes here = ap (λ b. cond b (Some x) (find test shelf)) (passes x) ∙ ap (λ y. Some y) (sym here)
   find_at (x ∷ shelf) (suc i) s order within passes here =
-      ap (λ b. cond b (Some x) (find test shelf)) (front_fails x shelf i order (omega arith) passes) ∙ find_at shelf i s order.1 (omega arith) passes here
+      ap (λ b. cond b (Some x) (find test shelf)) (front_fails x shelf i order (omega arith) passes)
+      ∙ find_at shelf i s order.1 (omega arith) passes here
 
   pub has_at : (shelf : List Snapshot) (i : ℕ) → i < length shelf → HoldsAt (λ s. test s ≡ true) shelf i → list_any test shelf ≡ true
   has_at [] i within passes = absurd (omega arith)
@@ -51,23 +56,27 @@ module _ (version : ℕ) (range : Range) (to : Silo) where
       either false b holds = holds
 
   none_behind : (x : Snapshot) (shelf : List Snapshot) → AreInOrder (x ∷ shelf) → test x ≡ true → All (λ s. test s ≡ false) shelf
-  none_behind x shelf order passes k d within = false_from_ne_true (test (get_or shelf k d)) (λ p. never_both x (get_or shelf k d) (order.0 k d within) passes p)
+  none_behind x shelf order passes k d within =
+      false_from_ne_true (test (get_or shelf k d)) (λ p. never_both x (get_or shelf k d) (order.0 k d within) passes p)
 
   -- ---- where there is none
   find_none : (shelf : List Snapshot) → All (λ s. test s ≡ false) shelf → find test shelf ≡ None
   find_none [] fail = refl
   find_none (x ∷ shelf) fail =
-      ap (λ b. cond b (Some x) (find test shelf)) (All-head (λ s. test s ≡ false) x shelf fail) ∙ find_none shelf (All-tail (λ s. test s ≡ false) x shelf fail)
+      ap (λ b. cond b (Some x) (find test shelf)) (All-head (λ s. test s ≡ false) x shelf fail)
+      ∙ find_none shelf (All-tail (λ s. test s ≡ false) x shelf fail)
 
   pub has_none : (shelf : List Snapshot) → All (λ s. test s ≡ false) shelf → list_any test shelf ≡ false
   has_none [] fail = refl
   has_none (x ∷ shelf) fail =
-      ap (λ b. b || list_any test shelf) (All-head (λ s. test s ≡ false) x shelf fail) ∙ has_none shelf (All-tail (λ s. test s ≡ false) x shelf fail)
+      ap (λ b. b || list_any test shelf) (All-head (λ s. test s ≡ false) x shelf fail)
+      ∙ has_none shelf (All-tail (λ s. test s ≡ false) x shelf fail)
 
   pub without_none : (shelf : List Snapshot) → All (λ s. test s ≡ false) shelf → filter (λ s. not (test s)) shelf ≡ shelf
   without_none [] fail = refl
   without_none (x ∷ shelf) fail =
-      ap (λ b. cond (not b) (x ∷ filter (λ s. not (test s)) shelf) (filter (λ s. not (test s)) shelf)) (All-head (λ s. test s ≡ false) x shelf fail)
+      ap (λ b. cond (not b) (x ∷ filter (λ s. not (test s)) shelf) (filter (λ s. not (test s)) shelf))
+      (All-head (λ s. test s ≡ false) x shelf fail)
       ∙ ap (λ l. x ∷ l) (without_none shelf (All-tail (λ s. test s ≡ false) x shelf fail))
 
   -- ---- it alone is taken out
@@ -75,9 +84,11 @@ module _ (version : ℕ) (range : Range) (to : Silo) where
       → filter (λ s. not (test s)) shelf ≡ take i shelf ++ drop (suc i) shelf
   without_at [] i order within passes = absurd (omega arith)
   without_at (x ∷ shelf) zero order within passes =
-      ap (λ b. cond (not b) (x ∷ filter (λ s. not (test s)) shelf) (filter (λ s. not (test s)) shelf)) (passes x) ∙ without_none shelf (none_behind x shelf order (passes x))
+      ap (λ b. cond (not b) (x ∷ filter (λ s. not (test s)) shelf) (filter (λ s. not (test s)) shelf)) (passes x)
+      ∙ without_none shelf (none_behind x shelf order (passes x))
   without_at (x ∷ shelf) (suc i) order within passes =
-      ap (λ b. cond (not b) (x ∷ filter (λ s. not (test s)) shelf) (filter (λ s. not (test s)) shelf)) (front_fails x shelf i order (omega arith) passes)
+      ap (λ b. cond (not b) (x ∷ filter (λ s. not (test s)) shelf) (filter (λ s. not (test s)) shelf))
+      (front_fails x shelf i order (omega arith) passes)
       ∙ ap (λ l. x ∷ l) (without_at shelf i order.1 (omega arith) passes)
 
   -- ---- a search that misses
@@ -103,19 +114,26 @@ module _ (version : ℕ) (range : Range) (to : Silo) where
       by (inr (inl below)) = false_from_ne_true (test (get_or shelf k d)) (λ passes. itself passes (split.0 k d (omega arith) below))
       by (inr (inr above)) =
           false_from_ne_true (test (get_or shelf k d)) (λ passes.
-          clash (is_before version range.start (get_or shelf i d)) (sym (placed passes (get_or shelf i d)) ∙ ordered_at shelf i k d order above within) (split.1 i d (omega arith) (omega arith)))
+          clash (is_before version range.start (get_or shelf i d))
+          (sym (placed passes (get_or shelf i d)) ∙ ordered_at shelf i k d order above within)
+          (split.1 i d (omega arith) (omega arith)))
 
 -- ---- what is answered once the version was seen
-answer_seen : (shelf : List Snapshot) (seen version : ℕ) (range : Range) (asker : Silo) (page : ℕ) (found : Option Snapshot) → version ≤ seen
+answer_seen : (shelf : List Snapshot) (seen version : ℕ) (range : Range) (asker : Silo) (page : ℕ) (found : Option Snapshot)
+    → version ≤ seen
     → find (is_snapshot version range asker) shelf ≡ found → shelf_answer shelf seen version range asker page ≡ page_from found page
 answer_seen shelf seen version range asker page found new found_is =
-    ap (λ b. cond b Is_behind (page_from (find (is_snapshot version range asker) shelf) page)) (le-ltb seen version new) ∙ ap (λ o. page_from o page) found_is
+    ap (λ b. cond b Is_behind (page_from (find (is_snapshot version range asker) shelf) page)) (le-ltb seen version new)
+    ∙ ap (λ o. page_from o page) found_is
 
-pub answer_found : (shelf : List Snapshot) (seen version : ℕ) (range : Range) (asker : Silo) (page i : ℕ) (s : Snapshot) → AreInOrder shelf → version ≤ seen
-    → IsAt (is_snapshot version range asker) shelf i → s ≡ get_or shelf i s → shelf_answer shelf seen version range asker page ≡ page_from (Some s) page
+pub answer_found : (shelf : List Snapshot) (seen version : ℕ) (range : Range) (asker : Silo) (page i : ℕ) (s : Snapshot) → AreInOrder shelf
+    → version ≤ seen
+    → IsAt (is_snapshot version range asker) shelf i → s ≡ get_or shelf i s
+    → shelf_answer shelf seen version range asker page ≡ page_from (Some s) page
 answer_found shelf seen version range asker page i s order new at here =
     answer_seen shelf seen version range asker page (Some s) new (find_at version range asker shelf i s order at.within at.passes here)
 
 pub answer_missing : (shelf : List Snapshot) (seen version : ℕ) (range : Range) (asker : Silo) (page : ℕ) → version ≤ seen
     → All (λ s. is_snapshot version range asker s ≡ false) shelf → shelf_answer shelf seen version range asker page ≡ Has_none
-answer_missing shelf seen version range asker page new fail = answer_seen shelf seen version range asker page None new (find_none version range asker shelf fail)
+answer_missing shelf seen version range asker page new fail =
+    answer_seen shelf seen version range asker page None new (find_none version range asker shelf fail)

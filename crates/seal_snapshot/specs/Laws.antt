@@ -4,9 +4,8 @@ use Rattle.silo_address.specs.Silo.{Silo}
 use Rattle.membership_view.specs.View.{ViewValue}
 use Rattle.hash_ring.specs.declared.Hashing.{Hashing}
 use Rattle.range_moves.specs.declared.RingArc.{RingArc}
-use Rattle.directory_rules.specs.Piece.{Piece}
+use Rattle.directory_rules.specs.State.{Piece, Snapshot}
 use Rattle.directory_rules.specs.Sight.{sealed}
-use Rattle.directory_rules.specs.Snapshot.{Snapshot}
 use Rattle.seal_snapshot.specs.Shelf.{AreInOrder}
 
 -- what is sealed of arcs that come one after the other, at a version above all that is kept, comes behind the shelf

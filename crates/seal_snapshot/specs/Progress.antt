@@ -1,6 +1,7 @@
 -- What comes of a page, as its taker is told.
 use Rattle.std.specs.Prelude.{◌≡◌, ℕ, Result, Ok, Err, IsSomeAnd, IsOk, MatchOption}
-use Rattle.directory_rules.specs.Gatherings.{Gathering, Gathered, Wants_page, Has_all, Refuses}
+use Rattle.directory_rules.specs.State.{Gathering}
+use Rattle.directory_rules.specs.Gatherings.{Gathered, Wants_page, Has_all, Refuses}
 use Rattle.seal_snapshot.specs.declared.error.GatheringError.{GatheringError}
 use Rattle.seal_snapshot.specs.declared.progress.GatheringProgress.{GatheringProgress}
 use Rattle.seal_snapshot.specs.declared.progress.GatheringProgress.TheVariants.{More, Complete}

@@ -2,7 +2,8 @@
 -- begin.
 use Rattle.std.specs.Prelude.{◌≡◌, ◌==◌, ◌&&◌, ◌||◌, nat_lt, ℕ, ◌<◌, Bool, true, List, [], ◌∷◌, All, ⊤, length, slice_index_or, ◌-◌}
 use Rattle.std.specs.List.{HoldsAt}
-use Rattle.directory_rules.specs.Snapshot.{Snapshot, ShelfAnswer as Answer, Hands_page, Has_none, Is_behind}
+use Rattle.directory_rules.specs.State.{Snapshot}
+use Rattle.directory_rules.specs.Snapshot.{ShelfAnswer as Answer, Hands_page, Has_none, Is_behind}
 use Rattle.seal_snapshot.specs.declared.shelf_answer.ShelfAnswer.{ShelfAnswer}
 use Rattle.seal_snapshot.specs.declared.shelf_answer.ShelfAnswer.TheVariants.{Page, Missing, Behind}
 

@@ -1,8 +1,8 @@
 -- Steps of private functions: a page that is wanted, and one that isn't.
 use Rattle.std.specs.Prelude.{◌≡◌, ◌==◌, ◌&&◌, Bool, true, false}
 use Rattle.ring_range.specs.Range.{range_eq}
-use Rattle.directory_rules.specs.Snapshot.{Page}
-use Rattle.directory_rules.specs.Gatherings.{Gathering, is_in_turn}
+use Rattle.directory_rules.specs.State.{Page, Gathering}
+use Rattle.directory_rules.specs.Gatherings.{is_in_turn}
 use Rattle.seal_snapshot.specs.declared.error.GatheringError.{GatheringError}
 use Rattle.seal_snapshot.specs.declared.error.GatheringError.TheVariants as fault
 

@@ -33,7 +33,7 @@ pub struct Gathering {
 impl Model for Gathering {
     ghost use Rattle.std.specs.Prelude.{flat_map};
     ghost use Rattle.sha2.specs.Hashers.{Holds256};
-    ghost use Rattle.directory_rules.specs.Gatherings.{Gathering as GatheringValue};
+    ghost use Rattle.directory_rules.specs.State.{Gathering as GatheringValue};
     ghost use Rattle.directory_rules.specs.Snapshot.{digest_line};
     ghost use Rattle.seal_snapshot.specs.GatheringModel.{whole_of};
 

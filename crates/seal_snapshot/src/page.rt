@@ -17,7 +17,7 @@ pub struct Page {
 }
 
 impl Model for Page {
-    ghost use Rattle.directory_rules.specs.Snapshot.{Page as PageValue};
+    ghost use Rattle.directory_rules.specs.State.{Page as PageValue};
 
     ghost Value = { PageValue };
 

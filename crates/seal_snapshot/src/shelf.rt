@@ -22,7 +22,7 @@ pub struct Shelf {
 
 impl Model for Shelf {
     ghost use Rattle.std.specs.Prelude.{List};
-    ghost use Rattle.directory_rules.specs.Snapshot.{Snapshot as SnapshotValue};
+    ghost use Rattle.directory_rules.specs.State.{Snapshot as SnapshotValue};
     ghost use Rattle.seal_snapshot.specs.Shelf.{AreInOrder};
 
     ghost Value = { List SnapshotValue };

@@ -28,7 +28,8 @@ pub struct Snapshot {
 
 impl Model for Snapshot {
     ghost use Rattle.std.specs.Prelude.{◌≡◌};
-    ghost use Rattle.directory_rules.specs.Snapshot.{Snapshot as SnapshotValue, digest_of};
+    ghost use Rattle.directory_rules.specs.State.{Snapshot as SnapshotValue};
+    ghost use Rattle.directory_rules.specs.Snapshot.{digest_of};
 
     ghost Value = { SnapshotValue };
 

@@ -41,7 +41,8 @@ pub record BeginsWith (bytes : List ℕ) (end number : ℕ) : Type 0 where
 pub no_digits : (bytes : List ℕ) → BeginsWith bytes 0 0
 no_digits bytes = record { within = omega arith; digits = λ k below. absurd (omega arith); value = refl }
 
-pub digit_more : (bytes : List ℕ) (end value digit : ℕ) → BeginsWith bytes end value → IsDigitAt bytes end → digit ≡ get_or bytes end 0 - 48 → BeginsWith bytes (end + 1) (value * 10 + digit)
+pub digit_more : (bytes : List ℕ) (end value digit : ℕ) → BeginsWith bytes end value → IsDigitAt bytes end → digit ≡ get_or bytes end 0 - 48
+    → BeginsWith bytes (end + 1) (value * 10 + digit)
 digit_more bytes end value digit begins at is =
     let inside = at.0 in
     let more = digits_value_more 10 bytes end inside in
@@ -60,10 +61,12 @@ digit_within bytes position at = (digit_from_test _ at.1).1
 
 front_end_is : (bytes : List ℕ) (end value : ℕ) → BeginsWith bytes end value → ¬ (IsDigitAt bytes end) → front_end bytes ≡ end
 front_end_is bytes end value begins stops =
-    position_or_len_is is_other bytes end 0 begins.within begins.digits (λ inside. true_from_not (is_other (get_or bytes end 0)) (λ digit. stops (inside, digit)))
+    position_or_len_is is_other bytes end 0 begins.within begins.digits
+    (λ inside. true_from_not (is_other (get_or bytes end 0)) (λ digit. stops (inside, digit)))
 
 -- They are all the digits at the front where no other follows.
-pub front_found : (bytes : List ℕ) (end value most : ℕ) → BeginsWith bytes end value → ¬ (IsDigitAt bytes end) → value ≤ most → (front_value bytes ≤ most) × (◌≡◌ {A = ℕ × ℕ} (value, end) (front_value bytes, front_end bytes))
+pub front_found : (bytes : List ℕ) (end value most : ℕ) → BeginsWith bytes end value → ¬ (IsDigitAt bytes end) → value ≤ most
+    → (front_value bytes ≤ most) × (◌≡◌ {A = ℕ × ℕ} (value, end) (front_value bytes, front_end bytes))
 front_found bytes end value most begins stops at_most =
     let at = front_end_is bytes end value begins stops in
     let same : value ≡ front_value bytes = begins.value ∙ ap (λ n. numeral_value (take n bytes)) (sym at) in
@@ -76,7 +79,8 @@ stops_in_digits bytes end within digits before =
     cc
 
 past_digits : (bytes : List ℕ) (end : ℕ) → end ≤ length bytes → AreDigits bytes end → end ≤ front_end bytes
-past_digits bytes end within digits = elim (cases_lt (front_end bytes) end) [ inl before ↦ absurd (stops_in_digits bytes end within digits before) | inr behind ↦ behind ]
+past_digits bytes end within digits =
+    elim (cases_lt (front_end bytes) end) [ inl before ↦ absurd (stops_in_digits bytes end within digits before) | inr behind ↦ behind ]
 
 -- Where some of the digits write more than `most`, all of them do.
 pub front_large : (bytes : List ℕ) (end value most : ℕ) → BeginsWith bytes end value → most < value → ¬ (front_value bytes ≤ most)
@@ -93,16 +97,20 @@ length-front_digits : (bytes : List ℕ) → length (front_digits bytes) ≡ fro
 length-front_digits bytes = length-take-le (front_end bytes) bytes (front_within bytes)
 
 -- The digits at the front are a numeral, if there are some, and no zero leads them.
-pub front_is_numeral : (bytes : List ℕ) → 0 < front_end bytes → (get_or bytes 0 0 ≡ 48 → front_end bytes ≤ 1) → IsNumeral (front_digits bytes)
+pub front_is_numeral : (bytes : List ℕ) → 0 < front_end bytes → (get_or bytes 0 0 ≡ 48 → front_end bytes ≤ 1)
+    → IsNumeral (front_digits bytes)
 front_is_numeral bytes some shortest =
     let long = length-front_digits bytes in
     record {
       some = omega arith;
-      digits = λ k d below. rw (get_or-take (front_end bytes) bytes k d (omega arith)) (digit_from_test _ (fails_before_first is_other bytes k d (omega arith)));
+      digits =
+          λ k d below. rw (get_or-take (front_end bytes) bytes k d (omega arith))
+          (digit_from_test _ (fails_before_first is_other bytes k d (omega arith)));
       shortest = λ zero. let few = shortest (sym (get_or-take (front_end bytes) bytes 0 0 some) ∙ zero) in omega arith;
     }
 
-pub first_found : (bytes : List ℕ) (end value most : ℕ) → BeginsWith bytes end value → ¬ (IsDigitAt bytes end) → value ≤ most → 0 < end → (get_or bytes 0 0 ≡ 48 → end ≤ 1)
+pub first_found : (bytes : List ℕ) (end value most : ℕ) → BeginsWith bytes end value → ¬ (IsDigitAt bytes end) → value ≤ most → 0 < end
+    → (get_or bytes 0 0 ≡ 48 → end ≤ 1)
     → IsNumberFirst most bytes × (◌≡◌ {A = ℕ × ℕ} (value, end) (front_value bytes, front_end bytes))
 first_found bytes end value most begins stops at_most some shortest =
     let at = front_end_is bytes end value begins stops in
@@ -110,14 +118,16 @@ first_found bytes end value most begins stops at_most some shortest =
     (record { numeral = front_is_numeral bytes (omega arith) (λ zero. let few = shortest zero in omega arith); within = found.0 }, found.1)
 
 -- A text that is cut behind its first number.
-pub number_and_rest : (bytes : List ℕ) (mark most : ℕ) → most < 2 ^ 64 → IsNumberFirst most bytes → front_end bytes < length bytes → get_or bytes (front_end bytes) 0 ≡ mark
+pub number_and_rest : (bytes : List ℕ) (mark most : ℕ) → most < 2 ^ 64 → IsNumberFirst most bytes → front_end bytes < length bytes
+    → get_or bytes (front_end bytes) 0 ≡ mark
     → bytes ≡ decimal (front_value bytes) ++ mark ∷ drop (front_end bytes + 1) bytes
 number_and_rest bytes mark most small first inside at =
     let within = first.within in
     let spelled = decimal-numeral_value (front_digits bytes) first.numeral (omega arith) in
     split_at_first is_other bytes 0 inside ∙ (λ i. sym spelled i ++ at i ∷ drop (front_end bytes + 1) bytes)
 
-pub number_alone : (bytes : List ℕ) (most : ℕ) → most < 2 ^ 64 → IsNumberFirst most bytes → front_end bytes ≡ length bytes → bytes ≡ decimal (front_value bytes)
+pub number_alone : (bytes : List ℕ) (most : ℕ) → most < 2 ^ 64 → IsNumberFirst most bytes → front_end bytes ≡ length bytes
+    → bytes ≡ decimal (front_value bytes)
 number_alone bytes most small first ends =
     let within = first.within in
     let spelled = decimal-numeral_value (front_digits bytes) first.numeral (omega arith) in
@@ -134,7 +144,8 @@ pub record GoesOn (most : ℕ) (bytes : List ℕ) (number mark : ℕ) (rest : Li
 written_digits : (number : ℕ) → number < 2 ^ 64 → All (λ byte. is_other byte ≡ false) (decimal number)
 written_digits number small = λ k d below. test_from_digit _ ((decimal_is_numeral number small).digits k d below)
 
-goes_on_at : (most number mark : ℕ) (rest : List ℕ) → most < 2 ^ 64 → is_other mark ≡ true → number ≤ most → GoesOn most (decimal number ++ mark ∷ rest) number mark rest
+goes_on_at : (most number mark : ℕ) (rest : List ℕ) → most < 2 ^ 64 → is_other mark ≡ true → number ≤ most
+    → GoesOn most (decimal number ++ mark ∷ rest) number mark rest
 goes_on_at most number mark rest small other at_most =
     let below : number < 2 ^ 64 = omega arith in
     let cut : IsCutAt is_other (decimal number) mark = record { fails = written_digits number below; ends = other } in
@@ -150,7 +161,8 @@ goes_on_at most number mark rest small other at_most =
       after = after_first-cut is_other (decimal number) mark rest cut;
     }
 
-pub goes_on : (most number mark : ℕ) (bytes rest : List ℕ) → most < 2 ^ 64 → is_other mark ≡ true → number ≤ most → bytes ≡ decimal number ++ mark ∷ rest → GoesOn most bytes number mark rest
+pub goes_on : (most number mark : ℕ) (bytes rest : List ℕ) → most < 2 ^ 64 → is_other mark ≡ true → number ≤ most
+    → bytes ≡ decimal number ++ mark ∷ rest → GoesOn most bytes number mark rest
 goes_on most number mark bytes rest small other at_most is =
     subst (λ text. GoesOn most text number mark rest) (sym is) (goes_on_at most number mark rest small other at_most)
 
@@ -174,4 +186,5 @@ ends_there_at most number small at_most =
     }
 
 pub ends_there : (most number : ℕ) (bytes : List ℕ) → most < 2 ^ 64 → number ≤ most → bytes ≡ decimal number → EndsThere most bytes number
-ends_there most number bytes small at_most is = subst (λ text. EndsThere most text number) (sym is) (ends_there_at most number small at_most)
+ends_there most number bytes small at_most is =
+    subst (λ text. EndsThere most text number) (sym is) (ends_there_at most number small at_most)

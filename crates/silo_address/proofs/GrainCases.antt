@@ -50,7 +50,9 @@ is_cut_takes bytes tested =
     let fails = front_fails is_slash bytes (omega arith) in
     let ends = passes_at_first is_slash bytes 0 inside in
     record {
-      text = split_at_first is_slash bytes 0 inside ∙ ap (λ byte. before_first is_slash bytes ++ byte ∷ after_first is_slash bytes) (eqb-true _ _ ends);
+      text =
+          split_at_first is_slash bytes 0 inside ∙ ap (λ byte. before_first is_slash bytes ++ byte ∷ after_first is_slash bytes)
+          (eqb-true _ _ ends);
       cut = record {
         some_kind = omega arith;
         some_key = ltb-true _ _ last;
@@ -66,7 +68,8 @@ Decides-nat_le a b = grind (arith, nat_tests)
 
 pub Decides-is_short_enough : (grain : Grain) → Decides (is_short_enough grain) (IsShortEnough grain)
 Decides-is_short_enough grain =
-    Decides-like _ (λ p. record { kind = p.0; key = p.1 }) (λ s. (s.kind, s.key)) (Decides-and _ _ (Decides-nat_le (length grain.kind) 64) (Decides-nat_le (length grain.key) 128))
+    Decides-like _ (λ p. record { kind = p.0; key = p.1 }) (λ s. (s.kind, s.key))
+    (Decides-and _ _ (Decides-nat_le (length grain.kind) 64) (Decides-nat_le (length grain.key) 128))
 
 Decides-is_visible : (byte : ℕ) → Decides (is_visible byte) (IsVisible byte)
 Decides-is_visible byte = grind (arith, nat_tests)
@@ -82,7 +85,8 @@ pub record ReadingCases (text : List ℕ) (P : Result Grain GrainError → Type 
   grain : (grain : Grain) → IsCutInto text grain → IsShortEnough grain → All IsVisible text → P (Ok grain)
 
 by_cut : (text : List ℕ) (P : Result Grain GrainError → Type 0) → ReadingCases text P → IsCutInto text (grain_at_slash text)
-    → IsShortEnough (grain_at_slash text) ⊎ ¬ (IsShortEnough (grain_at_slash text)) → All IsVisible text ⊎ ¬ (All IsVisible text) → P (grain_within text)
+    → IsShortEnough (grain_at_slash text) ⊎ ¬ (IsShortEnough (grain_at_slash text)) → All IsVisible text ⊎ ¬ (All IsVisible text)
+    → P (grain_within text)
 by_cut text P cases into (inr long) visible =
     let no = false_from_not _ (Decides-is_short_enough (grain_at_slash text)) long in
     rw no (cases.too_long _ into long)
@@ -95,14 +99,16 @@ by_cut text P cases into (inl short) (inl visible) =
     let all = (Decides-all_visible text).1 visible in
     rw (yes, all) (cases.grain _ into short visible)
 
-by_shape : (text : List ℕ) (P : Result Grain GrainError → Type 0) → ReadingCases text P → HasGrainShape text ⊎ ¬ (HasGrainShape text) → P (read_grain text)
+by_shape : (text : List ℕ) (P : Result Grain GrainError → Type 0) → ReadingCases text P → HasGrainShape text ⊎ ¬ (HasGrainShape text)
+    → P (read_grain text)
 unfolding read_grain
 by_shape text P cases (inr none) =
     let no = false_from_not _ (Decides-is_cut text) none in
     rw no (cases.shape none)
 by_shape text P cases (inl some) =
     let yes = is_cut_again text some.0 some.1 in
-    rw yes (by_cut text P cases (is_cut_takes text yes) (decided _ (Decides-is_short_enough (grain_at_slash text))) (decided _ (Decides-all_visible text)))
+    rw yes (by_cut text P cases (is_cut_takes text yes) (decided _ (Decides-is_short_enough (grain_at_slash text)))
+    (decided _ (Decides-all_visible text)))
 
 pub read_grain_cases : (text : List ℕ) (P : Result Grain GrainError → Type 0) → ReadingCases text P → P (read_grain text)
 read_grain_cases text P cases = by_shape text P cases (decided _ (Decides-is_cut text))

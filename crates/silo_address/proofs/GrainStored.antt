@@ -24,7 +24,8 @@ pub record IsStored (kind_len : ℕ) (bytes kept : List ℕ) : Type 0 where
   pub visible : All IsVisible bytes
   pub array : kept ≡ bytes ++ replicate (193 - length bytes) 0
 
-grain_in_stored : (kind_len : ℕ) (bytes array : List ℕ) → IsStored kind_len bytes array → grain_in (stored kind_len bytes array) ≡ grain_at_slash bytes
+grain_in_stored : (kind_len : ℕ) (bytes array : List ℕ) → IsStored kind_len bytes array
+    → grain_in (stored kind_len bytes array) ≡ grain_at_slash bytes
 grain_in_stored kind_len bytes array is =
     let front : take (length bytes) array ≡ bytes = ap (take (length bytes)) is.array ∙ take-append_seam bytes _ in
     let kind : take kind_len array ≡ before_first is_slash bytes =
@@ -41,19 +42,26 @@ stored_holds kind_len bytes array is =
     let array = sym is.array in
     let long : length (before_first is_slash bytes) ≡ kind_len = ap (λ n. length (take n bytes)) (sym is.kind) ∙ length-take-le kind_len bytes is.kind_within in
     record {
-      is_grain = subst IsGrain (sym same) (record { cut = into.cut; short_enough = is.short; visible = subst (All IsVisible) into.text is.visible });
+      is_grain =
+          subst IsGrain (sym same) (record {
+            cut = into.cut;
+            short_enough = is.short;
+            visible = subst (All IsVisible) into.text is.visible;
+          });
       exact = ap fields_of same
           ∙ (λ i. record { kind_len = long i; text_len = length (text i); text = text i ++ replicate (193 - length (text i)) 0 })
           ∙ (λ i. record { kind_len = kind_len; text_len = length bytes; text = array i });
     }
 
-pub stored_within : (kind_len : ℕ) (bytes array : List ℕ) → IsStored kind_len bytes array → Ok (grain_in (stored kind_len bytes array)) ≡ grain_within bytes
+pub stored_within : (kind_len : ℕ) (bytes array : List ℕ) → IsStored kind_len bytes array
+    → Ok (grain_in (stored kind_len bytes array)) ≡ grain_within bytes
 stored_within kind_len bytes array is = ap Ok (grain_in_stored kind_len bytes array is) ∙ sym (within_grain bytes is.short is.visible)
 
 pub cut_within : (bytes : List ℕ) → is_cut bytes ≡ true → position_or_len is_slash bytes < length bytes
 cut_within bytes tested = ltb-true _ _ (both _ _ (both _ _ tested).0).1
 
-pub short_sides : (kind_len : ℕ) (bytes : List ℕ) → is_cut bytes ≡ true → kind_len ≡ position_or_len is_slash bytes → kind_len ≤ 64 → length bytes - kind_len - 1 ≤ 128
+pub short_sides : (kind_len : ℕ) (bytes : List ℕ) → is_cut bytes ≡ true → kind_len ≡ position_or_len is_slash bytes → kind_len ≤ 64
+    → length bytes - kind_len - 1 ≤ 128
     → IsShortEnough (grain_at_slash bytes)
 short_sides kind_len bytes tested is kind key =
     let within = cut_within bytes tested in

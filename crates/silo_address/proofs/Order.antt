@@ -13,7 +13,9 @@ use Rattle.silo_address.specs.Activation.{activation_cmp, entry_cmp}
 use Rattle.silo_address.proofs.Same.{same_silo, same_grain, same_activation, same_entry}
 
 pub silo_cmp_total : IsTotalOrder silo_cmp
-silo_cmp_total = then_total (on_total (λ s. s.ip) nat_list_cmp_total) (then_total (on_total (λ s. s.port) nat_cmp_total) (on_total (λ s. s.generation) nat_cmp_total))
+silo_cmp_total =
+    then_total (on_total (λ s. s.ip) nat_list_cmp_total)
+    (then_total (on_total (λ s. s.port) nat_cmp_total) (on_total (λ s. s.generation) nat_cmp_total))
 
 pub grain_cmp_total : IsTotalOrder grain_cmp
 grain_cmp_total = then_total (on_total (λ g. g.kind) nat_list_cmp_total) (on_total (λ g. g.key) nat_list_cmp_total)

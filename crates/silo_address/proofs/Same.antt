@@ -57,6 +57,8 @@ Decides-entry a b =
     (Decides-and _ _ (Decides-grain a.grain b.grain) (Decides-activation a.activation b.activation))
 
 -- What tells whether two endpoints are one.
-pub Decides-endpoint : (same : Bool) (ip other_ip : List ℕ) (port other_port : ℕ) → same ≡ (pointwise ◌==◌ ip other_ip && (port == other_port)) → Decides same ((ip ≡ other_ip) × (port ≡ other_port))
+pub Decides-endpoint : (same : Bool) (ip other_ip : List ℕ) (port other_port : ℕ)
+    → same ≡ (pointwise ◌==◌ ip other_ip && (port == other_port)) → Decides same ((ip ≡ other_ip) × (port ≡ other_port))
 Decides-endpoint same ip other_ip port other_port is =
-    subst (λ b. Decides b ((ip ≡ other_ip) × (port ≡ other_port))) (sym is) (Decides-and _ _ (bytes_eq-Decides ip other_ip) (Decides-eqb port other_port))
+    subst (λ b. Decides b ((ip ≡ other_ip) × (port ≡ other_port))) (sym is)
+    (Decides-and _ _ (bytes_eq-Decides ip other_ip) (Decides-eqb port other_port))

@@ -12,7 +12,8 @@ use Rattle.silo_address.proofs.SiloLaws.{Decides-are_numerals, Decides-is_silo, 
 -- A text has one list of words.
 one_words : (text : List ℕ) (a b : Words) → HasWords text a → HasWords text b → a ≡ b
 one_words text a b has_a has_b =
-    words_in_some (sym (ap silo_words has_a.text ∙ silo_words_again a has_a.each) ∙ (ap silo_words has_b.text ∙ silo_words_again b has_b.each))
+    words_in_some (sym (ap silo_words has_a.text ∙ silo_words_again a has_a.each)
+    ∙ (ap silo_words has_b.text ∙ silo_words_again b has_b.each))
 
 -- What a reading is in each of the four cases.
 pub record ReadingCases (text : List ℕ) (P : Result Silo SiloError → Type 0) : Type 0 where
@@ -21,12 +22,16 @@ pub record ReadingCases (text : List ℕ) (P : Result Silo SiloError → Type 0)
   out_of_range : (words : Words) → HasWords text words → AreNumerals words → ¬ (IsSilo (silo_of words)) → P (Err OutOfRange)
   silo : (words : Words) → HasWords text words → AreNumerals words → IsSilo (silo_of words) → P (Ok (silo_of words))
 
-by_words : (text : List ℕ) (P : Result Silo SiloError → Type 0) → ReadingCases text P → (words : Words) → HasWords text words → AreNumerals words ⊎ ¬ (AreNumerals words) → IsSilo (silo_of words) ⊎ ¬ (IsSilo (silo_of words)) → P (silo_by_words (Some words))
+by_words : (text : List ℕ) (P : Result Silo SiloError → Type 0) → ReadingCases text P → (words : Words) → HasWords text words
+    → AreNumerals words ⊎ ¬ (AreNumerals words) → IsSilo (silo_of words) ⊎ ¬ (IsSilo (silo_of words)) → P (silo_by_words (Some words))
 by_words text P cases words has (inr other) silo = subst P (sym (silo_by_words_other words other)) (cases.not_a_number words has other)
-by_words text P cases words has (inl numerals) (inr outside) = subst P (sym (silo_by_words_large words numerals outside)) (cases.out_of_range words has numerals outside)
-by_words text P cases words has (inl numerals) (inl silo) = subst P (sym (silo_by_words_silo words numerals silo)) (cases.silo words has numerals silo)
+by_words text P cases words has (inl numerals) (inr outside) =
+    subst P (sym (silo_by_words_large words numerals outside)) (cases.out_of_range words has numerals outside)
+by_words text P cases words has (inl numerals) (inl silo) =
+    subst P (sym (silo_by_words_silo words numerals silo)) (cases.silo words has numerals silo)
 
-by_text : (text : List ℕ) (P : Result Silo SiloError → Type 0) → ReadingCases text P → (seen : Option Words) → silo_words text ≡ seen → P (read_silo text)
+by_text : (text : List ℕ) (P : Result Silo SiloError → Type 0) → ReadingCases text P → (seen : Option Words) → silo_words text ≡ seen
+    → P (read_silo text)
 by_text text P cases None is = subst P (sym (read_silo_none text is)) (cases.shape (λ has. has_no_words text has.0 is has.1))
 by_text text P cases (Some words) is =
     let has = silo_words_takes text words is in
@@ -67,7 +72,8 @@ pub silo_not_a_number : (text : List ℕ) → IsErrOf (read_silo text) NotANumbe
 silo_not_a_number text = read_silo_cases text (λ r. IsErrOf r NotANumber ↔ IsUnread text) (record {
   shape = λ none. (λ e. cc, λ some. absurd (none (some.0, some.1)));
   not_a_number = λ words has other. (λ _. (words, has, other), λ _. refl);
-  out_of_range = λ words has numerals _. (λ e. cc, λ some. absurd (some.2 (subst AreNumerals (one_words text words some.0 has some.1) numerals)));
+  out_of_range =
+      λ words has numerals _. (λ e. cc, λ some. absurd (some.2 (subst AreNumerals (one_words text words some.0 has some.1) numerals)));
   silo = λ words has numerals _. (λ e. cc, λ some. absurd (some.2 (subst AreNumerals (one_words text words some.0 has some.1) numerals)));
 })
 
@@ -79,17 +85,25 @@ silo_out_of_range text = read_silo_cases text (λ r. IsErrOf r OutOfRange ↔ Is
   shape = λ none. (λ e. cc, λ some. absurd (none (some.0, some.1)));
   not_a_number = λ words has other. (λ e. cc, λ some. absurd (other (subst AreNumerals (one_words text some.0 words some.1 has) some.2)));
   out_of_range = λ words has numerals outside. (λ _. (words, has, numerals, outside), λ _. refl);
-  silo = λ words has _ silo. (λ e. cc, λ some. absurd (some.3 (subst (λ (w : Words). IsSilo (silo_of w)) (one_words text words some.0 has some.1) silo)));
+  silo =
+      λ words has _ silo. (
+        λ e. cc,
+        λ some. absurd (some.3
+            (subst (λ (w : Words). IsSilo (silo_of w)) (one_words text words some.0 has some.1) silo)),
+      );
 })
 
 -- What the reading answers where the text is no silo's.
-pub read_silo_outside : (text : List ℕ) (words : Words) → silo_words text ≡ Some words → AreNumerals words → ((silo : Silo) → IsSilo silo → ¬ (text ≡ silo_text silo)) → read_silo text ≡ Err OutOfRange
+pub read_silo_outside : (text : List ℕ) (words : Words) → silo_words text ≡ Some words → AreNumerals words
+    → ((silo : Silo) → IsSilo silo → ¬ (text ≡ silo_text silo)) → read_silo text ≡ Err OutOfRange
 read_silo_outside text words is numerals none =
     let has = silo_words_takes text words is in
     read_silo_words text words has
-    ∙ silo_by_words_large words numerals (λ silo. none (silo_of words) silo (has.text ∙ ap words_text (sym (words_of-silo_of words numerals silo))))
+    ∙ silo_by_words_large words numerals (λ silo. none (silo_of words) silo
+    (has.text ∙ ap words_text (sym (words_of-silo_of words numerals silo))))
 
-pub read_silo_other : (text : List ℕ) (words : Words) → silo_words text ≡ Some words → ¬ (AreNumerals words) → read_silo text ≡ Err NotANumber
+pub read_silo_other : (text : List ℕ) (words : Words) → silo_words text ≡ Some words → ¬ (AreNumerals words)
+    → read_silo text ≡ Err NotANumber
 read_silo_other text words is other = read_silo_words text words (silo_words_takes text words is) ∙ silo_by_words_other words other
 
 -- All the clauses of a result that is the reading.

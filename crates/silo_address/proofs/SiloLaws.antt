@@ -21,11 +21,13 @@ use Rattle.texts.proofs.Decided.{both, false_from_not}
 use Rattle.texts.proofs.NumeralLaws.{Decides-is_numeral, decimal-numeral_value, numeral_value-decimal, decimal_is_numeral}
 
 -- a chain that gives something gave something at each step
-pub chain_gave : {A B : Type 0} (first : Option A) (next : A → Option B) (b : B) → (first >>= next) ≡ Some b → (a : A) × (first ≡ Some a) × (next a ≡ Some b)
+pub chain_gave : {A B : Type 0} (first : Option A) (next : A → Option B) (b : B) → (first >>= next) ≡ Some b
+    → (a : A) × (first ≡ Some a) × (next a ≡ Some b)
 chain_gave None next b gives = absurd (let none : None ≡ Some b = gives in cc)
 chain_gave (Some a) next b gives = (a, refl, gives)
 
-pub word_before_again : (mark : ℕ) (word rest : List ℕ) → IsWord word → is_mark mark ≡ true → word_before mark (word ++ mark ∷ rest) ≡ Some (word, rest)
+pub word_before_again : (mark : ℕ) (word rest : List ℕ) → IsWord word → is_mark mark ≡ true
+    → word_before mark (word ++ mark ∷ rest) ≡ Some (word, rest)
 word_before_again mark word rest is_word marks =
     let cut : IsCutAt is_mark word mark = record { fails = is_word.no_mark; ends = marks } in
     let end = position-cut is_mark word mark rest cut in
@@ -39,12 +41,14 @@ word_before_again mark word rest is_word marks =
     rw (front, back, end, some, inside, ends, same) refl
 
 -- what stands before the first mark
-front_is_word : (bytes : List ℕ) → 0 < position_or_len is_mark bytes → position_or_len is_mark bytes ≤ length bytes → IsWord (before_first is_mark bytes)
+front_is_word : (bytes : List ℕ) → 0 < position_or_len is_mark bytes → position_or_len is_mark bytes ≤ length bytes
+    → IsWord (before_first is_mark bytes)
 front_is_word bytes some within =
     let long = length-take-le (position_or_len is_mark bytes) bytes within in
     record { some = omega arith; no_mark = front_fails is_mark bytes within }
 
-pub word_before_takes : (mark : ℕ) (bytes word rest : List ℕ) → word_before mark bytes ≡ Some (word, rest) → (bytes ≡ word ++ mark ∷ rest) × IsWord word
+pub word_before_takes : (mark : ℕ) (bytes word rest : List ℕ) → word_before mark bytes ≡ Some (word, rest)
+    → (bytes ≡ word ++ mark ∷ rest) × IsWord word
 word_before_takes mark bytes word rest gives =
     let parts = cond_some _ _ _ gives in
     let tests = both _ _ parts.0 in
@@ -97,7 +101,14 @@ silo_words_again words each =
 -- what `silo_words` does after each word
 abbrev after_port : List ℕ → List ℕ → List ℕ → List ℕ → List ℕ × List ℕ → Option Words
 after_port first second third fourth port = only_word port.1
-    >>= λ generation. Some (record { first = first; second = second; third = third; fourth = fourth; port = port.0; generation = generation })
+    >>= λ generation. Some (record {
+      first = first;
+      second = second;
+      third = third;
+      fourth = fourth;
+      port = port.0;
+      generation = generation;
+    })
 
 abbrev after_fourth : List ℕ → List ℕ → List ℕ → List ℕ × List ℕ → Option Words
 after_fourth first second third fourth = word_before at_sign fourth.1 >>= after_port first second third fourth.0
@@ -133,7 +144,8 @@ silo_words_takes bytes words gives =
     let same : found ≡ words = words_in_some {a = found} generation.2 in
     subst (HasWords bytes) {x = found} same (record {
       text = a.0 ∙ ap (λ rest. first.0.0 ++ dot ∷ rest) (b.0 ∙ ap (λ rest. second.0.0 ++ dot ∷ rest) (c.0
-          ∙ ap (λ rest. third.0.0 ++ dot ∷ rest) (d.0 ∙ ap (λ rest. fourth.0.0 ++ colon ∷ rest) (e.0 ∙ ap (λ rest. port.0.0 ++ at_sign ∷ rest) f.0))));
+          ∙ ap (λ rest. third.0.0 ++ dot ∷ rest) (d.0 ∙ ap (λ rest. fourth.0.0 ++ colon ∷ rest)
+          (e.0 ∙ ap (λ rest. port.0.0 ++ at_sign ∷ rest) f.0))));
       each = record { first = a.1; second = b.1; third = c.1; fourth = d.1; port = e.1; generation = f.1 };
     })
 
@@ -141,9 +153,18 @@ silo_words_takes bytes words gives =
 pub Decides-are_numerals : (words : Words) → Decides (are_numerals words) (AreNumerals words)
 Decides-are_numerals words =
     let one = Decides-is_numeral words.first in
-    Decides-like _ (λ p. record { first = p.0.0.0.0.0; second = p.0.0.0.0.1; third = p.0.0.0.1; fourth = p.0.0.1; port = p.0.1; generation = p.1 })
+    Decides-like _ (λ p. record {
+      first = p.0.0.0.0.0;
+      second = p.0.0.0.0.1;
+      third = p.0.0.0.1;
+      fourth = p.0.0.1;
+      port = p.0.1;
+      generation = p.1;
+    })
     (λ n. (((((n.first, n.second), n.third), n.fourth), n.port), n.generation))
-    (Decides-and _ _ (Decides-and _ _ (Decides-and _ _ (Decides-and _ _ (Decides-and _ _ one (Decides-is_numeral words.second)) (Decides-is_numeral words.third)) (Decides-is_numeral words.fourth)) (Decides-is_numeral words.port)) (Decides-is_numeral words.generation))
+    (Decides-and _ _ (Decides-and _ _ (Decides-and _ _
+    (Decides-and _ _ (Decides-and _ _ one (Decides-is_numeral words.second)) (Decides-is_numeral words.third))
+    (Decides-is_numeral words.fourth)) (Decides-is_numeral words.port)) (Decides-is_numeral words.generation))
 
 all_bytes : (ip : List ℕ) → All (λ byte. byte < 256) ip → (k : ℕ) → slice_index ip k < 256
 all_bytes ip each k =
@@ -151,10 +172,24 @@ all_bytes ip each k =
 
 pub Decides-is_silo : (silo : Silo) → Decides (is_silo silo) (IsSilo silo)
 Decides-is_silo silo =
-    Decides-like _ (λ p. record { four_bytes = p.0.0.0.0.0; bytes = all_bytes silo.ip p.0.0.0.0.1; port_above = p.0.0.0.1; port_below = p.0.0.1; generation_above = p.0.1; generation_below = p.1 })
-    (λ s. (((((s.four_bytes, λ k d below. rw (get_or_default silo.ip k d 0 below) (s.bytes k)), s.port_above), s.port_below), s.generation_above), s.generation_below))
+    Decides-like _ (λ p. record {
+      four_bytes = p.0.0.0.0.0;
+      bytes = all_bytes silo.ip p.0.0.0.0.1;
+      port_above = p.0.0.0.1;
+      port_below = p.0.0.1;
+      generation_above = p.0.1;
+      generation_below = p.1;
+    })
+    (λ s. (
+      (
+        (((s.four_bytes, λ k d below. rw (get_or_default silo.ip k d 0 below) (s.bytes k)), s.port_above), s.port_below),
+        s.generation_above,
+      ),
+      s.generation_below,
+    ))
     (Decides-and _ _ (Decides-and _ _ (Decides-and _ _ (Decides-and _ _ (Decides-and _ _ (Decides-eqb (length silo.ip) 4)
-    (Decides-by_and (λ byte. nat_lt byte 256) (λ byte. byte < 256) (list_all (λ byte. nat_lt byte 256)) (λ byte. Decides-ltb byte 256) refl (λ _ _. refl) silo.ip))
+    (Decides-by_and (λ byte. nat_lt byte 256) (λ byte. byte < 256) (list_all (λ byte. nat_lt byte 256)) (λ byte. Decides-ltb byte 256) refl
+    (λ _ _. refl) silo.ip))
     (Decides-ltb 0 silo.port)) (Decides-ltb silo.port 65536)) (Decides-ltb 0 silo.generation)) (Decides-ltb silo.generation 2147483648))
 
 pub silo_by_words_other : (words : Words) → ¬ (AreNumerals words) → silo_by_words (Some words) ≡ Err NotANumber
@@ -186,7 +221,8 @@ has_no_words text words none has = let some : silo_words text ≡ Some words = a
 
 -- a numeral has no mark in it
 numeral_is_word : (word : List ℕ) → IsNumeral word → IsWord word
-numeral_is_word word numeral = record { some = numeral.some; no_mark = λ k d below. let digit = numeral.digits k d below in grind (arith, nat_tests) }
+numeral_is_word word numeral =
+    record { some = numeral.some; no_mark = λ k d below. let digit = numeral.digits k d below in grind (arith, nat_tests) }
 
 pub four : (ip : List ℕ) → length ip ≡ 4 → slice_index ip 0 ∷ slice_index ip 1 ∷ slice_index ip 2 ∷ slice_index ip 3 ∷ [] ≡ ip
 four [] none = absurd (omega arith)

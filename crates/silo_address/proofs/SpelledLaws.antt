@@ -24,7 +24,8 @@ silo_with a b c d port generation = record { ip = a ∷ b ∷ c ∷ d ∷ []; po
 
 -- the silo that the parts make is the one whose parts they are
 pub one_silo : (silo : Silo) → IsSilo silo → (found : Option Silo) {a b c d port generation : ℕ}
-    → a ≡ slice_index silo.ip 0 → b ≡ slice_index silo.ip 1 → c ≡ slice_index silo.ip 2 → d ≡ slice_index silo.ip 3 → port ≡ silo.port → generation ≡ silo.generation
+    → a ≡ slice_index silo.ip 0 → b ≡ slice_index silo.ip 1 → c ≡ slice_index silo.ip 2 → d ≡ slice_index silo.ip 3 → port ≡ silo.port
+    → generation ≡ silo.generation
     → SomeIff found (IsSilo (silo_with a b c d port generation)) (silo_with a b c d port generation) → found ≡ Some silo
 one_silo silo is found first second third fourth ports generations exact =
     let ip = (λ i. first i ∷ second i ∷ third i ∷ fourth i ∷ []) ∙ four silo.ip is.four_bytes in

@@ -21,13 +21,15 @@ none_any (byte ∷ key) none =
     rw first (none_any key (λ k d below. none (suc k) d (omega arith)))
 
 -- the number sign is there, and all that follows it is behind the last one
-behind : (key : List ℕ) (position : ℕ) → IsBehindLast number_sign key position → (k : ℕ) → position ≤ k → k < length key → get_or key k 0 ≢ number_sign
+behind : (key : List ℕ) (position : ℕ) → IsBehindLast number_sign key position → (k : ℕ) → position ≤ k → k < length key
+    → get_or key k 0 ≢ number_sign
 behind key position is k from below =
     let moved : get_or (drop position key) (k - position) 0 ≡ get_or key k 0 = get_or-drop position key (k - position) 0 ∙ ap (λ n. get_or key n 0) (let sum : position + (k - position) ≡ k = omega arith in sum) in
     let long = length-drop position key in
     λ same. is.others (k - position) 0 (omega arith) (moved ∙ same)
 
-pub after_last-behind : (key : List ℕ) (position : ℕ) → IsBehindLast number_sign key position → after_last is_number_sign key ≡ drop position key
+pub after_last-behind : (key : List ℕ) (position : ℕ) → IsBehindLast number_sign key position
+    → after_last is_number_sign key ≡ drop position key
 after_last-behind key position is =
     let count = suffix_len_is (λ byte. not (is_number_sign byte)) key position 0 is.within
     (λ k from below. ap not (ne_eqb _ _ (behind key position is k from below)))
@@ -44,7 +46,8 @@ some_number_sign key position is =
 pub no_number_sign : (key : List ℕ) → All (λ byte. byte ≢ number_sign) key → list_any is_number_sign key ≡ false
 no_number_sign key none = none_any key (λ k d below. ne_eqb _ _ (none k d below))
 
-pub stated_hash-behind : (key : List ℕ) (position : ℕ) → IsBehindLast number_sign key position → stated_hash key ≡ number_in (read_number 4294967295 (drop position key))
+pub stated_hash-behind : (key : List ℕ) (position : ℕ) → IsBehindLast number_sign key position
+    → stated_hash key ≡ number_in (read_number 4294967295 (drop position key))
 unfolding stated_hash
 stated_hash-behind key position is =
     let some = some_number_sign key position is in
@@ -56,7 +59,8 @@ unfolding stated_hash
 stated_hash-none key none = let no = no_number_sign key none in rw no refl
 
 -- The number follows the number sign, which is the last one.
-pub is_behind_last : (key before : List ℕ) (hash : ℕ) → hash < 2 ^ 32 → key ≡ before ++ number_sign ∷ decimal hash → IsBehindLast number_sign key (length before + 1)
+pub is_behind_last : (key before : List ℕ) (hash : ℕ) → hash < 2 ^ 32 → key ≡ before ++ number_sign ∷ decimal hash
+    → IsBehindLast number_sign key (length before + 1)
 is_behind_last key before hash small spelled =
     let long : length key ≡ length before + length (number_sign ∷ decimal hash) = ap length spelled ∙ length-append before (number_sign ∷ decimal hash) in
     let rest : drop (length before + 1) key ≡ decimal hash = ap (drop (length before + 1)) spelled ∙ drop-append-add before (number_sign ∷ decimal hash) 1 in
@@ -66,20 +70,27 @@ is_behind_last key before hash small spelled =
       within = omega arith;
       last = ap (λ k. slice_index key k) (let same : length before + 1 - 1 ≡ length before = omega arith in same)
           ∙ ap (λ bytes. slice_index bytes (length before)) spelled ∙ get_or-append_seam before number_sign (decimal hash) 0;
-      others = subst (All (λ byte. byte ≢ number_sign)) (sym rest) (λ k d below same. let digit = numeral.digits k d below in absurd (omega arith));
+      others =
+          subst (All (λ byte. byte ≢ number_sign)) (sym rest)
+          (λ k d below same. let digit = numeral.digits k d below in absurd (omega arith));
     }
 
-pub stated_hash-only : (key before : List ℕ) (hash : ℕ) → hash < 2 ^ 32 → key ≡ before ++ number_sign ∷ decimal hash → stated_hash key ≡ Some hash
+pub stated_hash-only : (key before : List ℕ) (hash : ℕ) → hash < 2 ^ 32 → key ≡ before ++ number_sign ∷ decimal hash
+    → stated_hash key ≡ Some hash
 stated_hash-only key before hash small spelled =
     let is = is_behind_last key before hash small spelled in
     let rest : drop (length before + 1) key ≡ decimal hash = ap (drop (length before + 1)) spelled ∙ drop-append-add before (number_sign ∷ decimal hash) 1 in
     stated_hash-behind key (length before + 1) is ∙ ap number_in (read_number-decimal 4294967295 _ hash (lit< tt) (omega arith) rest)
 
 -- and so a number that was read is spelled there
-pub stated_hash-spelled : (key : List ℕ) (position hash : ℕ) → IsBehindLast number_sign key position → drop position key ≡ decimal hash → (before : List ℕ) × (key ≡ before ++ number_sign ∷ decimal hash)
+pub stated_hash-spelled : (key : List ℕ) (position hash : ℕ) → IsBehindLast number_sign key position → drop position key ≡ decimal hash
+    → (before : List ℕ) × (key ≡ before ++ number_sign ∷ decimal hash)
 stated_hash-spelled key position hash is rest =
     let above = is.above in
     let within = is.within in
     let cell = drop-cons key (position - 1) 0 (omega arith) in
-    let next : suc (position - 1) ≡ position = omega arith in
-    (take (position - 1) key, sym (take-append-drop (position - 1) key) ∙ ap (λ bytes. take (position - 1) key ++ bytes) (cell ∙ (λ i. is.last i ∷ drop (next i) key) ∙ ap (λ bytes. number_sign ∷ bytes) rest))
+    let next : suc (position - 1) ≡ position = omega arith in (
+      take (position - 1) key,
+      sym (take-append-drop (position - 1) key)
+          ∙ ap (λ bytes. take (position - 1) key ++ bytes) (cell ∙ (λ i. is.last i ∷ drop (next i) key) ∙ ap (λ bytes. number_sign ∷ bytes) rest),
+    )

@@ -13,7 +13,8 @@ then_then Less r s = refl
 then_then Equal r s = refl
 then_then Greater r s = refl
 
-by_parts : (k l x y : List ℕ) → length k ≡ length l → slice_cmp nat_cmp (k ++ slash ∷ x) (l ++ slash ∷ y) ≡ ordering_then (slice_cmp nat_cmp k l) (slice_cmp nat_cmp x y)
+by_parts : (k l x y : List ℕ) → length k ≡ length l
+    → slice_cmp nat_cmp (k ++ slash ∷ x) (l ++ slash ∷ y) ≡ ordering_then (slice_cmp nat_cmp k l) (slice_cmp nat_cmp x y)
 by_parts [] [] x y same = refl
 by_parts [] (b ∷ l) x y same = absurd (omega arith)
 by_parts (a ∷ k) [] x y same = absurd (omega arith)

@@ -10,7 +10,8 @@ longer text i below = let next : i + 1 ≡ suc i = omega arith in ap (λ n. take
 
 -- one more
 pub visible_more : (all one : Bool) (text : List ℕ) (i : ℕ) → i < length text
-    → (IsTrue all ↔ All IsVisible (take i text)) → (IsTrue one ↔ IsVisible (get_or text i 0)) → IsTrue (all && one) ↔ All IsVisible (take (i + 1) text)
+    → (IsTrue all ↔ All IsVisible (take i text)) → (IsTrue one ↔ IsVisible (get_or text i 0))
+    → IsTrue (all && one) ↔ All IsVisible (take (i + 1) text)
 visible_more true one text i below before here = (
   λ both. All-more IsVisible text i 0 below (before.0 refl) (here.0 both),
   λ more. here.1 (All-pop IsVisible (take (i + 1) text) (take i text) (Some (get_or text i 0)) (longer text i below) more).1,
@@ -21,5 +22,6 @@ visible_more false one text i below before here = (
 )
 
 -- all of them
-pub visible_whole : (all : Bool) (text : List ℕ) (i : ℕ) → length text ≤ i → (IsTrue all ↔ All IsVisible (take i text)) → IsTrue all ↔ All IsVisible text
+pub visible_whole : (all : Bool) (text : List ℕ) (i : ℕ) → length text ≤ i → (IsTrue all ↔ All IsVisible (take i text))
+    → IsTrue all ↔ All IsVisible text
 visible_whole all text i over before = rw (take_all i text over) at before

@@ -1,5 +1,5 @@
 -- What a caller in C has, from one call to the next.
-use Rattle.std.specs.Prelude.{◌≡◌, ℕ, zero, suc, List, [], ◌∷◌, length}
+use Rattle.std.specs.Prelude.{◌≡◌, ℕ, zero, suc, List, [], ◌∷◌, length, None}
 use base.Fraction.{full_share}
 use base.Fml.{Fml, ftrue, fsep, fex, feq, flft, flent}
 use mir.Raw.{raw}
@@ -12,7 +12,7 @@ use denote.Slice.{ShrSlice, shr_slice_vals}
 use Rattle.std.specs.Ptr.{points_to}
 use Rattle.std.specs.declared.alloc.Global.{Global}
 use Rattle.std.specs.contracts.impls.GlobalAllocator.TheImpl.{ghosts}
-use Rattle.silo_library.specs.OpenSiloValue.{OpenSiloValue, Opens, TellsAnswer, TellsRefusal}
+use Rattle.silo_library.specs.OpenSiloValue.{OpenSiloValue, Opens, OpensWithToken, TellsAnswer, TellsRefusal, TellsTokenRefusal}
 use Rattle.silo_library.specs.contracts.open_silo.OpenSilo.{the_row}
 use Rattle.silo_library.specs.contracts.text.Text.{the_row as text_row}
 use Rattle.silo_library.specs.declared.text.Text.{Text}
@@ -62,8 +62,13 @@ has_answer p it text = fex ℕ (λ while. fsep (lent_for while p it) (may_be_rea
 -- ---- The functions.
 -- 0, and a handle of the silo that is asked for; or a refusal, and the handle is as before
 abbrev pub has_opened : (address : List ℕ) (hashing points cache number : ℕ) (old new : Ptr) → Fml
-has_opened address hashing points cache zero old new = fex OpenSiloValue (λ it. fex (Opens address hashing points cache it) (λ _. is_handle new it))
+has_opened address hashing points cache zero old new = fex OpenSiloValue (λ it. fex (Opens address None hashing points cache it) (λ _. is_handle new it))
 has_opened address hashing points cache (suc number) old new = fex (TellsRefusal address hashing points cache (suc number)) (λ _. feq Ptr new old)
+
+-- the same, of a process that is started with a token
+abbrev pub has_opened_with_token : (address token : List ℕ) (hashing points cache number : ℕ) (old new : Ptr) → Fml
+has_opened_with_token address token hashing points cache zero old new = fex OpenSiloValue (λ it. fex (OpensWithToken address token hashing points cache it) (λ _. is_handle new it))
+has_opened_with_token address token hashing points cache (suc number) old new = fex (TellsTokenRefusal address token hashing points cache (suc number)) (λ _. feq Ptr new old)
 
 -- the number tells what the line made of the open silo, whose handle this still is, and its answer may be read
 abbrev pub has_answered : Ptr → (old : OpenSiloValue) (line : List ℕ) (number : ℕ) → Text → Fml

@@ -6,6 +6,7 @@ use Rattle.hash_ring.specs.declared.Hashing.TheVariants.{Sha256, Stated}
 use Rattle.silo_address.specs.Silo.{Silo}
 use Rattle.directory_rules.specs.Settings.{Settings}
 use Rattle.silo_rules.specs.SiloValue.{SiloValue, first_silo}
+use Rattle.process_answers.specs.JoinToken.{IsToken}
 use Rattle.process_answers.specs.LineAnswers.{AnswersLine}
 use Rattle.process_answers.specs.ProcessSettings.{process_settings}
 use Rattle.silo_library.specs.declared.status.CallStatus.{CallStatus}
@@ -30,18 +31,18 @@ hashing_of (suc (suc more)) = None
 abbrev pub AreInRange : (points cache : ℕ) → Type 0
 AreInRange points cache = (1 ≤ points) × (points ≤ 128) × (cache ≤ 65536)
 
--- the silo with these settings, which was told nothing yet, and answered nothing, of a process without a token
-abbrev pub first_open : Settings → Silo → OpenSiloValue
-first_open settings silo = record { silo = first_silo settings silo; token = None; answer = []; ended = false }
+-- the silo with these settings, which was told nothing yet, and answered nothing
+abbrev pub first_open : Settings → Silo → (token : Option (List ℕ)) → OpenSiloValue
+first_open settings silo token = record { silo = first_silo settings silo; token = token; answer = []; ended = false }
 
--- an address and settings open that silo
-pub record Opens (address : List ℕ) (hashing points cache : ℕ) (it : OpenSiloValue) : Type 0 where
+-- an address and settings open that silo, with that token, if there is one
+pub record Opens (address : List ℕ) (token : Option (List ℕ)) (hashing points cache : ℕ) (it : OpenSiloValue) : Type 0 where
   pub silo : Silo
   pub way : Hashing
   pub named : read_silo address ≡ Ok silo
   pub numbered : hashing_of hashing ≡ Some way
   pub in_range : AreInRange points cache
-  pub first : it ≡ first_open (process_settings way points cache) silo
+  pub first : it ≡ first_open (process_settings way points cache) silo token
 
 -- what is wrong with them: the first that applies of no silo, no way of hashing and a number out of its range; or else memory ran out
 abbrev pub RefusesToOpen : (address : List ℕ) (hashing points cache : ℕ) → CallStatus → Type 0
@@ -50,6 +51,15 @@ RefusesToOpen address hashing points cache status.NoSuchHashing = IsOk (read_sil
 RefusesToOpen address hashing points cache status.OutOfRange = IsOk (read_silo address) × IsSome (hashing_of hashing) × ¬ (AreInRange points cache)
 RefusesToOpen address hashing points cache status.OutOfMemory = IsOk (read_silo address) × IsSome (hashing_of hashing) × AreInRange points cache
 RefusesToOpen address hashing points cache other = ⊥
+
+-- an address, a token and settings open that silo
+abbrev pub OpensWithToken : (address token : List ℕ) (hashing points cache : ℕ) (it : OpenSiloValue) → Type 0
+OpensWithToken address token hashing points cache it = IsToken token × Opens address (Some token) hashing points cache it
+
+-- what is wrong with them: that there is no token, before all else
+abbrev pub RefusesToken : (address token : List ℕ) (hashing points cache : ℕ) → CallStatus → Type 0
+RefusesToken address token hashing points cache status.NotAToken = ¬ (IsToken token)
+RefusesToken address token hashing points cache other = IsToken token × RefusesToOpen address hashing points cache other
 
 -- ---- Answering.
 -- a line makes this of an open silo, which tells so by its status
@@ -69,10 +79,15 @@ status_number status.OutOfMemory = 3
 status_number status.NotASilo = 4
 status_number status.NoSuchHashing = 5
 status_number status.OutOfRange = 6
+status_number status.NotAToken = 7
 
 -- that number tells why nothing was opened
 abbrev pub TellsRefusal : (address : List ℕ) (hashing points cache number : ℕ) → Type 0
 TellsRefusal address hashing points cache number = (status : CallStatus) × RefusesToOpen address hashing points cache status × (number ≡ status_number status)
+
+-- so it tells why none was opened with a token
+abbrev pub TellsTokenRefusal : (address token : List ℕ) (hashing points cache number : ℕ) → Type 0
+TellsTokenRefusal address token hashing points cache number = (status : CallStatus) × RefusesToken address token hashing points cache status × (number ≡ status_number status)
 
 -- that number tells what the line made of the open silo
 abbrev pub TellsAnswer : (old : OpenSiloValue) (line : List ℕ) (new : OpenSiloValue) (number : ℕ) → Type 0

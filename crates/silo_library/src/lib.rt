@@ -4,7 +4,7 @@
 #![tactic(auto)]
 
 ghost use types.Logic.{sem};
-ghost use Rattle.silo_library.specs.Handle.{has_answered, has_opened, is_handle};
+ghost use Rattle.silo_library.specs.Handle.{has_answered, has_opened, has_opened_with_token, is_handle};
 ghost use Rattle.silo_library.specs.OpenSiloValue.{OpenSiloValue};
 
 use std::alloc::Global;
@@ -31,6 +31,28 @@ pub unsafe extern "C" fn grain_directory_open(
     ensures* { sem 𝓛 (has_opened address.now hashing points cache result handle.old handle.new) }
 {
     match OpenSilo::open(alloc, address, hashing, points, cache) {
+        Ok(silo) => {
+            *handle = Box::into_raw(silo) as *mut u8;
+            0
+        }
+        Err(status) => status,
+    }
+}
+
+/// Opens it for a process that is started with that token: its silo joins by the line that carries the token, and by no other.
+#[unsafe(no_mangle)]
+pub unsafe extern "C" fn grain_directory_open_with_token(
+    alloc: Global,
+    address: &[u8],
+    token: &[u8],
+    hashing: u32,
+    points: usize,
+    cache: usize,
+    handle: &mut *mut u8,
+) -> u32
+    ensures* { sem 𝓛 (has_opened_with_token address.now token.now hashing points cache result handle.old handle.new) }
+{
+    match OpenSilo::open_with_token(alloc, address, token, hashing, points, cache) {
         Ok(silo) => {
             *handle = Box::into_raw(silo) as *mut u8;
             0

@@ -1,13 +1,13 @@
 //! What is behind a handle.
 
-ghost use Rattle.std.specs.Prelude.{◌≡◌, IfErr, IfOk};
-ghost use Rattle.silo_library.specs.OpenSiloValue.{Answers, Opens, RefusesToOpen, TellsAnswer, TellsRefusal, first_open, hashing_of};
+ghost use Rattle.std.specs.Prelude.{◌≡◌, IfErr, IfOk, None, Some};
+ghost use Rattle.silo_library.specs.OpenSiloValue.{Answers, Opens, OpensWithToken, RefusesToOpen, RefusesToken, TellsAnswer, TellsRefusal, TellsTokenRefusal, first_open, hashing_of};
 
 use crate::CallStatus;
 use directory_rules::Settings;
 use directory_silo::Silo;
 use hash_ring::Hashing;
-use process_answers::{Player, process_settings};
+use process_answers::{JoinToken, Player, process_settings};
 use silo_address::SiloAddress;
 use std::alloc::{AllocError, Global};
 use std::marker::Model;
@@ -39,24 +39,61 @@ impl OpenSilo {
         points: usize,
         cache: usize,
     ) -> Result<Box<OpenSilo>, u32>
-        ensures opened { IfOk result (λ it. Opens address.now hashing points cache it.value) }
+        ensures opened { IfOk result (λ it. Opens address.now None hashing points cache it.value) }
         ensures refused { IfErr result (TellsRefusal address.now hashing points cache) }
     {
-        match OpenSilo::make(alloc, address, hashing, points, cache) {
+        match OpenSilo::make(alloc, address, None, hashing, points, cache) {
+            Ok(it) => Ok(it),
+            Err(status) => Err(status.number()),
+        }
+    }
+
+    /// The same, of a process that is started with a token.
+    pub(crate) fn open_with_token(
+        alloc: Global,
+        address: &[u8],
+        token: &[u8],
+        hashing: u32,
+        points: usize,
+        cache: usize,
+    ) -> Result<Box<OpenSilo>, u32>
+        ensures opened { IfOk result (λ it. OpensWithToken address.now token.now hashing points cache it.value) }
+        ensures refused { IfErr result (TellsTokenRefusal address.now token.now hashing points cache) }
+    {
+        match OpenSilo::make_with_token(alloc, address, token, hashing, points, cache) {
             Ok(it) => Ok(it),
             Err(status) => Err(status.number()),
         }
     }
 
     // The same, with the refusal by its name.
-    fn make(
+    fn make_with_token(
         alloc: Global,
         address: &[u8],
+        token: &[u8],
         hashing: u32,
         points: usize,
         cache: usize,
     ) -> Result<Box<OpenSilo>, CallStatus>
-        ensures opened { IfOk result (λ it. Opens address.now hashing points cache it.value) }
+        ensures opened { IfOk result (λ it. OpensWithToken address.now token.now hashing points cache it.value) }
+        ensures refused { IfErr result (λ status. RefusesToken address.now token.now hashing points cache status) }
+    {
+        let Some(token) = JoinToken::parse(token) else {
+            return Err(CallStatus::NotAToken);
+        };
+        OpenSilo::make(alloc, address, Some(token), hashing, points, cache)
+    }
+
+    // The silo of a text, whose process is started with that token, if there is one; the refusal by its name.
+    fn make(
+        alloc: Global,
+        address: &[u8],
+        token: Option<JoinToken>,
+        hashing: u32,
+        points: usize,
+        cache: usize,
+    ) -> Result<Box<OpenSilo>, CallStatus>
+        ensures opened { IfOk result (λ it. Opens address.now token hashing points cache it.value) }
         ensures refused { IfErr result (λ status. RefusesToOpen address.now hashing points cache status) }
     {
         let Ok(silo) = SiloAddress::parse(address) else {
@@ -68,7 +105,7 @@ impl OpenSilo {
         let Some(settings) = process_settings(hashing, points, cache) else {
             return Err(CallStatus::OutOfRange);
         };
-        match first(alloc, settings, silo) {
+        match first(alloc, settings, silo, token) {
             Ok(it) => Ok(it),
             Err(_) => Err(CallStatus::OutOfMemory),
         }
@@ -134,15 +171,20 @@ fn hashing_of(number: u32) -> Option<Hashing>
 }
 
 // A silo that was told nothing yet, and answered nothing.
-fn first(alloc: Global, settings: Settings, silo: SiloAddress) -> Result<Box<OpenSilo>, AllocError>
-    ensures { IfOk result (λ it. it.value ≡ first_open settings silo) }
+fn first(
+    alloc: Global,
+    settings: Settings,
+    silo: SiloAddress,
+    token: Option<JoinToken>,
+) -> Result<Box<OpenSilo>, AllocError>
+    ensures { IfOk result (λ it. it.value ≡ first_open settings silo token) }
 {
     let silo = Silo::new(alloc, settings, silo)?;
     let it = Box::new(
         alloc,
         OpenSilo {
             alloc,
-            player: Player { silo, token: None },
+            player: Player { silo, token },
             answer: Vec::new(alloc),
             ended: false,
         },

@@ -18,6 +18,8 @@ pub enum CallStatus {
     NoSuchHashing,
     /// The number of points or that of hints is out of its range.
     OutOfRange,
+    /// The text is no token.
+    NotAToken,
 }
 
 impl CallStatus {
@@ -33,6 +35,7 @@ impl CallStatus {
             CallStatus::NotASilo => 4,
             CallStatus::NoSuchHashing => 5,
             CallStatus::OutOfRange => 6,
+            CallStatus::NotAToken => 7,
         }
     }
 }

@@ -18,9 +18,8 @@ use Rattle.hash_ring.specs.Places.{PlacesValue}
 use Rattle.directory_rules.specs.Happens as rule
 use Rattle.directory_rules.specs.Input.{Input, Receives, sight_of, step}
 use Rattle.directory_rules.specs.Laws.{is_live}
-use Rattle.directory_rules.specs.Letter.{Letter}
+use Rattle.directory_rules.specs.State.{Letter, World, Accepted}
 use Rattle.directory_rules.specs.Step.{Stepped, silently}
-use Rattle.directory_rules.specs.World.{World, Accepted}
 use Rattle.directory_rules.specs.declared.effect.Effect.TheVariants.{Ignored}
 use Rattle.silo_rules.specs.declared.news.News.TheVariants.{Known}
 use Rattle.silo_rules.specs.Known.{is_known}
@@ -34,13 +33,16 @@ use Rattle.silo_rules.specs.Whole.{IsWhole}
 use Rattle.silo_rules.proofs.Whole.{change_whole, first_whole, input_whole, sight_whole}
 
 -- ---- what stays whole
-tells_whole : (s : SiloValue) (version : ℕ) (change : Change) (heard : Heard) → IsWhole s → told s.node.settings s.membership version change ≡ Ok heard → IsWhole (record s { membership = heard.membership })
+tells_whole : (s : SiloValue) (version : ℕ) (change : Change) (heard : Heard) → IsWhole s
+    → told s.node.settings s.membership version change ≡ Ok heard → IsWhole (record s { membership = heard.membership })
 tells_whole s version change heard is so =
-    by (nat_le version s.membership.views.version) (is_known s.membership version change) (version == s.membership.views.version + 1) (changed s.node.settings s.membership change) refl so
+    by (nat_le version s.membership.views.version) (is_known s.membership version change) (version == s.membership.views.version + 1)
+    (changed s.node.settings s.membership change) refl so
   where
     by : (old known next : Bool) (made : Result Membership ℕ) → changed s.node.settings s.membership change ≡ made
         → (if old then (if known then Ok (record { membership = s.membership; news = Known }) else Err 207)
-        else (if not next then Err 206 else heard_by made (replaced_by s.membership change))) ≡ Ok heard → IsWhole (record s { membership = heard.membership })
+        else (if not next then Err 206 else heard_by made (replaced_by s.membership change))) ≡ Ok heard
+        → IsWhole (record s { membership = heard.membership })
     by true true next made at told_so =
         let same : record { membership = s.membership; news = Known } ≡ heard = cc (told_so) in
         subst (λ (h : Heard). IsWhole (record s { membership = h.membership })) same is
@@ -55,26 +57,33 @@ unbarred : (o : Option ℕ) (outcome : Result Stepped ℕ) (stepped : Stepped) �
 unbarred None outcome stepped so = so
 unbarred (Some number) outcome stepped so = absurd (cc (so))
 
-sees_whole : (s : SiloValue) (version : ℕ) (stepped : Stepped) → IsWhole s → sees s version ≡ Ok stepped → IsWhole (record s { node = stepped.node })
+sees_whole : (s : SiloValue) (version : ℕ) (stepped : Stepped) → IsWhole s → sees s version ≡ Ok stepped
+    → IsWhole (record s { node = stepped.node })
 sees_whole s version stepped is so =
-    by (nat_lt s.node.view.version version) (is_seeable s.membership s.node.host.silo version) refl (unbarred (barred s) (seen s version) stepped so)
+    by (nat_lt s.node.view.version version) (is_seeable s.membership s.node.host.silo version) refl
+    (unbarred (barred s) (seen s version) stepped so)
   where
     by : (newer seeable : Bool) → is_seeable s.membership s.node.host.silo version ≡ seeable
-        → (if not newer then Err 903 else (if not seeable then Err 904 else step s.node (sight_of s.membership version))) ≡ Ok stepped → IsWhole (record s { node = stepped.node })
+        → (if not newer then Err 903 else (if not seeable then Err 904 else step s.node (sight_of s.membership version))) ≡ Ok stepped
+        → IsWhole (record s { node = stepped.node })
     by false seeable at seen_so = absurd (cc (seen_so))
     by true false at seen_so = absurd (cc (seen_so))
     by true true at seen_so =
         let joined = nat_le (unwrap_or (joining_version s.membership.views s.node.host.silo) 0) version in
         let two = both (nat_le version s.membership.views.version) joined at in
-        sight_whole s version stepped is (leb-true version s.membership.views.version two.0) (leb-true (unwrap_or (joining_version s.membership.views s.node.host.silo) 0) version two.1) seen_so
+        sight_whole s version stepped is (leb-true version s.membership.views.version two.0)
+        (leb-true (unwrap_or (joining_version s.membership.views s.node.host.silo) 0) version two.1) seen_so
 
-does_whole : (s : SiloValue) (input : Input) (stepped : Stepped) → IsNoSight input → IsWhole s → does s input ≡ Ok stepped → IsWhole (record s { node = stepped.node })
+does_whole : (s : SiloValue) (input : Input) (stepped : Stepped) → IsNoSight input → IsWhole s → does s input ≡ Ok stepped
+    → IsWhole (record s { node = stepped.node })
 does_whole s input stepped other is so = input_whole s input stepped is other (unbarred (barred s) (step s.node input) stepped so)
 
-receives_whole : (s : SiloValue) (letter : Letter) (stepped : Stepped) → IsWhole s → receives s letter ≡ Ok stepped → IsWhole (record s { node = stepped.node })
+receives_whole : (s : SiloValue) (letter : Letter) (stepped : Stepped) → IsWhole s → receives s letter ≡ Ok stepped
+    → IsWhole (record s { node = stepped.node })
 receives_whole s letter stepped is so = by (silo_eq letter.to s.node.host.silo) so
   where
-    by : (its : Bool) → (if its then does s (Receives letter) else Ok (silently s.node Ignored)) ≡ Ok stepped → IsWhole (record s { node = stepped.node })
+    by : (its : Bool) → (if its then does s (Receives letter) else Ok (silently s.node Ignored)) ≡ Ok stepped
+        → IsWhole (record s { node = stepped.node })
     by true received = does_whole s (Receives letter) stepped tt is received
     by false ignored =
         let same : silently s.node Ignored ≡ stepped = cc (ignored) in
@@ -85,25 +94,32 @@ stays_whole = record { first = first_whole; tells = tells_whole; sees_so = sees_
 
 -- ---- the rule
 -- who has a row has a status in the last view
-pub row_known : (views : ViewsValue) → IsViews views → (silo : Silo) → is_some (row_of views silo) ≡ is_some (status_at views views.version silo)
+pub row_known : (views : ViewsValue) → IsViews views → (silo : Silo)
+    → is_some (row_of views silo) ≡ is_some (status_at views views.version silo)
 row_known views whole silo =
-    by (row_of views silo) refl ∙ ap (λ (o : Option Status). is_some o) (sym (status_at-made views whole.in_order views.version silo (omega arith)))
+    by (row_of views silo) refl ∙ ap (λ (o : Option Status). is_some o)
+    (sym (status_at-made views whole.in_order views.version silo (omega arith)))
   where
-    by : (o : Option Row) → row_of views silo ≡ o → is_some (row_of views silo) ≡ is_some (option_and_then (status_in views.version) (row_of views silo))
-    by None at = ap (λ (o : Option Row). is_some o) at ∙ sym (ap (λ (o : Option Row). is_some (option_and_then (status_in views.version) o)) at)
+    by : (o : Option Row) → row_of views silo ≡ o → is_some (row_of views silo) ≡ is_some
+        (option_and_then (status_in views.version) (row_of views silo))
+    by None at =
+        ap (λ (o : Option Row). is_some o) at ∙ sym (ap (λ (o : Option Row). is_some (option_and_then (status_in views.version) o)) at)
     by (Some row) at =
-        ap (λ (o : Option Row). is_some o) at ∙ sym (there_from views.version row (whole.in_time silo row at).joined_by) ∙ sym (ap (λ (o : Option Row). is_some (option_and_then (status_in views.version) o)) at)
+        ap (λ (o : Option Row). is_some o) at ∙ sym (there_from views.version row (whole.in_time silo row at).joined_by)
+        ∙ sym (ap (λ (o : Option Row). is_some (option_and_then (status_in views.version) o)) at)
 
 module _ (world : World) (s : SiloValue) (whole : IsWhole s) (of : IsOf world s) where
   absent_at : (o : Option Status) → own_status s ≡ o → rule.absent_number world s.node.host.silo ≡ unwrap_or (barred_by o) 902
   absent_at o at =
-      ap (λ (v : ViewsValue). unwrap_or (barred_by (status_at v v.version s.node.host.silo)) 902) of.views ∙ ap (λ (p : Option Status). unwrap_or (barred_by p) 902) at
+      ap (λ (v : ViewsValue). unwrap_or (barred_by (status_at v v.version s.node.host.silo)) 902) of.views
+      ∙ ap (λ (p : Option Status). unwrap_or (barred_by p) 902) at
 
   does_rule : (input : Input) → rule.does world s.node.host.silo input ≡ rule.done_by (does s input) world s.node.host.silo
   does_rule input = ap (λ n. rule.does_at n world s.node.host.silo input) of.node ∙ by (own_status s) refl
     where
       by : (o : Option Status) → own_status s ≡ o
-          → rule.does_at (if is_live o then Some s.node else None) world s.node.host.silo input ≡ rule.done_by (unless_barred (barred_by o) (step s.node input)) world s.node.host.silo
+          → rule.does_at (if is_live o then Some s.node else None) world s.node.host.silo input ≡ rule.done_by
+          (unless_barred (barred_by o) (step s.node input)) world s.node.host.silo
       by None at = ap (λ n. Err n) (absent_at None at)
       by (Some Active) at = refl
       by (Some Leaving) at = refl
@@ -116,12 +132,14 @@ module _ (world : World) (s : SiloValue) (whole : IsWhole s) (of : IsOf world s)
       else (if not (is_seeable (record { views = views; places = places }) s.node.host.silo version) then Err 904
       else rule.seen_by (step s.node (sight_of (record { views = views; places = places }) version)) world s.node.host.silo version)
 
-  seen_rule : (version : ℕ) → rule.sees_at (Some s.node) world s.node.host.silo version ≡ rule.seen_by (seen s version) world s.node.host.silo version
+  seen_rule : (version : ℕ) → rule.sees_at (Some s.node) world s.node.host.silo version ≡ rule.seen_by (seen s version) world
+      s.node.host.silo version
   unfolding seen_by_these
   seen_rule version =
       ap (λ (v : ViewsValue). seen_by_these version v world.places) of.views
       ∙ ap (λ (p : PlacesValue). seen_by_these version s.membership.views p) of.places
-      ∙ by (nat_lt s.node.view.version version) (is_seeable s.membership s.node.host.silo version) (step s.node (sight_of s.membership version))
+      ∙ by (nat_lt s.node.view.version version) (is_seeable s.membership s.node.host.silo version)
+      (step s.node (sight_of s.membership version))
     where
       by : (newer seeable : Bool) (outcome : Result Stepped ℕ)
           → (if not newer then Err 903 else (if not seeable then Err 904 else rule.seen_by outcome world s.node.host.silo version))
@@ -134,21 +152,25 @@ module _ (world : World) (s : SiloValue) (whole : IsWhole s) (of : IsOf world s)
   sees_rule version = ap (λ n. rule.sees_at n world s.node.host.silo version) of.node ∙ by (own_status s) refl
     where
       by : (o : Option Status) → own_status s ≡ o
-          → rule.sees_at (if is_live o then Some s.node else None) world s.node.host.silo version ≡ rule.seen_by (unless_barred (barred_by o) (seen s version)) world s.node.host.silo version
+          → rule.sees_at (if is_live o then Some s.node else None) world s.node.host.silo version ≡ rule.seen_by
+          (unless_barred (barred_by o) (seen s version)) world s.node.host.silo version
       by None at = ap (λ n. Err n) (absent_at None at)
       by (Some Active) at = seen_rule version
       by (Some Leaving) at = seen_rule version
       by (Some Dead) at = ap (λ n. Err n) (absent_at (Some Dead) at)
 
-  receives_rule : (number : ℕ) (letter : Letter) → told_of_its_join s ≡ true → letter.to ≡ s.node.host.silo → rule.delivers (Some letter) world number ≡ rule.delivered_by (receives s letter) world number letter
+  receives_rule : (number : ℕ) (letter : Letter) → told_of_its_join s ≡ true → letter.to ≡ s.node.host.silo
+      → rule.delivers (Some letter) world number ≡ rule.delivered_by (receives s letter) world number letter
   receives_rule number letter told_so to =
       ap (λ silo. rule.delivers_to (rule.node_of world silo) world number letter) to
       ∙ ap (λ n. rule.delivers_to n world number letter) of.node
       ∙ by (own_status s) told_so
-      ∙ sym (ap (λ (b : Bool). rule.delivered_by (if b then does s (Receives letter) else Ok (silently s.node Ignored)) world number letter) ((Decides-silo letter.to s.node.host.silo).1 to))
+      ∙ sym (ap (λ (b : Bool). rule.delivered_by (if b then does s (Receives letter) else Ok (silently s.node Ignored)) world number letter)
+      ((Decides-silo letter.to s.node.host.silo).1 to))
     where
       by : (o : Option Status) → is_some o ≡ true
-          → rule.delivers_to (if is_live o then Some s.node else None) world number letter ≡ rule.delivered_by (unless_barred (barred_by o) (step s.node (Receives letter))) world number letter
+          → rule.delivers_to (if is_live o then Some s.node else None) world number letter ≡ rule.delivered_by
+          (unless_barred (barred_by o) (step s.node (Receives letter))) world number letter
       by None there = absurd (cc (there))
       by (Some Active) there = refl
       by (Some Leaving) there = refl

@@ -1,7 +1,7 @@
 -- A step leaves a node its silo's, by the same settings.
 use Rattle.std.proofs.Common.{◌≡◌, refl}
 use Rattle.std.specs.Prelude.{Ok}
-use Rattle.directory_rules.specs.Node.{Node}
+use Rattle.directory_rules.specs.State.{Node}
 use Rattle.directory_rules.specs.Step.{Stepped}
 use Rattle.directory_rules.specs.Input.{Input, step}
 use Rattle.directory_facts.proofs.Ways.{Ways}
@@ -25,11 +25,14 @@ module _ (node : Node) where
     sees = λ before view brought newer numbers. stays _ refl refl;
     wakes = λ grain may. stays _ refl refl;
     closes = λ grain held may. stays _ refl refl;
+    cancels = λ grain held may. stays _ refl refl;
     offers = λ grain held to may active other. stays _ refl refl;
     uses_hint = λ grain activation hint. stays _ refl refl;
     finds = λ grain room numbers. stays _ refl refl;
     forgets = λ grain activation hint. stays _ refl refl;
     nudges = λ numbers. stays _ refl refl;
+    nudges_grain = λ grain numbers. stays _ refl refl;
+    nudges_ranges = stays _ refl refl;
     answers = λ letter request body sender version. stays _ refl refl;
     confirms = λ letter number entry e is there. stays _ refl refl;
     yields = λ letter number entry e is there. stays _ refl refl;

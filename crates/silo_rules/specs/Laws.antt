@@ -4,10 +4,9 @@ use Rattle.silo_address.specs.Silo.{Silo}
 use Rattle.directory_rules.specs.Happens as rule
 use Rattle.directory_rules.specs.Input.{Input}
 use Rattle.directory_rules.specs.Laws.{is_live}
-use Rattle.directory_rules.specs.Letter.{Letter}
+use Rattle.directory_rules.specs.State.{Letter, World}
 use Rattle.directory_rules.specs.Settings.{Settings, AreSettings}
 use Rattle.directory_rules.specs.Step.{Stepped}
-use Rattle.directory_rules.specs.World.{World}
 use Rattle.directory_rules.specs.Membership.{Change}
 use Rattle.silo_rules.specs.SiloValue.{SiloValue, first_silo, own_status, told_of_its_join}
 use Rattle.silo_rules.specs.Steps.{does, sees, receives}

@@ -3,7 +3,8 @@ use Rattle.std.specs.Prelude.{Bool, is_some, Option}
 use Rattle.silo_address.specs.Silo.{Silo}
 use Rattle.membership_view.specs.declared.status.Status.{Status}
 use Rattle.directory_rules.specs.Settings.{Settings}
-use Rattle.directory_rules.specs.Node.{Node, new_node}
+use Rattle.directory_rules.specs.State.{Node}
+use Rattle.directory_rules.specs.Node.{new_node}
 use Rattle.directory_rules.specs.Membership.{Membership, first_membership, status_in}
 
 -- what a silo has

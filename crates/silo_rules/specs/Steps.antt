@@ -3,7 +3,7 @@
 use Rattle.std.specs.Prelude.{ℕ, nat_lt, not, if◌then◌else◌, Option, Some, None, Result, Ok, Err}
 use Rattle.silo_address.specs.Silo.{silo_eq}
 use Rattle.directory_rules.specs.declared.effect.Effect.TheVariants.{Ignored}
-use Rattle.directory_rules.specs.Letter.{Letter}
+use Rattle.directory_rules.specs.State.{Letter}
 use Rattle.directory_rules.specs.Step.{Stepped, silently}
 use Rattle.directory_rules.specs.Input.{Input, Receives, sight_of, step}
 use Rattle.directory_rules.specs.Membership.{barred_by, is_seeable}

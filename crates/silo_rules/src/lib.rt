@@ -2,7 +2,9 @@
 //! change, command, sight and letter; and the plain data that rule and code share. There is no behaviour here.
 #![tactic(auto)]
 
+mod figures;
 pub mod laws;
 mod news;
 
+pub use figures::Figures;
 pub use news::News;

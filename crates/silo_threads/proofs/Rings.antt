@@ -3,7 +3,8 @@ use Rattle.std.proofs.Common.{◌≡◌, ◌∙◌, ◌≤◌, ◌++◌, [], ◌
 use Rattle.membership_view.specs.View.{ViewValue}
 use Rattle.hash_ring.specs.Places.{PlacesValue}
 use Rattle.directory_rules.specs.Settings.{Settings}
-use Rattle.directory_rules.specs.World.{World, current_view}
+use Rattle.directory_rules.specs.State.{World}
+use Rattle.directory_rules.specs.World.{current_view}
 use Rattle.cluster_journal.specs.Entry.{EntryValue}
 use Rattle.cluster_journal.specs.Journal.{world_of}
 use Rattle.cluster_journal.specs.Posted.{IsReceiptOf}
@@ -21,12 +22,15 @@ use Rattle.silo_threads.specs.declared.fault.Lack.TheVariants.{Publication, Thre
 use Rattle.silo_threads.proofs.VersionsMade.{up_to, version_left}
 
 -- the newest ring is of the view's version or of a later one
-shown_up_to : (view : ViewValue) (places : PlacesValue) (before after : PublisherValue) → Shows view places before after → view.version ≤ after.last.version
+shown_up_to : (view : ViewValue) (places : PlacesValue) (before after : PublisherValue) → Shows view places before after
+    → view.version ≤ after.last.version
 shown_up_to view places before after (inl shown) = let its = ap (λ (p : PublisherValue). p.last.version) shown.1 in omega arith
-shown_up_to view places before after (inr shown) = let its = ap (λ (p : PublisherValue). p.last.version) shown.1 in let within = shown.0 in omega arith
+shown_up_to view places before after (inr shown) =
+    let its = ap (λ (p : PublisherValue). p.last.version) shown.1 in let within = shown.0 in omega arith
 
 -- a join whose worker lacks its thread
-pub unstarted : (world : World) (silo : Silo) (receipt : Receipt) (before after : ClusterValue) (workers : List Silo) (lack : Option Lack) (why : Lack) → lack ≡ Some why → why ≡ Thread
+pub unstarted : (world : World) (silo : Silo) (receipt : Receipt) (before after : ClusterValue) (workers : List Silo) (lack : Option Lack)
+    (why : Lack) → lack ≡ Some why → why ≡ Thread
     → LacksThread silo before.workers workers → after ≡ record before { workers = workers } → HasJoined world silo receipt before after lack
 unstarted world silo receipt before after workers lack why is its lacks after_is =
     subst (HasJoined world silo receipt before after) (sym (is ∙ ap (λ (l : Lack). Some l) its)) (
@@ -34,9 +38,11 @@ unstarted world silo receipt before after workers lack why is its lacks after_is
       ap (λ (v : ClusterValue). v.published) after_is,
     )
 
-module _ (settings : Settings) (known now : List EntryValue) (event : Event) (receipt : Receipt) (its : IsReceiptOf settings known now event receipt) (last : receipt.number ≡ length now) where
+module _ (settings : Settings) (known now : List EntryValue) (event : Event) (receipt : Receipt)
+    (its : IsReceiptOf settings known now event receipt) (last : receipt.number ≡ length now) where
   -- what the receipt tells is the version of the world that its event left
-  left_up_to : (bound : ℕ) → (world_of settings now).views.version ≤ bound → IfSome (version_made receipt.entry.outcome.happening) (λ version. version ≤ bound)
+  left_up_to : (bound : ℕ) → (world_of settings now).views.version ≤ bound
+      → IfSome (version_made receipt.entry.outcome.happening) (λ version. version ≤ bound)
   left_up_to bound within =
       let all = its.journal ++ receipt.entry ∷ [] in
       let same = is_whole its.journal now receipt.entry receipt.number its.stands its.number last in
@@ -44,34 +50,48 @@ module _ (settings : Settings) (known now : List EntryValue) (event : Event) (re
       (version_left (world_of settings its.journal) event (world_of settings all) receipt.entry.outcome its.told)
       (subst (λ (l : List EntryValue). (world_of settings l).views.version ≤ bound) same within)
 
-  pub published_as_left : {E : Type 0} (newest : Result (ViewValue × PlacesValue) E) (before after : PublisherValue) → IfOk newest (IsLeftIn (world_of settings now)) → ShowsNewest newest before after
+  pub published_as_left : {E : Type 0} (newest : Result (ViewValue × PlacesValue) E) (before after : PublisherValue)
+      → IfOk newest (IsLeftIn (world_of settings now)) → ShowsNewest newest before after
       → HasPublished (world_of settings now) receipt before after
   published_as_left (Ok newest) before after left shows =
       let world = world_of settings now in
       let shown : Shows (current_view world) world.places before after =
-      subst (λ (v : ViewValue). Shows v world.places before after) left.0 (subst (λ (p : PlacesValue). Shows newest.0 p before after) left.1 shows) in
-      record { shown = shown; up_to_date = left_up_to after.last.version (shown_up_to (current_view world) world.places before after shown) }
+      subst (λ (v : ViewValue). Shows v world.places before after) left.0
+      (subst (λ (p : PlacesValue). Shows newest.0 p before after) left.1 shows) in
+      record {
+        shown = shown;
+        up_to_date = left_up_to after.last.version (shown_up_to (current_view world) world.places before after shown);
+      }
   published_as_left (Err failure) before after left shows = absurd shows
 
-  module _ {E : Type 0} (newest : Result (ViewValue × PlacesValue) E) (left : IfOk newest (IsLeftIn (world_of settings now))) (before after : ClusterValue) where
+  module _ {E : Type 0} (newest : Result (ViewValue × PlacesValue) E) (left : IfOk newest (IsLeftIn (world_of settings now)))
+      (before after : ClusterValue) where
     -- a change of members is followed by its publication, but for what lacks
-    pub changed : (result : Result (Unit {0}) Lack) (lack : Option Lack) → lack ≡ result_err result → after.workers ≡ before.workers → OnOk result (ShowsNewest newest before.published after.published)
+    pub changed : (result : Result (Unit {0}) Lack) (lack : Option Lack) → lack ≡ result_err result → after.workers ≡ before.workers
+        → OnOk result (ShowsNewest newest before.published after.published)
         → OnErr result (after ≡ before) → IfErr result (λ l. l ≡ Publication) → HasChanged (world_of settings now) receipt before after lack
     changed (Ok tt) lack is workers shown same lacks =
-        subst (HasChanged (world_of settings now) receipt before after) (sym is) (workers, published_as_left newest before.published after.published left shown)
+        subst (HasChanged (world_of settings now) receipt before after) (sym is)
+        (workers, published_as_left newest before.published after.published left shown)
     changed (Err Thread) lack is workers shown same lacks = absurd (cc)
-    changed (Err Publication) lack is workers shown same lacks = subst (HasChanged (world_of settings now) receipt before after) (sym is) same
+    changed (Err Publication) lack is workers shown same lacks =
+        subst (HasChanged (world_of settings now) receipt before after) (sym is) same
 
-  module _ {E : Type 0} (newest : Result (ViewValue × PlacesValue) E) (left : IfOk newest (IsLeftIn (world_of settings now))) (silo : Silo) (before started after : ClusterValue) where
+  module _ {E : Type 0} (newest : Result (ViewValue × PlacesValue) E) (left : IfOk newest (IsLeftIn (world_of settings now))) (silo : Silo)
+      (before started after : ClusterValue) where
     -- a join by a worker too, which was started before
-    pub joined : (result : Result (Unit {0}) Lack) (lack : Option Lack) → lack ≡ result_err result → started ≡ record before { workers = with_worker before.workers silo } → after.workers ≡ started.workers
-        → OnOk result (ShowsNewest newest started.published after.published) → OnErr result (after ≡ started) → IfErr result (λ l. l ≡ Publication)
+    pub joined : (result : Result (Unit {0}) Lack) (lack : Option Lack) → lack ≡ result_err result
+        → started ≡ record before { workers = with_worker before.workers silo } → after.workers ≡ started.workers
+        → OnOk result (ShowsNewest newest started.published after.published) → OnErr result (after ≡ started)
+        → IfErr result (λ l. l ≡ Publication)
         → HasJoined (world_of settings now) silo receipt before after lack
     joined (Ok tt) lack is start workers shown same lacks =
         subst (HasJoined (world_of settings now) silo receipt before after) (sym is) (
           workers ∙ ap (λ (c : ClusterValue). c.workers) start,
-          subst (λ (p : PublisherValue). HasPublished (world_of settings now) receipt p after.published) (ap (λ (c : ClusterValue). c.published) start)
+          subst (λ (p : PublisherValue). HasPublished (world_of settings now) receipt p after.published)
+              (ap (λ (c : ClusterValue). c.published) start)
               (published_as_left newest started.published after.published left shown),
         )
     joined (Err Thread) lack is start workers shown same lacks = absurd (cc)
-    joined (Err Publication) lack is start workers shown same lacks = subst (HasJoined (world_of settings now) silo receipt before after) (sym is) (same ∙ start)
+    joined (Err Publication) lack is start workers shown same lacks =
+        subst (HasJoined (world_of settings now) silo receipt before after) (sym is) (same ∙ start)

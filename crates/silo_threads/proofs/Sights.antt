@@ -9,13 +9,13 @@ use Rattle.directory_rules.specs.Event as rule
 use Rattle.directory_rules.specs.Event.{See}
 use Rattle.directory_rules.specs.EventModel.{event_of}
 use Rattle.directory_rules.specs.declared.Event.{Event}
-use Rattle.directory_rules.specs.Node.{Node}
-use Rattle.directory_rules.specs.World.{World}
+use Rattle.directory_rules.specs.State.{Node, World}
 use Rattle.script_rules.specs.Output.{sync_events, unseen_versions}
 
 -- those of a silo that are left
 pub sights_left : (silo : Silo) (seen current : ℕ) → seen < current
-    → map (See silo) (range_with_len (seen + 1) (current - seen)) ≡ See silo (seen + 1) ∷ map (See silo) (range_with_len (seen + 1 + 1) (current - (seen + 1)))
+    → map (See silo) (range_with_len (seen + 1) (current - seen)) ≡ See silo (seen + 1) ∷ map (See silo)
+    (range_with_len (seen + 1 + 1) (current - (seen + 1)))
 sights_left silo seen current less = ap (λ n. map (See silo) (range_with_len (seen + 1) n)) (one_more seen current less)
   where
     one_more : (a b : ℕ) → a < b → b - a ≡ suc (b - (a + 1))
@@ -41,12 +41,16 @@ above_both seen joined current after is =
     many seen joined current after is = omega (is, arith)
 
 -- so are those that the silo hasn't seen
-pub unseen_are : (world : World) (silo : Silo) (node : Node) (after : ℕ) → after ≡ max node.view.version (unwrap_or (joining_version world.views silo) 0 - 1)
+pub unseen_are : (world : World) (silo : Silo) (node : Node) (after : ℕ)
+    → after ≡ max node.view.version (unwrap_or (joining_version world.views silo) 0 - 1)
     → range_with_len (after + 1) (world.views.version - after) ≡ unseen_versions world silo node
-unseen_are world silo node after is = above_both node.view.version (unwrap_or (joining_version world.views silo) 0) world.views.version after is
+unseen_are world silo node after is =
+    above_both node.view.version (unwrap_or (joining_version world.views silo) 0) world.views.version after is
 
 -- one more is listed
-pub one_more_listed : (events more : List Event) (event : Event) (rest : List rule.Event) → more ≡ events ++ event ∷ [] → map event_of more ++ rest ≡ map event_of events ++ (event_of event ∷ rest)
+pub one_more_listed : (events more : List Event) (event : Event) (rest : List rule.Event) → more ≡ events ++ event ∷ []
+    → map event_of more ++ rest ≡ map event_of events ++ (event_of event ∷ rest)
 one_more_listed events more event rest is =
     ap (λ (all : List Event). map event_of all ++ rest) is
-    ∙ (ap (λ (all : List rule.Event). all ++ rest) (map-append event_of events (event ∷ [])) ∙ append_assoc (map event_of events) (event_of event ∷ []) rest)
+    ∙ (ap (λ (all : List rule.Event). all ++ rest) (map-append event_of events (event ∷ []))
+    ∙ append_assoc (map event_of events) (event_of event ∷ []) rest)

@@ -34,14 +34,21 @@ pub record EndedSoFar (settings : Settings) (known : List EntryValue) (all left 
   pub many : length endings + length left ≡ length all
   pub its : All (IsEndingOfOneOf settings known all) endings
 
-module _ (settings : Settings) (silos left now : List Silo) (silo : Silo) (is : left ≡ now ++ silo ∷ []) (are : AreLeft silos left) (before known its : List EntryValue)
+module _ (settings : Settings) (silos left now : List Silo) (silo : Silo) (is : left ≡ now ++ silo ∷ []) (are : AreLeft silos left)
+    (before known its : List EntryValue)
     (mine : IsPrefix before known) (theirs : IsPrefix its known) where
   -- the silo whose worker was joined is one of them
   one_of : (P : Silo → Type 0) → P silo → Any P silos
   one_of P its =
       let next = stands_next silos left now silo is are in
-      let many = ap (λ (l : List Silo). length l) next ∙ length-append now (silo ∷ are.joined) in
-      (length now, silo, omega (many, arith), subst (λ (l : List Silo). get_or l (length now) silo ≡ silo) (sym next) (get_or-append_seam now silo are.joined silo), its)
+      let many = ap (λ (l : List Silo). length l) next ∙ length-append now (silo ∷ are.joined) in (
+        length now,
+        silo,
+        omega (many, arith),
+        subst (λ (l : List Silo). get_or l (length now) silo ≡ silo) (sym next)
+            (get_or-append_seam now silo are.joined silo),
+        its,
+      )
 
   -- what held when less was known
   still : (receipt : Receipt) → IsDeliveryToOneOf settings before silos receipt → IsDeliveryToOneOf settings known silos receipt
@@ -51,7 +58,8 @@ module _ (settings : Settings) (silos left now : List Silo) (silo : Silo) (is : 
   still_ended ending held = (held.0, held.1, held.2, held.3, ends_on settings held.1 before known ending mine held.4)
 
   -- its receipts are put to the others
-  pub one_more : (receipts all put after : List Receipt) (amount total more : ℕ) → AreDeliveriesTo settings silo its put → after ≡ all ++ put → more ≡ total + length put
+  pub one_more : (receipts all put after : List Receipt) (amount total more : ℕ) → AreDeliveriesTo settings silo its put
+      → after ≡ all ++ put → more ≡ total + length put
       → HasMore settings before silos receipts all amount total → HasMore settings known silos receipts after amount more
   one_more receipts all put after amount total more delivered is_put counted has =
       let many = length-append has.more put in
@@ -60,12 +68,14 @@ module _ (settings : Settings) (silos left now : List Silo) (silo : Silo) (is : 
         kept = is_put ∙ (ap (λ (l : List Receipt). l ++ put) has.kept ∙ append_assoc receipts has.more put);
         its = All-append (IsDeliveryToOneOf settings known silos) has.more put
             (λ k d within. still (get_or has.more k d) (has.its k d within))
-            (λ k d within. one_of (λ s. IsDeliveryTo settings s known (get_or put k d)) (delivery_on settings silo its known (get_or put k d) theirs (delivered k d within)));
+            (λ k d within. one_of (λ s. IsDeliveryTo settings s known (get_or put k d))
+            (delivery_on settings silo its known (get_or put k d) theirs (delivered k d within)));
         counted = let so_far = has.counted in omega (counted, so_far, many, arith);
       }
 
   -- and how it ended
-  pub one_ended : (endings after : List Ending) (ending : Ending) → after ≡ endings ++ ending ∷ [] → Ends settings silo its ending → EndedSoFar settings before silos left endings
+  pub one_ended : (endings after : List Ending) (ending : Ending) → after ≡ endings ++ ending ∷ [] → Ends settings silo its ending
+      → EndedSoFar settings before silos left endings
       → EndedSoFar settings known silos now after
   one_ended endings after ending is_put ends so_far =
       let more = length-append endings (ending ∷ []) in
@@ -75,13 +85,16 @@ module _ (settings : Settings) (silos left now : List Silo) (silo : Silo) (is : 
       record {
         many = omega (more, count, fewer, sum, arith);
         its = subst (All (IsEndingOfOneOf settings known silos)) (sym is_put)
-            (All-push (IsEndingOfOneOf settings known silos) endings ending (λ k d within. still_ended (get_or endings k d) (so_far.its k d within))
+            (All-push (IsEndingOfOneOf settings known silos) endings ending
+            (λ k d within. still_ended (get_or endings k d) (so_far.its k d within))
             (one_of (λ s. Ends settings s known ending) (ends_on settings silo its known ending theirs ends)));
       }
 
 -- before the first is joined
-pub none_yet : (settings : Settings) (known : List EntryValue) (silos : List Silo) (receipts : List Receipt) (amount : ℕ) → HasMore settings known silos receipts receipts amount amount
-none_yet settings known silos receipts amount = record { more = []; kept = sym (append-nil receipts); its = All-nil (IsDeliveryToOneOf settings known silos); counted = omega arith }
+pub none_yet : (settings : Settings) (known : List EntryValue) (silos : List Silo) (receipts : List Receipt) (amount : ℕ)
+    → HasMore settings known silos receipts receipts amount amount
+none_yet settings known silos receipts amount =
+    record { more = []; kept = sym (append-nil receipts); its = All-nil (IsDeliveryToOneOf settings known silos); counted = omega arith }
 
 -- what holds where nothing was lost
 pub unless_lost : {T E : Type 0} (result : Result T E) (P : Type 0) → OnOk result P → is_err result ≡ false → P

@@ -3,7 +3,8 @@ use Rattle.std.proofs.Common.{◌≡◌, ◌≤◌, ℕ, Option, Some, None, Res
 use Rattle.directory_rules.specs.Event.{Event}
 use Rattle.directory_rules.specs.declared.outcome.Outcome.{Outcome}
 use Rattle.directory_rules.specs.Happens.{happens}
-use Rattle.directory_rules.specs.World.{Accepted, World, accepted_as}
+use Rattle.directory_rules.specs.State.{Accepted, World}
+use Rattle.directory_rules.specs.World.{accepted_as}
 use Rattle.directory_headline.proofs.Events.{by_event}
 use Rattle.silo_threads.specs.Followed.{version_made}
 
@@ -26,9 +27,12 @@ tells_version world event = by_event world TellsVersion
     })
     event
 
-pub version_left : (world : World) (event : Event) (after : World) (outcome : Outcome) → happens world event ≡ Ok (accepted_as after outcome) → IsVersionOf after (version_made outcome.happening)
-version_left world event after outcome told = subst (λ (happened : Result Accepted ℕ). IfOk happened TellsVersion) told (tells_version world event)
+pub version_left : (world : World) (event : Event) (after : World) (outcome : Outcome)
+    → happens world event ≡ Ok (accepted_as after outcome) → IsVersionOf after (version_made outcome.happening)
+version_left world event after outcome told =
+    subst (λ (happened : Result Accepted ℕ). IfOk happened TellsVersion) told (tells_version world event)
 
-pub up_to : (told : Option ℕ) (version bound : ℕ) → IfSome told (λ made. made ≡ version) → version ≤ bound → IfSome told (λ made. made ≤ bound)
+pub up_to : (told : Option ℕ) (version bound : ℕ) → IfSome told (λ made. made ≡ version) → version ≤ bound
+    → IfSome told (λ made. made ≤ bound)
 up_to None version bound is within = tt
 up_to (Some made) version bound is within = subst (λ (n : ℕ). n ≤ bound) (sym is) within

@@ -7,7 +7,8 @@ use Rattle.hash_ring.specs.Ring.{ring_of}
 use Rattle.directory_rules.specs.Event.{Event, Join, Leave, Kill, See, Do, Deliver, Lose}
 use Rattle.directory_rules.specs.declared.outcome.Happening.{Happening}
 use Rattle.directory_rules.specs.declared.outcome.Happening.TheVariants.{Joined, Left, Died}
-use Rattle.directory_rules.specs.World.{World, current_view}
+use Rattle.directory_rules.specs.State.{World}
+use Rattle.directory_rules.specs.World.{current_view}
 use Rattle.cluster_journal.specs.declared.entry.Receipt.{Receipt}
 use Rattle.published_rings.specs.Ends.{PublisherValue, after_publishing}
 use Rattle.silo_threads.specs.Cluster.{ClusterValue}

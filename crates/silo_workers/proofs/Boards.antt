@@ -42,7 +42,8 @@ use Rattle.cluster_board.specs.contracts.work.Prepared as prepared
 use Rattle.cluster_board.specs.contracts.work.Prepared.TheInside as prepared_inside
 
 -- a struct with a model
-pub sent : (T : S.Declared) (D : Type 0) (code : Coded D) (view : T.D → D) (holds : T.D → Type 0) → AllSend (S.fields T) → IsSend (View (S.row T) D code view holds)
+pub sent : (T : S.Declared) (D : Type 0) (code : Coded D) (view : T.D → D) (holds : T.D → Type 0) → AllSend (S.fields T)
+    → IsSend (View (S.row T) D code view holds)
 sent T D code view holds s = view_send (S.row T) D code view holds (recorded_send _ T.D T.to T.to_one (struct_send (S.shape T) s))
 
 module _ (T : RattleType) (g : names.Ghosts T.Denot) (s : IsSend T) where
@@ -50,18 +51,36 @@ module _ (T : RattleType) (g : names.Ghosts T.Denot) (s : IsSend T) where
   mark_sends = marking.mark_sends shared.the_row T g s
 
   pub job_sends : IsSend (job.the_row T g)
-  job_sends = sent (job_inside.the_type T g) _ _ _ _ (number64.moved, (letter_crosses.moved, (shared_crosses.moved, (enum_send (E.shape (Option.the_type (mark.the_row shared.the_row T g))) (tt, ((mark_sends, tt), tt)), tt))))
+  job_sends =
+      sent (job_inside.the_type T g) _ _ _ _ (
+        number64.moved,
+        (
+          letter_crosses.moved,
+          (
+            shared_crosses.moved,
+            (
+              enum_send (E.shape (Option.the_type (mark.the_row shared.the_row T g)))
+                  (tt, ((mark_sends, tt), tt)),
+              tt,
+            ),
+          ),
+        ),
+      )
 
   pub prepared_sends : IsSend (prepared.the_row T g)
   prepared_sends = sent (prepared_inside.the_type T g) _ _ _ _ (job_sends, (plan_crosses.moved, tt))
 
   marks_send : IsSend (Option.the_field (marks.the_row shared.the_row T g)).row
-  marks_send = enum_send (E.shape (Option.the_type (marks.the_row shared.the_row T g))) (tt, ((marking.marks_send shared.the_row T g s, tt), tt))
+  marks_send =
+      enum_send (E.shape (Option.the_type (marks.the_row shared.the_row T g))) (tt, ((marking.marks_send shared.the_row T g s, tt), tt))
 
-  marked_sends : IsSend (BTreeMap.the_field silo.the_row (mark.the_row shared.the_row T g) Heap.the_row ord.ghosts eq.ghosts partial.ghosts ghosts).row
-  marked_sends = maps.BTreeMap-send silo.the_row (mark.the_row shared.the_row T g) ord.ghosts eq.ghosts partial.ghosts silo_crosses.moved mark_sends
+  marked_sends : IsSend (BTreeMap.the_field silo.the_row (mark.the_row shared.the_row T g) Heap.the_row ord.ghosts eq.ghosts partial.ghosts
+      ghosts).row
+  marked_sends =
+      maps.BTreeMap-send silo.the_row (mark.the_row shared.the_row T g) ord.ghosts eq.ghosts partial.ghosts silo_crosses.moved mark_sends
 
-module _ (T : RattleType) (c : charter.Ghosts T.Denot) (l : ledger.Ghosts T.Denot) (g : names.Ghosts T.Denot) (n : log.Ghosts T.Denot) (s : IsSend T) where
+module _ (T : RattleType) (c : charter.Ghosts T.Denot) (l : ledger.Ghosts T.Denot) (g : names.Ghosts T.Denot) (n : log.Ghosts T.Denot)
+    (s : IsSend T) where
   pub board_sends : IsSend (board.the_row T c l g n)
   board_sends =
       sent (board_inside.the_type T c l g n) _ _ _ _ (
@@ -70,10 +89,17 @@ module _ (T : RattleType) (c : charter.Ghosts T.Denot) (l : ledger.Ghosts T.Deno
           world_crosses.moved,
           (
             crossing.Vec-send entry.the_row entry_crosses.moved,
-            (book_send T l, (logging.keeper_sends entry.the_row entry_crosses.moved T n s, (marks_send T g s, (marked_sends T g s, (truth.moved, (truth.moved, tt)))))),
+            (
+              book_send T l,
+              (
+                logging.keeper_sends entry.the_row entry_crosses.moved T n s,
+                (marks_send T g s, (marked_sends T g s, (truth.moved, (truth.moved, tt)))),
+              ),
+            ),
           ),
         ),
       )
 
   pub hand_field_sends : IsSend (hand.the_field T l n).row
-  hand_field_sends = struct_send (S.shape (hand.the_type T l n)) (share_send T l, (logging.front_sends entry.the_row entry_crosses.moved T n s, tt))
+  hand_field_sends =
+      struct_send (S.shape (hand.the_type T l n)) (share_send T l, (logging.front_sends entry.the_row entry_crosses.moved T n s, tt))

@@ -13,7 +13,8 @@ each_sends (R ∷ Rs) s = (s.0, each_sends Rs s.1)
 
 -- Its name says nothing of that, so this is the closure without one: of the closure itself say `record { owned = its.owned; leaving = its.leaving }`
 closure_sends : (Rs : List RattleType) → AllSend Rs → IsSend (TupleAt [] Rs)
-closure_sends Rs s = let T = type_at [] Rs in recorded_send (Struct (S.shape T)) T.D T.to T.to_one (struct_send (S.shape T) (each_sends Rs s))
+closure_sends Rs s =
+    let T = type_at [] Rs in recorded_send (Struct (S.shape T)) T.D T.to T.to_one (struct_send (S.shape T) (each_sends Rs s))
 
 -- one that takes three things along
 pub three_send : (A B C : RattleType) → IsSend A → IsSend B → IsSend C → IsSend (TupleAt [] (A ∷ B ∷ C ∷ []))

@@ -9,7 +9,8 @@ use Rattle.directory_rules.specs.Event.{Deliver}
 use Rattle.directory_rules.specs.Happens.{happens}
 use Rattle.directory_rules.specs.Mail.{letter_of}
 use Rattle.directory_rules.specs.Settings.{Settings}
-use Rattle.directory_rules.specs.World.{World, accepted_as}
+use Rattle.directory_rules.specs.State.{World}
+use Rattle.directory_rules.specs.World.{accepted_as}
 use Rattle.cluster_board.specs.Commits.{Declines}
 use Rattle.cluster_board.specs.Work.{Work}
 use Rattle.cluster_board.specs.declared.refusal.CommitRefusal.{CommitRefusal}
@@ -30,7 +31,8 @@ use Rattle.silo_workers.specs.declared.cause.Ending.TheVariants.{Dismissed, Gave
 
 -- ---- Where more is known.
 
-pub delivery_on : (settings : Settings) (silo : Silo) (known now : List EntryValue) (receipt : Receipt) → IsPrefix known now → IsDeliveryTo settings silo known receipt → IsDeliveryTo settings silo now receipt
+pub delivery_on : (settings : Settings) (silo : Silo) (known now : List EntryValue) (receipt : Receipt) → IsPrefix known now
+    → IsDeliveryTo settings silo known receipt → IsDeliveryTo settings silo now receipt
 delivery_on settings silo known now receipt goes_on is = record {
   number = is.number;
   letter = is.letter;
@@ -48,9 +50,11 @@ delivery_on settings silo known now receipt goes_on is = record {
 
 pub deliveries_on : (settings : Settings) (silo : Silo) (known now : List EntryValue) (receipts : List Receipt) → IsPrefix known now
     → AreDeliveriesTo settings silo known receipts → AreDeliveriesTo settings silo now receipts
-deliveries_on settings silo known now receipts goes_on are = λ k d within. delivery_on settings silo known now (get_or receipts k d) goes_on (are k d within)
+deliveries_on settings silo known now receipts goes_on are =
+    λ k d within. delivery_on settings silo known now (get_or receipts k d) goes_on (are k d within)
 
-refused_on : (settings : Settings) (silo : Silo) (known now : List EntryValue) (number : ℕ) → IsPrefix known now → WasRefused settings silo known number → WasRefused settings silo now number
+refused_on : (settings : Settings) (silo : Silo) (known now : List EntryValue) (number : ℕ) → IsPrefix known now
+    → WasRefused settings silo known number → WasRefused settings silo now number
 refused_on settings silo known now number goes_on was = record {
   journal = was.journal;
   begins = prefix_then was.journal known now was.begins goes_on;
@@ -61,28 +65,34 @@ refused_on settings silo known now number goes_on was = record {
   refused = was.refused;
 }
 
-gives_up_on : (settings : Settings) (silo : Silo) (known now : List EntryValue) (cause : Cause) → IsPrefix known now → GivesUp settings silo known cause → GivesUp settings silo now cause
+gives_up_on : (settings : Settings) (silo : Silo) (known now : List EntryValue) (cause : Cause) → IsPrefix known now
+    → GivesUp settings silo known cause → GivesUp settings silo now cause
 gives_up_on settings silo known now causes.JournalFull goes_on gives = refused_on settings silo known now 908 goes_on gives
 gives_up_on settings silo known now causes.MailFull goes_on gives = refused_on settings silo known now 909 goes_on gives
 gives_up_on settings silo known now causes.OutOfMemory goes_on gives = tt
 
-pub ends_on : (settings : Settings) (silo : Silo) (known now : List EntryValue) (ending : Ending) → IsPrefix known now → Ends settings silo known ending → Ends settings silo now ending
+pub ends_on : (settings : Settings) (silo : Silo) (known now : List EntryValue) (ending : Ending) → IsPrefix known now
+    → Ends settings silo known ending → Ends settings silo now ending
 ends_on settings silo known now (Dismissed its) goes_on ends = ends
 ends_on settings silo known now (GaveUp cause) goes_on ends = gives_up_on settings silo known now cause goes_on ends
 
 -- ---- A commit.
 
 -- what was committed is the last entry of what is known now
-pub committed : (settings : Settings) (silo : Silo) (known journal now : List EntryValue) (world after : World) (work : Work) (receipt : Receipt) (receipts : List Receipt)
-    → AreDeliveriesTo settings silo known receipts → IsPrefix known journal → now ≡ journal ++ receipt.entry ∷ [] → world_of settings journal ≡ world → world_of settings now ≡ after
+pub committed : (settings : Settings) (silo : Silo) (known journal now : List EntryValue) (world after : World) (work : Work)
+    (receipt : Receipt) (receipts : List Receipt)
+    → AreDeliveriesTo settings silo known receipts → IsPrefix known journal → now ≡ journal ++ receipt.entry ∷ []
+    → world_of settings journal ≡ world → world_of settings now ≡ after
     → letter_of world work.number ≡ Some work.letter → work.letter.to ≡ silo
-    → happens world (Deliver work.number) ≡ Ok (accepted_as after receipt.entry.outcome) → receipt.entry.event ≡ Deliver work.number → receipt.number ≡ length journal + 1
+    → happens world (Deliver work.number) ≡ Ok (accepted_as after receipt.entry.outcome) → receipt.entry.event ≡ Deliver work.number
+    → receipt.number ≡ length journal + 1
     → AreDeliveriesTo settings silo now (receipts ++ receipt ∷ [])
 committed settings silo known journal now world after work receipt receipts are begins is world_is after_is mailed its told event number =
     let all = journal ++ receipt.entry ∷ [] in
     let told_so : happens (world_of settings journal) (Deliver work.number) ≡ Ok (accepted_as (world_of settings all) receipt.entry.outcome) =
     subst (λ (w : World). happens w (Deliver work.number) ≡ Ok (accepted_as (world_of settings all) receipt.entry.outcome)) (sym world_is)
-    (subst (λ (w : World). happens world (Deliver work.number) ≡ Ok (accepted_as w receipt.entry.outcome)) (sym after_is ∙ ap (λ (l : List EntryValue). world_of settings l) is) told) in
+    (subst (λ (w : World). happens world (Deliver work.number) ≡ Ok (accepted_as w receipt.entry.outcome))
+    (sym after_is ∙ ap (λ (l : List EntryValue). world_of settings l) is) told) in
     let ends : IsPrefix all now = subst (IsPrefix all) (sym is) (prefix_self all) in
     let goes_on : IsPrefix known now = prefix_then known journal now begins (receipt.entry ∷ [], sym is) in
     All-push (IsDeliveryTo settings silo now) receipts receipt (deliveries_on settings silo known now receipts goes_on are) (record {
@@ -94,18 +104,22 @@ committed settings silo known journal now world after work receipt receipts are 
     })
 
 -- a tally before the first commit
-pub none_yet : (settings : Settings) (silo : Silo) (seen : List EntryValue) (parts amount : ℕ) (receipts : List Receipt) → parts ≡ 1 → amount ≡ 0 → receipts ≡ [] → IsTally settings silo seen parts amount receipts
+pub none_yet : (settings : Settings) (silo : Silo) (seen : List EntryValue) (parts amount : ℕ) (receipts : List Receipt) → parts ≡ 1
+    → amount ≡ 0 → receipts ≡ [] → IsTally settings silo seen parts amount receipts
 none_yet settings silo seen parts amount receipts part nothing none =
-    subst (IsTally settings silo seen parts amount) (sym none) (record { part = part; counted = nothing; delivered = All-nil (IsDeliveryTo settings silo seen) })
+    subst (IsTally settings silo seen parts amount) (sym none)
+    (record { part = part; counted = nothing; delivered = All-nil (IsDeliveryTo settings silo seen) })
 
 -- the same with room for more
-pub roomier : (settings : Settings) (silo : Silo) (seen : List EntryValue) (parts amount : ℕ) (receipts same : List Receipt) → IsTally settings silo seen parts amount receipts → same ≡ receipts
+pub roomier : (settings : Settings) (silo : Silo) (seen : List EntryValue) (parts amount : ℕ) (receipts same : List Receipt)
+    → IsTally settings silo seen parts amount receipts → same ≡ receipts
     → IsTally settings silo seen parts amount same
 roomier settings silo seen parts amount receipts same is same_is = subst (IsTally settings silo seen parts amount) (sym same_is) is
 
 -- the tally where nothing was committed, but more was seen
 pub nothing_more : (settings : Settings) (silo : Silo) (seen now : List EntryValue) (parts same amount still : ℕ) (receipts : List Receipt)
-    → IsTally settings silo seen parts amount receipts → IsPrefix seen now → same ≡ parts → still ≡ amount → IsTally settings silo now same still receipts
+    → IsTally settings silo seen parts amount receipts → IsPrefix seen now → same ≡ parts → still ≡ amount
+    → IsTally settings silo now same still receipts
 nothing_more settings silo seen now parts same amount still receipts is goes_on same_is still_is = record {
   part = same_is ∙ is.part;
   counted = still_is ∙ is.counted;
@@ -113,8 +127,10 @@ nothing_more settings silo seen now parts same amount still receipts is goes_on 
 }
 
 -- and where something was
-pub one_more : (settings : Settings) (silo : Silo) (seen now : List EntryValue) (parts same amount more : ℕ) (receipts all : List Receipt) (receipt : Receipt)
-    → IsTally settings silo seen parts amount receipts → same ≡ parts → more ≡ amount + 1 → AreDeliveriesTo settings silo now (receipts ++ receipt ∷ []) → all ≡ receipts ++ receipt ∷ []
+pub one_more : (settings : Settings) (silo : Silo) (seen now : List EntryValue) (parts same amount more : ℕ) (receipts all : List Receipt)
+    (receipt : Receipt)
+    → IsTally settings silo seen parts amount receipts → same ≡ parts → more ≡ amount + 1
+    → AreDeliveriesTo settings silo now (receipts ++ receipt ∷ []) → all ≡ receipts ++ receipt ∷ []
     → IsTally settings silo now same more all
 one_more settings silo seen now parts same amount more receipts all receipt is same_is more_is delivered all_is =
     subst (IsTally settings silo now same more) (sym all_is) (record {
@@ -126,15 +142,29 @@ one_more settings silo seen now parts same amount more receipts all receipt is s
 -- ---- A refusal.
 
 -- where it has a cause, the worker gives up by it
-pub declined : (settings : Settings) (silo : Silo) (known : List EntryValue) (work : Work) (refusal : CommitRefusal) (cause : Cause) → work.letter.to ≡ silo
+pub declined : (settings : Settings) (silo : Silo) (known : List EntryValue) (work : Work) (refusal : CommitRefusal) (cause : Cause)
+    → work.letter.to ≡ silo
     → Declines (world_of settings known) work refusal → Some cause ≡ cause_of refusal → GivesUp settings silo known cause
 declined settings silo known work refusal cause its declines is = gives refusal declines is
   where
-    by_number : (number : ℕ) → letter_of (world_of settings known) work.number ≡ Some work.letter → happens (world_of settings known) (Deliver work.number) ≡ Err number → WasRefused settings silo known number
-    by_number number mailed refused = record { journal = known; begins = prefix_self known; number = work.number; letter = work.letter; mailed = mailed; its = its; refused = refused }
+    by_number : (number : ℕ) → letter_of (world_of settings known) work.number ≡ Some work.letter
+        → happens (world_of settings known) (Deliver work.number) ≡ Err number → WasRefused settings silo known number
+    by_number number mailed refused =
+        record {
+          journal = known;
+          begins = prefix_self known;
+          number = work.number;
+          letter = work.letter;
+          mailed = mailed;
+          its = its;
+          refused = refused;
+        }
 
-    gives : (refusal : CommitRefusal) → Declines (world_of settings known) work refusal → Some cause ≡ cause_of refusal → GivesUp settings silo known cause
+    gives : (refusal : CommitRefusal) → Declines (world_of settings known) work refusal → Some cause ≡ cause_of refusal
+        → GivesUp settings silo known cause
     gives refusals.StaleWork declines is = absurd (cc)
-    gives refusals.JournalFull declines is = subst (GivesUp settings silo known) (sym (same_Some cause causes.JournalFull is)) (by_number 908 declines.0.mailed declines.1)
-    gives refusals.MailFull declines is = subst (GivesUp settings silo known) (sym (same_Some cause causes.MailFull is)) (by_number 909 declines.0.mailed declines.1)
+    gives refusals.JournalFull declines is =
+        subst (GivesUp settings silo known) (sym (same_Some cause causes.JournalFull is)) (by_number 908 declines.0.mailed declines.1)
+    gives refusals.MailFull declines is =
+        subst (GivesUp settings silo known) (sym (same_Some cause causes.MailFull is)) (by_number 909 declines.0.mailed declines.1)
     gives refusals.OutOfMemory declines is = subst (GivesUp settings silo known) (sym (same_Some cause causes.OutOfMemory is)) tt

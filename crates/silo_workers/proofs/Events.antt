@@ -22,10 +22,13 @@ own_step_crosses : Crosses (own_step.the_field).row
 own_step_crosses = search (silo_crosses, grain_crosses, variants) depth 30 parts 0 fits 5000
 
 event_crosses : Crosses (event.the_field).row
-event_crosses = let places = listed u32 number32 in search (places, silo_crosses, own_step_crosses, number64, variants) depth 30 parts 0 fits 5000
+event_crosses =
+    let places = listed u32 number32 in search (places, silo_crosses, own_step_crosses, number64, variants) depth 30 parts 0 fits 5000
 
 happening_crosses : Crosses (happening.the_field).row
-happening_crosses = let replaced = optional silo.the_row silo_crosses in search (replaced, silo_crosses, effect_crosses, kind_crosses, number64, variants) depth 30 parts 0 fits 5000
+happening_crosses =
+    let replaced = optional silo.the_row silo_crosses in
+    search (replaced, silo_crosses, effect_crosses, kind_crosses, number64, variants) depth 30 parts 0 fits 5000
 
 span_crosses : Crosses span.the_row
 span_crosses = structure span.the_type (fields span.the_type (number64, (number64, tt)))

@@ -48,10 +48,21 @@ module _ (K V : RattleType) (o : ord.Ghosts K.Denot) (e : eq.Ghosts K.Denot) (p 
   pub mapped : Crosses K → Crosses V → Crosses (BTreeMap.the_field K V Heap.the_row o e p ghosts).row
   mapped k v = record { moved = maps.BTreeMap-send K V o e p k.moved v.moved; shared = maps.BTreeMap-sync K V o e p k.shared v.shared }
 
-module _ (K V S T : RattleType) (e : eq.Ghosts K.Denot) (h : hash.Ghosts K.Denot) (b : builder.Ghosts S.Denot T.Denot) (w : hasher.Ghosts T.Denot) where
+module _ (K V S T : RattleType) (e : eq.Ghosts K.Denot) (h : hash.Ghosts K.Denot) (b : builder.Ghosts S.Denot T.Denot)
+    (w : hasher.Ghosts T.Denot) where
   pub hashed : Crosses K → Crosses V → Crosses S → Crosses (HashMap.the_field K V S Heap.the_row T e h b w ghosts).row
-  hashed k v s = record { moved = maps.HashMap-send K V S T e h b w k.moved v.moved s.moved; shared = maps.HashMap-sync K V S T e h b w k.shared v.shared s.shared }
+  hashed k v s =
+      record {
+        moved = maps.HashMap-send K V S T e h b w k.moved v.moved s.moved;
+        shared = maps.HashMap-sync K V S T e h b w k.shared
+            v.shared s.shared;
+      }
 
 module _ (K : RattleType) (o : ord.Ghosts K.Denot) (e : eq.Ghosts K.Denot) (p : partial.Ghosts K.Denot) where
   pub gathered : Crosses K → Crosses (BTreeSet.the_field K Heap.the_row o e p ghosts).row
-  gathered k = record { moved = sets.BTreeSet-send K Heap.the_row o e p ghosts k.moved crossing.send crossing.frees; shared = sets.BTreeSet-sync K Heap.the_row o e p ghosts k.shared crossing.sync }
+  gathered k =
+      record {
+        moved = sets.BTreeSet-send K Heap.the_row o e p ghosts k.moved crossing.send crossing.frees;
+        shared = sets.BTreeSet-sync K
+            Heap.the_row o e p ghosts k.shared crossing.sync;
+      }

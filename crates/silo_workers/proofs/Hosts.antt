@@ -2,7 +2,7 @@
 use denote.RattleType.{RattleType}
 use denote.Builtin.{RawPtr, u8, u32}
 use denote.Param.Send.{sendable}
-use Rattle.silo_workers.proofs.Parts.{Crosses, fields, structure, modelled, inverted, variants, choice, array, byte, number32, number64}
+use Rattle.silo_workers.proofs.Parts.{Crosses, fields, structure, modelled, inverted, variants, choice, array, byte, number32, number64, nothing}
 use Rattle.silo_workers.proofs.Holders.{heap_crosses, heap_field_crosses, listed, mapped, hashed}
 use Rattle.silo_workers.proofs.Names.{silo_crosses, grain_crosses, activation_crosses}
 use Rattle.silo_workers.proofs.Members.{hashing_crosses}
@@ -49,7 +49,11 @@ use Rattle.host_activations.specs.contracts.kept.State as state
 use Rattle.host_activations.specs.contracts.by_hash.HashedCount as hashed_count
 use Rattle.host_activations.specs.contracts.activations.Activations as activations
 use Rattle.host_activations.specs.contracts.activations.Activations.TheInside as activations_inside
+use Rattle.host_activations.specs.contracts.under_way.UnderWay as under_way
 use Rattle.host_activations.specs.contracts.asked.OutstandingRequest as asked
+use Rattle.host_activations.specs.contracts.outstanding.OutstandingRequests as outstanding
+use Rattle.host_activations.specs.contracts.outstanding.OutstandingRequests.TheInside as outstanding_inside
+use Rattle.host_activations.specs.contracts.outstanding.by_grain.FindKey as find_key
 use Rattle.host_activations.specs.contracts.host.Host as host
 use Rattle.host_activations.specs.contracts.host.Host.TheInside as host_inside
 use Rattle.host_activations.specs.contracts.host.renewal.Renewal as renewal
@@ -76,26 +80,41 @@ bucket_crosses : Crosses bucket.the_row
 bucket_crosses = structure bucket.the_type (fields bucket.the_type (number32, (number32, tt)))
 
 table_crosses : Crosses (table.the_row Heap.the_row ghosts)
-table_crosses = modelled (table_inside.the_type Heap.the_row ghosts) _ _ _ _ (listed group.the_row group_crosses, (listed bucket.the_row bucket_crosses, (number64, tt)))
+table_crosses =
+    modelled (table_inside.the_type Heap.the_row ghosts) _ _ _ _
+    (listed group.the_row group_crosses, (listed bucket.the_row bucket_crosses, (number64, tt)))
 
 module _ (K V : RattleType) where
   columns_cross : Crosses K → Crosses V → Crosses (columns.the_row K V Heap.the_row ghosts)
   columns_cross k v = modelled (columns_inside.the_type K V Heap.the_row ghosts) _ _ _ _ (listed K k, (listed V v, tt))
 
-module _ (K V S T : RattleType) (e : eq.Ghosts K.Denot) (h : hash.Ghosts K.Denot) (b : builder.Ghosts S.Denot T.Denot) (w : hasher.Ghosts T.Denot) where
+module _ (K V S T : RattleType) (e : eq.Ghosts K.Denot) (h : hash.Ghosts K.Denot) (b : builder.Ghosts S.Denot T.Denot)
+    (w : hasher.Ghosts T.Denot) where
   index_map_crosses : Crosses K → Crosses V → Crosses S → Crosses (index_map.the_row K V S Heap.the_row T e h b w ghosts)
-  index_map_crosses k v s = modelled (index_map_inside.the_type K V S Heap.the_row T e h b w ghosts) _ _ _ _ (columns_cross K V k v, (table_crosses, (s, tt)))
+  index_map_crosses k v s =
+      modelled (index_map_inside.the_type K V S Heap.the_row T e h b w ghosts) _ _ _ _ (columns_cross K V k v, (table_crosses, (s, tt)))
 
 name_crosses : Crosses (name.the_row Heap.the_row ghosts)
-name_crosses = structure (name.the_type Heap.the_row ghosts) (fields (name.the_type Heap.the_row ghosts) (fields (text.the_type Heap.the_row ghosts) (listed u8 byte, tt), tt))
+name_crosses =
+    structure (name.the_type Heap.the_row ghosts) (fields (name.the_type Heap.the_row ghosts)
+    (fields (text.the_type Heap.the_row ghosts) (listed u8 byte, tt), tt))
 
 pub grain_map_crosses : (V : RattleType) → Crosses V → Crosses (grain_map.the_row V)
 grain_map_crosses V v =
-    modelled (grain_map_inside.the_type V) _ _ _ _ (heap_field_crosses, (index_map_crosses (name.the_row Heap.the_row ghosts) V (maker.the_row folding.the_row) folding.the_row _ _ _ _ name_crosses v maker_crosses, tt))
+    modelled (grain_map_inside.the_type V) _ _ _ _ (
+      heap_field_crosses,
+      (
+        index_map_crosses (name.the_row Heap.the_row ghosts) V (maker.the_row folding.the_row) folding.the_row _ _ _ _ name_crosses v
+            maker_crosses,
+        tt,
+      ),
+    )
 
 -- ---- activations
 previous_crosses : Crosses previous.the_row
-previous_crosses = inverted previous_inside.the_type _ _ previous.the_inverse previous.the_view previous.the_invariant (silo_crosses, (array u8 8 byte, tt))
+previous_crosses =
+    inverted previous_inside.the_type _ _ previous.the_inverse previous.the_view previous.the_invariant
+    (silo_crosses, (array u8 8 byte, tt))
 
 stage_crosses : Crosses (stage.the_field).row
 stage_crosses = variants stage.the_type (tt, (tt, (tt, tt)))
@@ -104,23 +123,46 @@ state_crosses : Crosses (state.the_field).row
 state_crosses = variants state.the_type ((stage_crosses, tt), ((stage_crosses, (previous_crosses, tt)), tt))
 
 kept_crosses : Crosses kept.the_row
-kept_crosses = inverted kept_inside.the_type _ _ kept.the_inverse kept.the_view kept.the_invariant (number64, (number64, (state_crosses, tt)))
+kept_crosses =
+    inverted kept_inside.the_type _ _ kept.the_inverse kept.the_view kept.the_invariant (number64, (number64, (state_crosses, tt)))
 
 hashed_count_crosses : Crosses hashed_count.the_row
 hashed_count_crosses = structure hashed_count.the_type (fields hashed_count.the_type (number32, (number64, tt)))
 
+under_way_crosses : Crosses (under_way.the_field).row
+under_way_crosses = fields under_way.the_type (number64, (number64, tt))
+
 activations_cross : Crosses activations.the_row
 activations_cross =
-    modelled activations_inside.the_type _ _ _ _ (number64, (grain_map_crosses kept.the_row kept_crosses, (hashing_crosses, (listed u32 number32, (search (mapped, hashed_count_crosses, number64), tt)))))
+    modelled activations_inside.the_type _ _ _ _ (
+      number64,
+      (
+        grain_map_crosses kept.the_row kept_crosses,
+        (
+          under_way_crosses,
+          (hashing_crosses, (listed u32 number32, (search (mapped, hashed_count_crosses, number64), tt))),
+        ),
+      ),
+    )
 
 asked_crosses : Crosses asked.the_row
 asked_crosses = choice asked.the_type (variants asked.the_type ((grain_crosses, tt), ((grain_crosses, tt), tt)))
 
+find_key_crosses : Crosses find_key.the_row
+find_key_crosses = structure find_key.the_type (fields find_key.the_type (grain_crosses, (number64, tt)))
+
+outstanding_crosses : Crosses outstanding.the_row
+outstanding_crosses =
+    modelled outstanding_inside.the_type _ _ _ _ (
+      search (mapped, number64, asked_crosses),
+      (search (mapped, find_key_crosses, nothing), tt),
+    )
+
 pub host_crosses : Crosses host.the_row
-host_crosses = modelled host_inside.the_type _ _ _ _ (silo_crosses, (number64, (activations_cross, (search (mapped, number64, asked_crosses), (number64, tt)))))
+host_crosses = modelled host_inside.the_type _ _ _ _ (silo_crosses, (number64, (activations_cross, (outstanding_crosses, tt))))
 
 pub renewal_crosses : Crosses renewal.the_row
-renewal_crosses = modelled renewal_inside.the_type _ _ _ _ (search (mapped, number64, asked_crosses), tt)
+renewal_crosses = modelled renewal_inside.the_type _ _ _ _ (outstanding_crosses, tt)
 
 -- ---- caches
 pointer : Crosses RawPtr
@@ -142,13 +184,23 @@ module _ (K V : RattleType) (k : Crosses K) (v : Crosses V) where
   slot_crosses : Crosses (slot.the_row K V Heap.the_row ghosts)
   slot_crosses = structure (slot.the_type K V Heap.the_row ghosts) slot_field_crosses
 
-  module _ (S T : RattleType) (q : total.Ghosts K.Denot) (e : eq.Ghosts K.Denot) (h : hash.Ghosts K.Denot) (b : builder.Ghosts S.Denot T.Denot) (w : hasher.Ghosts T.Denot) where
+  module _ (S T : RattleType) (q : total.Ghosts K.Denot) (e : eq.Ghosts K.Denot) (h : hash.Ghosts K.Denot)
+      (b : builder.Ghosts S.Denot T.Denot) (w : hasher.Ghosts T.Denot) where
     nodes_cross : Crosses S → Crosses (nodes.the_field K V S Heap.the_row T q e h b w ghosts).row
     nodes_cross s =
-        fields (nodes.the_type K V S Heap.the_row T q e h b w ghosts) (hashed (key_ref.the_row K) (slot.the_row K V Heap.the_row ghosts) S T _ _ b w key_ref_crosses slot_crosses s, (slot_field_crosses, (slot_field_crosses, (list_crosses, (heap_crosses, tt)))))
+        fields (nodes.the_type K V S Heap.the_row T q e h b w ghosts) (
+          hashed (key_ref.the_row K) (slot.the_row K V Heap.the_row ghosts) S T _ _ b w key_ref_crosses slot_crosses s,
+          (slot_field_crosses, (slot_field_crosses, (list_crosses, (heap_crosses, tt)))),
+        )
 
     lru_crosses : Crosses S → Crosses (lru.the_row K V S Heap.the_row T q e h b w ghosts)
-    lru_crosses s = modelled (lru_inside.the_type K V S Heap.the_row T q e h b w ghosts) _ _ _ _ (nodes_cross s, (fields non_zero.the_type (number64, tt), tt))
+    lru_crosses s =
+        modelled (lru_inside.the_type K V S Heap.the_row T q e h b w ghosts) _ _ _ _
+        (nodes_cross s, (fields non_zero.the_type (number64, tt), tt))
 
 pub cache_crosses : Crosses cache.the_row
-cache_crosses = modelled cache_inside.the_type _ _ _ _ (heap_field_crosses, (search (lru_crosses, grain_crosses, activation_crosses, maker_crosses), tt))
+cache_crosses =
+    modelled cache_inside.the_type _ _ _ _ (
+      heap_field_crosses,
+      (search (lru_crosses, grain_crosses, activation_crosses, maker_crosses), tt),
+    )

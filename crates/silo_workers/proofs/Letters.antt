@@ -22,26 +22,37 @@ use Rattle.directory_letters.specs.contracts.letter.Letter as letter
 use Rattle.directory_letters.specs.contracts.letter.Letter.TheInside as letter_inside
 
 act_crosses : Crosses (act.the_field).row
-act_crosses = let previous = optional activation.the_row activation_crosses in variants act.the_type ((entry_field_crosses, (previous, tt)), ((entry_field_crosses, tt), ((grain_crosses, tt), tt)))
+act_crosses =
+    let previous = optional activation.the_row activation_crosses in
+    variants act.the_type ((entry_field_crosses, (previous, tt)), ((entry_field_crosses, tt), ((grain_crosses, tt), tt)))
 
 request_crosses : Crosses (request.the_field).row
 request_crosses = fields request.the_type (silo_crosses, (number64, (number64, (number32, (act_crosses, tt)))))
 
 pub hashed_crosses : Crosses hashed.the_row
-hashed_crosses = modelled hashed_inside.the_type _ _ _ _ (request_crosses, (optional hashing.the_row (choice hashing.the_type hashing_crosses), tt))
+hashed_crosses =
+    modelled hashed_inside.the_type _ _ _ _ (request_crosses, (optional hashing.the_row (choice hashing.the_type hashing_crosses), tt))
 
 pub why_crosses : Crosses (why.the_field).row
 why_crosses = variants why.the_type ((number64, tt), (tt, ((number64, tt), (tt, tt))))
 
 reply_crosses : Crosses (reply.the_field).row
-reply_crosses = let entry : All ((entry.the_field).row ∷ []) = (entry_field_crosses, tt) in variants reply.the_type (entry, (entry, (tt, (tt, (entry, (tt, ((why_crosses, tt), tt)))))))
+reply_crosses =
+    let entry : All ((entry.the_field).row ∷ []) = (entry_field_crosses, tt) in
+    variants reply.the_type (entry, (entry, (tt, (tt, (entry, (tt, ((why_crosses, tt), tt)))))))
 
 body_crosses : Crosses (body.the_field).row
 body_crosses =
     let range : All (range.the_row ∷ []) = (range_crosses, tt) in
     variants body.the_type (
       (hashed_crosses, tt),
-      ((number64, (reply_crosses, tt)), ((range_crosses, (number64, tt)), ((page_crosses, tt), (range, (range, (range, ((report_crosses, tt), (range, (range, ((entry_field_crosses, tt), tt)))))))))),
+      (
+        (number64, (reply_crosses, tt)),
+        (
+          (range_crosses, (number64, tt)),
+          ((page_crosses, tt), (range, (range, (range, ((report_crosses, tt), (range, (range, ((entry_field_crosses, tt), tt)))))))),
+        ),
+      ),
     )
 
 pub letter_crosses : Crosses letter.the_row

@@ -27,10 +27,13 @@ pub hashing_crosses : Crosses (hashing.the_field).row
 hashing_crosses = variants hashing.the_type (tt, (tt, tt))
 
 pub settings_cross : Crosses settings.the_row
-settings_cross = let n = number64 in inverted settings_inside.the_type _ _ settings.the_inverse settings.the_view settings.the_invariant (hashing_crosses, (n, (n, (n, (n, (n, (n, (n, (n, (n, tt))))))))))
+settings_cross =
+    let n = number64 in inverted settings_inside.the_type _ _ settings.the_inverse settings.the_view settings.the_invariant
+    (hashing_crosses, (n, (n, (n, (n, (n, (n, (n, (n, (n, tt))))))))))
 
 member_crosses : Crosses member.the_row
-member_crosses = let version = optional u64 number64 in structure member.the_type (fields member.the_type (number64, (version, (version, tt))))
+member_crosses =
+    let version = optional u64 number64 in structure member.the_type (fields member.the_type (number64, (version, (version, tt))))
 
 views_cross : Crosses views.the_row
 views_cross = modelled views_inside.the_type _ _ _ _ (number64, (number64, (search (mapped, silo_crosses, member_crosses), tt)))
@@ -39,13 +42,18 @@ status_crosses : Crosses status.the_row
 status_crosses = choice status.the_type (variants status.the_type (tt, (tt, (tt, tt))))
 
 pub view_crosses : Crosses view.the_row
-view_crosses = modelled view_inside.the_type _ _ _ _ (number64, (listed _ (pair silo.the_row status.the_row silo_crosses status_crosses), tt))
+view_crosses =
+    modelled view_inside.the_type _ _ _ _ (number64, (listed _ (pair silo.the_row status.the_row silo_crosses status_crosses), tt))
 
 silo_places_cross : Crosses silo_places.the_row
 silo_places_cross = modelled silo_places_inside.the_type _ _ _ _ (listed u32 number32, tt)
 
 places_cross : Crosses places.the_row
-places_cross = modelled places_inside.the_type _ _ _ _ (heap_field_crosses, (hashing_crosses, (number64, (search (mapped, silo_crosses, silo_places_cross), tt))))
+places_cross =
+    modelled places_inside.the_type _ _ _ _ (
+      heap_field_crosses,
+      (hashing_crosses, (number64, (search (mapped, silo_crosses, silo_places_cross), tt))),
+    )
 
 pub membership_crosses : Crosses membership.the_row
 membership_crosses = modelled membership_inside.the_type _ _ _ _ (views_cross, (places_cross, tt))

@@ -13,10 +13,12 @@ use Rattle.ring_range.specs.contracts.range.RingRange.TheInside as range_inside
 use Rattle.range_moves.specs.contracts.arc.RingArc as arc
 
 pub silo_crosses : Crosses silo.the_row
-silo_crosses = inverted silo_inside.the_type _ _ silo.the_inverse silo.the_view silo.the_invariant (array u8 4 byte, (number16, (number32, tt)))
+silo_crosses =
+    inverted silo_inside.the_type _ _ silo.the_inverse silo.the_view silo.the_invariant (array u8 4 byte, (number16, (number32, tt)))
 
 pub grain_crosses : Crosses grain.the_row
-grain_crosses = inverted grain_inside.the_type _ _ grain.the_inverse grain.the_view grain.the_invariant (byte, (byte, (array u8 193 byte, tt)))
+grain_crosses =
+    inverted grain_inside.the_type _ _ grain.the_inverse grain.the_view grain.the_invariant (byte, (byte, (array u8 193 byte, tt)))
 
 pub activation_field_crosses : Crosses (activation.the_field).row
 activation_field_crosses = fields activation.the_type (silo_crosses, (number64, tt))

@@ -32,7 +32,22 @@ node_crosses =
       heap_field_crosses,
       (
         settings_cross,
-        (view_crosses, (counted ring.the_row ring_crosses, (holding_crosses, (shelf_crosses, (search (mapped, number32, gathering_crosses), (search (mapped, number32, recovery_crosses), (host_crosses, (optional cache.the_row cache_crosses, tt)))))))),
+        (
+          view_crosses,
+          (
+            counted ring.the_row ring_crosses,
+            (
+              holding_crosses,
+              (
+                shelf_crosses,
+                (
+                  search (mapped, number32, gathering_crosses),
+                  (search (mapped, number32, recovery_crosses), (host_crosses, (optional cache.the_row cache_crosses, tt))),
+                ),
+              ),
+            ),
+          ),
+        ),
       ),
     )
 
@@ -40,13 +55,23 @@ pub shared_crosses : Crosses shared.the_row
 shared_crosses = modelled shared_inside.the_type _ _ _ _ (heap_field_crosses, (counted node.the_row node_crosses, tt))
 
 pub transition_crosses : Crosses transition.the_row
-transition_crosses = modelled transition_inside.the_type _ _ _ _ (counted ring.the_row ring_crosses, (counted by_silo.the_row by_silo_crosses, tt))
+transition_crosses =
+    modelled transition_inside.the_type _ _ _ _ (counted ring.the_row ring_crosses, (counted by_silo.the_row by_silo_crosses, tt))
 
 sight_crosses : Crosses sight.the_row
 sight_crosses =
     structure sight.the_type (fields sight.the_type (
       truth,
-      (view_crosses, (transition_crosses, (listed snapshot.the_row snapshot_crosses, (search (mapped, number32, gathering_crosses), (search (mapped, number32, recovery_crosses), (renewal_crosses, tt)))))),
+      (
+        view_crosses,
+        (
+          transition_crosses,
+          (
+            listed snapshot.the_row snapshot_crosses,
+            (search (mapped, number32, gathering_crosses), (search (mapped, number32, recovery_crosses), (renewal_crosses, tt))),
+          ),
+        ),
+      ),
     ))
 
 change_crosses : Crosses (change.the_field).row
@@ -61,30 +86,39 @@ change_crosses =
         (
           (renewal_crosses, tt),
           (
-            (grain_crosses, (optional activation.the_row activation_crosses, tt)),
+            grain,
             (
-              grain,
+              (grain_crosses, (optional activation.the_row activation_crosses, tt)),
               (
                 grain,
                 (
-                  (hashed_crosses, tt),
+                  grain,
                   (
-                    number,
+                    (hashed_crosses, tt),
                     (
-                      numbered,
+                      number,
                       (
-                        number,
+                        numbered,
                         (
                           number,
                           (
-                            numbered,
+                            number,
                             (
-                              grain,
+                              numbered,
                               (
-                                (grain_crosses, (activation_field_crosses, tt)),
+                                grain,
                                 (
-                                  (number64, (range_crosses, (silo_crosses, tt))),
-                                  ((page_crosses, tt), ((range_crosses, tt), ((range_crosses, (table_crosses, tt)), ((recovery_crosses, tt), ((report_crosses, tt), tt))))),
+                                  (grain_crosses, (activation_field_crosses, tt)),
+                                  (
+                                    (number64, (range_crosses, (silo_crosses, tt))),
+                                    (
+                                      (page_crosses, tt),
+                                      (
+                                        (range_crosses, tt),
+                                        ((range_crosses, (table_crosses, tt)), ((recovery_crosses, tt), ((report_crosses, tt), tt))),
+                                      ),
+                                    ),
+                                  ),
                                 ),
                               ),
                             ),

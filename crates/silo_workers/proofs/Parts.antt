@@ -51,16 +51,23 @@ module _ (T : S.Declared) where
 
   -- a struct by itself, as a type argument is
   pub structure : Crosses (Struct (S.shape T)) → Crosses (S.row T)
-  structure c = let R = Struct (S.shape T) in record { moved = recorded_send R T.D T.to T.to_one c.moved; shared = recorded_sync R T.D T.to T.to_one c.shared }
+  structure c =
+      let R = Struct (S.shape T) in record {
+        moved = recorded_send R T.D T.to T.to_one c.moved;
+        shared = recorded_sync R T.D T.to T.to_one
+            c.shared;
+      }
 
   -- a struct with a model
-  pub modelled : (D : Type 0) (code : Coded D) (view : T.D → D) (holds : T.D → Type 0) → All (S.fields T) → Crosses (View (S.row T) D code view holds)
+  pub modelled : (D : Type 0) (code : Coded D) (view : T.D → D) (holds : T.D → Type 0) → All (S.fields T)
+      → Crosses (View (S.row T) D code view holds)
   modelled D code view holds c =
       let R = S.row T in let whole = structure (fields c) in
       record { moved = view_send R D code view holds whole.moved; shared = view_sync R D code view holds whole.shared }
 
   -- a struct with a model that has an inverse
-  pub inverted : (D : Type 0) (code : Coded D) (inverse : D → T.D) (view : T.D → D) (holds : T.D → Type 0) → All (S.fields T) → Crosses (Fixed (S.row T) D code inverse view holds)
+  pub inverted : (D : Type 0) (code : Coded D) (inverse : D → T.D) (view : T.D → D) (holds : T.D → Type 0) → All (S.fields T)
+      → Crosses (Fixed (S.row T) D code inverse view holds)
   inverted D code inverse view holds c =
       let R = S.row T in let whole = structure (fields c) in
       record { moved = fixed_send R D code inverse view holds whole.moved; shared = fixed_sync R D code inverse view holds whole.shared }
@@ -68,11 +75,17 @@ module _ (T : S.Declared) where
 module _ (T : E.Declared) where
   -- an enum where it is a field
   pub variants : Each (E.variants T) → Crosses (Enum (E.shape T))
-  variants c = let s = E.shape T in record { moved = enum_send s (each_moved s.variants c); shared = enum_sync s (each_shared s.variants c) }
+  variants c =
+      let s = E.shape T in record { moved = enum_send s (each_moved s.variants c); shared = enum_sync s (each_shared s.variants c) }
 
   -- an enum by itself, as a type argument is
   pub choice : Crosses (Enum (E.shape T)) → Crosses (E.row T)
-  choice c = let R = Enum (E.shape T) in record { moved = recorded_send R T.D T.to T.to_one c.moved; shared = recorded_sync R T.D T.to T.to_one c.shared }
+  choice c =
+      let R = Enum (E.shape T) in record {
+        moved = recorded_send R T.D T.to T.to_one c.moved;
+        shared = recorded_sync R T.D T.to T.to_one
+            c.shared;
+      }
 
 pub pair : (A B : RattleType) → Crosses A → Crosses B → Crosses (Tuple (A ∷ B ∷ []))
 pair A B a b = let T = tuple_type (A ∷ B ∷ []) in structure T (fields T (a, (b, tt)))

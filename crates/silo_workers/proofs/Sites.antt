@@ -50,17 +50,23 @@ dismissal_crosses = modelled dismissal_inside.the_type _ _ _ _ (silo_crosses, tt
 ending_crosses : Crosses (ending.the_field).row
 ending_crosses = variants ending.the_type ((dismissal_crosses, tt), ((cause_crosses, tt), tt))
 
-module _ (T : RattleType) (c : charter.Ghosts T.Denot) (l : ledger.Ghosts T.Denot) (g : names.Ghosts T.Denot) (n : log.Ghosts T.Denot) (s : IsSend T) where
+module _ (T : RattleType) (c : charter.Ghosts T.Denot) (l : ledger.Ghosts T.Denot) (g : names.Ghosts T.Denot) (n : log.Ghosts T.Denot)
+    (s : IsSend T) where
   pub tally_sends : IsSend (tally.the_row T c l g n)
   tally_sends =
-      sent (tally_inside.the_type T c l g n) _ _ _ _ (silo_crosses.moved, (hand_field_sends T c l g n s, (crossing.Vec-send receipt.the_row receipt_crosses.moved, tt)))
+      sent (tally_inside.the_type T c l g n) _ _ _ _ (
+        silo_crosses.moved,
+        (hand_field_sends T c l g n s, (crossing.Vec-send receipt.the_row receipt_crosses.moved, tt)),
+      )
 
   pub worked_sends : IsSend (worked.the_row T c l g n)
   worked_sends = sent (worked_inside.the_type T c l g n) _ _ _ _ (tally_sends, (ending_crosses.moved, tt))
 
   module _ (G : RattleType) where
     site_crosses : Crosses G → Crosses (site.the_row T G c l g n)
-    site_crosses gate = structure (site.the_type T G c l g n) (fields (site.the_type T G c l g n) (locked (board.the_row T c l g n) (board_sends T c l g n s), (bell_crosses, (gate, tt))))
+    site_crosses gate =
+        structure (site.the_type T G c l g n) (fields (site.the_type T G c l g n)
+        (locked (board.the_row T c l g n) (board_sends T c l g n s), (bell_crosses, (gate, tt))))
 
     pub site_sends : IsSend G → IsSync G → IsSend (site.the_row T G c l g n)
     site_sends sent shared = (site_crosses (record { moved = sent; shared = shared })).moved

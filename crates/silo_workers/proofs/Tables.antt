@@ -46,7 +46,8 @@ key_crosses : Crosses (key.the_row u8 Heap.the_row ghosts)
 key_crosses = structure (key.the_type u8 Heap.the_row ghosts) (fields (key.the_type u8 Heap.the_row ghosts) (listed u8 byte, tt))
 
 hashed_map_crosses : Crosses hashed_map.the_row
-hashed_map_crosses = modelled hashed_map_inside.the_type _ _ _ _ (heap_field_crosses, (search (mapped, key_crosses, activation_crosses), tt))
+hashed_map_crosses =
+    modelled hashed_map_inside.the_type _ _ _ _ (heap_field_crosses, (search (mapped, key_crosses, activation_crosses), tt))
 
 pub table_crosses : Crosses table.the_row
 table_crosses = modelled table_inside.the_type _ _ _ _ (hashing_crosses, (hashed_map_crosses, (search (gathered, silo_crosses), tt)))
@@ -59,17 +60,27 @@ silos_cross : Crosses silos.the_row
 silos_cross = modelled silos_inside.the_type _ _ _ _ (listed awaited.the_row awaited_crosses, (number64, tt))
 
 pub recovery_crosses : Crosses recovery.the_row
-recovery_crosses = modelled recovery_inside.the_type _ _ _ _ (heap_field_crosses, (number64, (range_crosses, (silos_cross, (table_crosses, tt)))))
+recovery_crosses =
+    modelled recovery_inside.the_type _ _ _ _ (heap_field_crosses, (number64, (range_crosses, (silos_cross, (table_crosses, tt)))))
 
 pub report_crosses : Crosses report.the_row
-report_crosses = modelled report_inside.the_type _ _ _ _ (number64, (range_crosses, (silo_crosses, (listed entry.the_row entry_crosses, tt))))
+report_crosses =
+    modelled report_inside.the_type _ _ _ _ (number64, (range_crosses, (silo_crosses, (listed entry.the_row entry_crosses, tt))))
 
 -- ---- snapshots
 pub snapshot_crosses : Crosses snapshot.the_row
-snapshot_crosses = modelled snapshot_inside.the_type _ _ _ _ (number64, (range_crosses, (silo_crosses, (silo_crosses, (listed entry.the_row entry_crosses, (array u8 32 byte, tt))))))
+snapshot_crosses =
+    modelled snapshot_inside.the_type _ _ _ _ (
+      number64,
+      (range_crosses, (silo_crosses, (silo_crosses, (listed entry.the_row entry_crosses, (array u8 32 byte, tt))))),
+    )
 
 pub page_crosses : Crosses page.the_row
-page_crosses = modelled page_inside.the_type _ _ _ _ (number64, (range_crosses, (number64, (number64, (array u8 32 byte, (listed entry.the_row entry_crosses, tt))))))
+page_crosses =
+    modelled page_inside.the_type _ _ _ _ (
+      number64,
+      (range_crosses, (number64, (number64, (array u8 32 byte, (listed entry.the_row entry_crosses, tt))))),
+    )
 
 pub shelf_crosses : Crosses shelf.the_row
 shelf_crosses = modelled shelf_inside.the_type _ _ _ _ (listed snapshot.the_row snapshot_crosses, tt)
@@ -82,14 +93,21 @@ hasher_crosses = fields hasher.the_type (fields digest.the_type (array u32 8 num
 
 pub gathering_crosses : Crosses gathering.the_row
 gathering_crosses =
-    modelled gathering_inside.the_type _ _ _ _ (number64, (range_crosses, (number64, (optional whole.the_row whole_crosses, (listed entry.the_row entry_crosses, (hasher_crosses, tt))))))
+    modelled gathering_inside.the_type _ _ _ _ (
+      number64,
+      (range_crosses, (number64, (optional whole.the_row whole_crosses, (listed entry.the_row entry_crosses, (hasher_crosses, tt))))),
+    )
 
 -- ---- pieces
 own_arcs_cross : Crosses own_arcs.the_row
 own_arcs_cross = modelled own_arcs_inside.the_type _ _ _ _ (listed arc.the_row arc_crosses, tt)
 
 pub by_silo_crosses : Crosses by_silo.the_row
-by_silo_crosses = modelled by_silo_inside.the_type _ _ _ _ (listed arc.the_row arc_crosses, (search (mapped, silo_crosses, own_arcs_cross), (search (mapped, silo_crosses, own_arcs_cross), tt)))
+by_silo_crosses =
+    modelled by_silo_inside.the_type _ _ _ _ (
+      listed arc.the_row arc_crosses,
+      (search (mapped, silo_crosses, own_arcs_cross), (search (mapped, silo_crosses, own_arcs_cross), tt)),
+    )
 
 state_crosses : Crosses (state.the_field).row
 state_crosses = variants state.the_type (tt, ((silo_crosses, tt), (tt, tt)))
@@ -98,4 +116,8 @@ piece_crosses : Crosses piece.the_row
 piece_crosses = modelled piece_inside.the_type _ _ _ _ (range_crosses, (state_crosses, (table_crosses, tt)))
 
 pub holding_crosses : Crosses holding.the_row
-holding_crosses = modelled holding_inside.the_type _ _ _ _ (number64, (search (mapped, silo_crosses, number64), (search (mapped, number32, piece_crosses), tt)))
+holding_crosses =
+    modelled holding_inside.the_type _ _ _ _ (
+      number64,
+      (search (mapped, silo_crosses, number64), (search (mapped, number32, piece_crosses), tt)),
+    )

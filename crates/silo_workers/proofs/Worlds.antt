@@ -34,14 +34,34 @@ brief_crosses : Crosses (brief.the_field).row
 brief_crosses = fields brief.the_type (silo_crosses, (silo_crosses, (number32, (says_crosses, tt))))
 
 slot_crosses : Crosses slot.the_row
-slot_crosses = choice slot.the_type (variants slot.the_type ((truth, (brief_crosses, tt)), ((truth, (boxed letter.the_row letter_crosses, tt)), ((silo_crosses, tt), tt))))
+slot_crosses =
+    choice slot.the_type (variants slot.the_type (
+      (truth, (brief_crosses, tt)),
+      ((truth, (boxed letter.the_row letter_crosses, tt)), ((silo_crosses, tt), tt)),
+    ))
 
 queue_crosses : Crosses queue.the_row
 queue_crosses = modelled queue_inside.the_type _ _ _ _ (queued u64 number64, tt)
 
 mail_crosses : Crosses mail.the_row
-mail_crosses = modelled mail_inside.the_type _ _ _ _ (heap_field_crosses, (grain_map_crosses unit nothing, (listed slot.the_row slot_crosses, (search (mapped, silo_crosses, queue_crosses), tt))))
+mail_crosses =
+    modelled mail_inside.the_type _ _ _ _ (
+      heap_field_crosses,
+      (grain_map_crosses unit nothing, (listed slot.the_row slot_crosses, (search (mapped, silo_crosses, queue_crosses), tt))),
+    )
 
 pub world_crosses : Crosses world.the_row
 world_crosses =
-    modelled world_inside.the_type _ _ _ _ (heap_field_crosses, (settings_cross, (number64, (membership_crosses, (search (mapped, silo_crosses, shared_crosses), (mail_crosses, (optional transition.the_row transition_crosses, tt)))))))
+    modelled world_inside.the_type _ _ _ _ (
+      heap_field_crosses,
+      (
+        settings_cross,
+        (
+          number64,
+          (
+            membership_crosses,
+            (search (mapped, silo_crosses, shared_crosses), (mail_crosses, (optional transition.the_row transition_crosses, tt))),
+          ),
+        ),
+      ),
+    )

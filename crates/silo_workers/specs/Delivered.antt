@@ -2,7 +2,7 @@
 use Rattle.std.specs.Prelude.{◌≡◌, ℕ, [], List, Some, All}
 use Rattle.silo_address.specs.Silo.{Silo}
 use Rattle.directory_rules.specs.Event.{Deliver}
-use Rattle.directory_rules.specs.Letter.{Letter}
+use Rattle.directory_rules.specs.State.{Letter}
 use Rattle.directory_rules.specs.Mail.{letter_of}
 use Rattle.directory_rules.specs.Settings.{Settings}
 use Rattle.cluster_journal.specs.Entry.{EntryValue}

@@ -12,7 +12,8 @@ pub record IsCutAt (passes : ℕ → Bool) (front : List ℕ) (mark : ℕ) : Typ
   pub fails : All (λ byte. passes byte ≡ false) front
   pub ends : passes mark ≡ true
 
-pub position-cut : (passes : ℕ → Bool) (front : List ℕ) (mark : ℕ) (rest : List ℕ) → IsCutAt passes front mark → position_or_len passes (front ++ mark ∷ rest) ≡ length front
+pub position-cut : (passes : ℕ → Bool) (front : List ℕ) (mark : ℕ) (rest : List ℕ) → IsCutAt passes front mark
+    → position_or_len passes (front ++ mark ∷ rest) ≡ length front
 position-cut passes front mark rest cut =
     let ends : get_or (front ++ mark ∷ rest) (length front) 0 ≡ mark = get_or-append_seam front mark rest 0 in
     position_or_len_is passes (front ++ mark ∷ rest) (length front) 0
@@ -20,14 +21,19 @@ position-cut passes front mark rest cut =
     (λ k below. rw (get_or-append front (mark ∷ rest) 0 k below) (cut.fails k 0 below))
     (λ _. rw ends cut.ends)
 
-pub before_first-cut : (passes : ℕ → Bool) (front : List ℕ) (mark : ℕ) (rest : List ℕ) → IsCutAt passes front mark → before_first passes (front ++ mark ∷ rest) ≡ front
-before_first-cut passes front mark rest cut = ap (λ n. take n (front ++ mark ∷ rest)) (position-cut passes front mark rest cut) ∙ take-append_seam front (mark ∷ rest)
+pub before_first-cut : (passes : ℕ → Bool) (front : List ℕ) (mark : ℕ) (rest : List ℕ) → IsCutAt passes front mark
+    → before_first passes (front ++ mark ∷ rest) ≡ front
+before_first-cut passes front mark rest cut =
+    ap (λ n. take n (front ++ mark ∷ rest)) (position-cut passes front mark rest cut) ∙ take-append_seam front (mark ∷ rest)
 
-pub after_first-cut : (passes : ℕ → Bool) (front : List ℕ) (mark : ℕ) (rest : List ℕ) → IsCutAt passes front mark → after_first passes (front ++ mark ∷ rest) ≡ rest
-after_first-cut passes front mark rest cut = ap (λ n. drop (n + 1) (front ++ mark ∷ rest)) (position-cut passes front mark rest cut) ∙ drop-append-add front (mark ∷ rest) 1
+pub after_first-cut : (passes : ℕ → Bool) (front : List ℕ) (mark : ℕ) (rest : List ℕ) → IsCutAt passes front mark
+    → after_first passes (front ++ mark ∷ rest) ≡ rest
+after_first-cut passes front mark rest cut =
+    ap (λ n. drop (n + 1) (front ++ mark ∷ rest)) (position-cut passes front mark rest cut) ∙ drop-append-add front (mark ∷ rest) 1
 
 -- what stands before the first byte that passes
-pub front_fails : (passes : ℕ → Bool) (bytes : List ℕ) → position_or_len passes bytes ≤ length bytes → All (λ byte. passes byte ≡ false) (before_first passes bytes)
+pub front_fails : (passes : ℕ → Bool) (bytes : List ℕ) → position_or_len passes bytes ≤ length bytes
+    → All (λ byte. passes byte ≡ false) (before_first passes bytes)
 front_fails passes bytes within = λ k d below.
     let long = length-take-le (position_or_len passes bytes) bytes within in
     let before : k < position_or_len passes bytes = omega arith in

@@ -20,7 +20,8 @@ by_index = numerals_by_value _ tells_by_index
 
 -- a numeral below 2^64 is what its number is written as
 pub decimal-numeral_value : (word : List ℕ) → IsNumeral word → numeral_value word < 2 ^ 64 → decimal (numeral_value word) ≡ word
-decimal-numeral_value word numeral small = decimal-digits_value by_index word (λ k below. numeral.digits k 0 below) numeral.some numeral.shortest small
+decimal-numeral_value word numeral small =
+    decimal-digits_value by_index word (λ k below. numeral.digits k 0 below) numeral.some numeral.shortest small
 
 pub numeral_value-decimal : (n : ℕ) → n < 2 ^ 64 → numeral_value (decimal n) ≡ n
 numeral_value-decimal n small = digits_value-decimal by_index n small
@@ -28,7 +29,8 @@ numeral_value-decimal n small = digits_value-decimal by_index n small
 -- no number but 0 begins with a zero
 one_zero : (n : ℕ) → n < 2 ^ 64 → get_or (decimal n) 0 0 ≡ 48 → (n ≡ 0)
 one_zero zero small starts = refl
-one_zero (suc n) small starts = absurd (let above : 48 < get_or (decimal (suc n)) 0 0 = first_decimal (suc n) (omega arith) small in omega arith)
+one_zero (suc n) small starts =
+    absurd (let above : 48 < get_or (decimal (suc n)) 0 0 = first_decimal (suc n) (omega arith) small in omega arith)
 
 pub decimal_is_numeral : (n : ℕ) → n < 2 ^ 64 → IsNumeral (decimal n)
 decimal_is_numeral n small = record {
@@ -46,10 +48,13 @@ Decides-shortest first count = grind (arith, nat_tests)
 pub Decides-is_numeral : (word : List ℕ) → Decides (is_numeral word) (IsNumeral word)
 Decides-is_numeral word =
     Decides-like _ (λ p. record { some = p.0.0; digits = p.0.1; shortest = p.1 p.0.0 }) (λ n. ((n.some, n.digits), λ _. n.shortest))
-    (Decides-and _ _ (Decides-and _ _ (Decides-ltb 0 (length word)) (Decides-by_and is_digit IsDigit (list_all is_digit) Decides-is_digit refl (λ _ _. refl) word)) (Decides-shortest (slice_index word 0) (length word)))
+    (Decides-and _ _ (Decides-and _ _ (Decides-ltb 0 (length word))
+    (Decides-by_and is_digit IsDigit (list_all is_digit) Decides-is_digit refl (λ _ _. refl) word))
+    (Decides-shortest (slice_index word 0) (length word)))
 
 -- What `read_number` answers, by the three cases.
-pub read_number_numeral : (most : ℕ) (word : List ℕ) → IsNumeral word → numeral_value word ≤ most → read_number most word ≡ Ok (numeral_value word)
+pub read_number_numeral : (most : ℕ) (word : List ℕ) → IsNumeral word → numeral_value word ≤ most
+    → read_number most word ≡ Ok (numeral_value word)
 read_number_numeral most word numeral at_most =
     let is : is_numeral word ≡ true = (Decides-is_numeral word).1 numeral in
     let below = le-leb _ _ at_most in
@@ -65,7 +70,8 @@ pub read_number_other : (most : ℕ) (word : List ℕ) → ¬ (IsNumeral word) �
 read_number_other most word other = rw (false_from_not _ (Decides-is_numeral word) other) refl
 
 -- So a word is read as the number that it spells, if that is at most `most`.
-pub read_number-decimal : (most : ℕ) (word : List ℕ) (number : ℕ) → most < 2 ^ 64 → number ≤ most → word ≡ decimal number → read_number most word ≡ Ok number
+pub read_number-decimal : (most : ℕ) (word : List ℕ) (number : ℕ) → most < 2 ^ 64 → number ≤ most → word ≡ decimal number
+    → read_number most word ≡ Ok number
 read_number-decimal most word number small at_most spelled =
     let below : number < 2 ^ 64 = omega arith in
     let value : numeral_value word ≡ number = ap numeral_value spelled ∙ numeral_value-decimal number below in
@@ -96,4 +102,5 @@ by_number most word number small reads false at_most numeral other =
     let fault : Err NotANumber ≡ Ok number = sym (read_number_other most word (not_from_Decides _ (Decides-is_numeral word) numeral)) ∙ reads in cc
 
 pub read_number_found : (most : ℕ) (word : List ℕ) (number : ℕ) → most < 2 ^ 64 → read_number most word ≡ Ok number → word ≡ decimal number
-read_number_found most word number small reads = by_number most word number small reads (is_numeral word) (nat_le (numeral_value word) most) refl refl
+read_number_found most word number small reads =
+    by_number most word number small reads (is_numeral word) (nat_le (numeral_value word) most) refl refl

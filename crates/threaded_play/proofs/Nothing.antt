@@ -13,7 +13,8 @@ kept None = tt
 kept (Some bytes) = refl
 
 -- workers tell nothing
-pub nothing_told : {E : Type 0} (writes : E → List ℕ → Option ℕ → E → Type 0) (contents : E → Option (List ℕ)) (result : ThreadsEnded) (same : E) → TellsCauses writes contents result same same
+pub nothing_told : {E : Type 0} (writes : E → List ℕ → Option ℕ → E → Type 0) (contents : E → Option (List ℕ)) (result : ThreadsEnded)
+    (same : E) → TellsCauses writes contents result same same
 nothing_told writes contents (Played end) same = refl
 nothing_told writes contents ReceiptDiffers same = refl
 nothing_told writes contents Lacking same = ([], (true, Appends-nil (contents same), wrote_all))

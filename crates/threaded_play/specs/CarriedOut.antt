@@ -4,7 +4,7 @@ use Rattle.std.specs.List.{Any}
 use Rattle.directory_rules.specs.Event.{Event, Deliver, Lose}
 use Rattle.directory_rules.specs.Happens.{happens}
 use Rattle.directory_rules.specs.Settings.{Settings}
-use Rattle.directory_rules.specs.World.{World}
+use Rattle.directory_rules.specs.State.{World}
 use Rattle.cluster_journal.specs.Entry.{EntryValue}
 use Rattle.cluster_journal.specs.Journal.{entry_at, world_of}
 use Rattle.script_rules.specs.Output.{sync_events}

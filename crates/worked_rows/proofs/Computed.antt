@@ -86,6 +86,10 @@ pub lost_letter : Prints transfers.lost_letter
 unfolding all_opened
 lost_letter = refl
 
+pub asked_again : Prints transfers.asked_again
+unfolding all_opened
+asked_again = refl
+
 pub two_wakes : Prints requests.two_wakes
 unfolding all_opened
 two_wakes = refl
@@ -97,6 +101,18 @@ old_number = refl
 pub old_number_no_entry : Prints requests.old_number_no_entry
 unfolding all_opened
 old_number_no_entry = refl
+
+pub given_up : Prints requests.given_up
+unfolding all_opened
+given_up = refl
+
+pub given_up_late : Prints requests.given_up_late
+unfolding all_opened
+given_up_late = refl
+
+pub nudged_again : Prints requests.nudged_again
+unfolding all_opened
+nudged_again = refl
 
 pub reply_of_an_older_view : Prints requests.reply_of_an_older_view
 unfolding all_opened

@@ -16,5 +16,6 @@ use Rattle.dump_rules.specs.Verdict.{verdict}
 use Rattle.script_rules.specs.Output.{performed, played}
 
 unfoldable pub all_opened : Type 0
-unfolding digits sha256 hash_after compress rounds schedule first_words digest_bytes silo_words read_silo read_grain stated_hash meet_of cut_parts happens read_line outcome_line show_lines mail_lines owner_line place_line dump_of dump_text is_dump verdict performed played
+unfolding digits sha256 hash_after compress rounds schedule first_words digest_bytes silo_words read_silo read_grain stated_hash meet_of
+    cut_parts happens read_line outcome_line show_lines mail_lines owner_line place_line dump_of dump_text is_dump verdict performed played
 all_opened = Unit {0}

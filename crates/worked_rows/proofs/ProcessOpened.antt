@@ -12,10 +12,12 @@ use Rattle.ring_range.specs.Cut.{cut_parts}
 use Rattle.process_rules.specs.LetterText.{letter_line}
 use Rattle.process_rules.specs.ReadLetter.{read_letter}
 use Rattle.process_rules.specs.ReadLine.{read_silo_line, unended_fault}
-use Rattle.process_rules.specs.Show.{show_lines, dump_line, grain_owner_line, grain_place_line}
+use Rattle.process_rules.specs.Show.{show_lines, dump_line, figures_line, grain_owner_line, grain_place_line}
 use Rattle.process_rules.specs.Answer.{answered, answered_as}
 use Rattle.process_rules.specs.Output.{written_on}
 
 unfoldable pub all_opened : Type 0
-unfolding digits sha256 hash_after compress rounds schedule first_words digest_bytes encode_with decode_pairs silo_words read_silo read_grain read_activation stated_hash read_range meet_of cut_parts letter_line read_letter read_silo_line unended_fault show_lines dump_line grain_owner_line grain_place_line answered answered_as written_on
+unfolding digits sha256 hash_after compress rounds schedule first_words digest_bytes encode_with decode_pairs silo_words read_silo
+    read_grain read_activation stated_hash read_range meet_of cut_parts letter_line read_letter read_silo_line unended_fault show_lines
+    dump_line figures_line grain_owner_line grain_place_line answered answered_as written_on
 all_opened = Unit {0}

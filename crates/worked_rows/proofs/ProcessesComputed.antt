@@ -8,6 +8,7 @@ use Rattle.worked_rows.specs.MissingSnapshot as missing
 use Rattle.worked_rows.specs.Refused as refused
 use Rattle.worked_rows.specs.Tokens as tokens
 use Rattle.worked_rows.specs.Questions as questions
+use Rattle.worked_rows.specs.Deadlines as deadlines
 use Rattle.worked_rows.specs.ProcessFaults as faults
 use Rattle.worked_rows.specs.Bytes as bytes
 use Rattle.worked_rows.proofs.ProcessOpened.{all_opened}
@@ -43,6 +44,22 @@ owners_and_places = (record { ip = 10 ∷ 0 ∷ 0 ∷ 1 ∷ []; port = 1000; gen
 pub requests_waiting : Writes questions.requests_waiting
 unfolding all_opened
 requests_waiting = (record { ip = 10 ∷ 0 ∷ 0 ∷ 1 ∷ []; port = 1000; generation = 1 }, refl, refl)
+
+pub figures_told : Writes questions.figures_told
+unfolding all_opened
+figures_told = (record { ip = 10 ∷ 0 ∷ 0 ∷ 1 ∷ []; port = 1000; generation = 1 }, refl, refl)
+
+pub a_grain_given_up : Writes deadlines.a_grain_given_up
+unfolding all_opened
+a_grain_given_up = (record { ip = 10 ∷ 0 ∷ 0 ∷ 1 ∷ []; port = 1000; generation = 1 }, refl, refl)
+
+pub one_grain_nudged : Writes deadlines.one_grain_nudged
+unfolding all_opened
+one_grain_nudged = (record { ip = 10 ∷ 0 ∷ 0 ∷ 1 ∷ []; port = 1000; generation = 1 }, refl, refl)
+
+pub ranges_nudged : Writes deadlines.ranges_nudged
+unfolding all_opened
+ranges_nudged = (record { ip = 10 ∷ 0 ∷ 0 ∷ 2 ∷ []; port = 1000; generation = 1 }, refl, refl)
 
 pub faulty_lines : Writes faults.faulty_lines
 unfolding all_opened

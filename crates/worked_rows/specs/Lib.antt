@@ -19,5 +19,6 @@ pub mod MissingSnapshot
 pub mod Refused
 pub mod Tokens
 pub mod Questions
+pub mod Deadlines
 pub mod ProcessFaults
 pub mod Bytes

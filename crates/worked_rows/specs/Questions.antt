@@ -1,5 +1,5 @@
--- Questions about a grain: who owns its hash, and where this silo would place it, by the view that it has seen; and how requests end,
--- or wait on.
+-- Questions about a grain: who owns its hash, and where this silo would place it, by the view that it has seen; how requests end, or wait
+-- on; and what a silo tells of itself in figures.
 use Rattle.std.specs.Prelude.{[], ◌∷◌, codes, None}
 use Rattle.texts.specs.Printed.{text_of_lines}
 use Rattle.worked_rows.specs.ProcessRow.{ProcessRow}
@@ -106,5 +106,76 @@ requests_waiting = record {
       ∷ codes "delivered retry ignored"
       ∷ codes "ended 10.0.0.1:1000@1!1 user/ann#7 removed"
       ∷ codes "delivered retry ignored"
+      ∷ []);
+}
+
+-- a silo that was told nothing has nothing; then it knows a version more than it has seen; then it recovers a range. Of four activations one
+-- is firm, one asks and two close, of which one was given up; three searches are outstanding; and the snapshot of a range that was given
+-- away is on the shelf
+abbrev pub figures_told : ProcessRow
+figures_told = record {
+  silo = codes "10.0.0.1:1000@1";
+  token = None;
+  input = text_of_lines
+      (codes "status"
+      ∷ codes "joined 1 10.0.0.1:1000@1 0"
+      ∷ codes "status"
+      ∷ codes "see 1"
+      ∷ codes "status"
+      ∷ codes "letter 10.0.0.1:1000@1 10.0.0.1:1000@1 1 report 0+4294967296"
+      ∷ codes "joined 2 10.0.0.2:1000@1 2147483648"
+      ∷ codes "see 2"
+      ∷ codes "wake user/ann#7"
+      ∷ codes "letter 10.0.0.1:1000@1 10.0.0.1:1000@1 2 registered 1 user/ann#7 10.0.0.1:1000@1!1"
+      ∷ codes "wake user/bob#3000000000"
+      ∷ codes "wake user/cat#9"
+      ∷ codes "wake user/dan#5"
+      ∷ codes "status"
+      ∷ codes "close user/ann#7"
+      ∷ codes "cancel user/dan#5"
+      ∷ codes "letter 10.0.0.1:1000@1 10.0.0.1:1000@1 2 registered 3 user/cat#9 10.0.0.1:1000@1!3"
+      ∷ codes "find user/zoe#1"
+      ∷ codes "find user/eve#4000000000"
+      ∷ codes "find user/abe#2"
+      ∷ codes "leaving 3 10.0.0.2:1000@1"
+      ∷ codes "status"
+      ∷ codes "dead 4 10.0.0.1:1000@1"
+      ∷ codes "status"
+      ∷ []);
+  text = text_of_lines
+      (codes "status 0 known 0 held 0 asking 0 closing 0 finding 0 unsettled 0 kept 0"
+      ∷ codes "view 1 joined 10.0.0.1:1000@1"
+      ∷ codes "status 0 known 1 held 0 asking 0 closing 0 finding 0 unsettled 0 kept 0"
+      ∷ codes "10.0.0.1:1000@1 sees 1 next"
+      ∷ codes "letter 10.0.0.1:1000@1 10.0.0.1:1000@1 1 query 0+4294967296"
+      ∷ codes "status 1 known 1 held 0 asking 0 closing 0 finding 0 unsettled 1 kept 0"
+      ∷ codes "delivered report complete"
+      ∷ codes "view 2 joined 10.0.0.2:1000@1"
+      ∷ codes "10.0.0.1:1000@1 sees 2 next"
+      ∷ codes "started 10.0.0.1:1000@1!1 user/ann#7"
+      ∷ codes "letter 10.0.0.1:1000@1 10.0.0.1:1000@1 2 register 1 user/ann#7 10.0.0.1:1000@1!1"
+      ∷ codes "firm 10.0.0.1:1000@1!1 user/ann#7 at 2"
+      ∷ codes "started 10.0.0.1:1000@1!2 user/bob#3000000000"
+      ∷ codes "letter 10.0.0.1:1000@1 10.0.0.2:1000@1 2 register 2 user/bob#3000000000 10.0.0.1:1000@1!2"
+      ∷ codes "started 10.0.0.1:1000@1!3 user/cat#9"
+      ∷ codes "letter 10.0.0.1:1000@1 10.0.0.1:1000@1 2 register 3 user/cat#9 10.0.0.1:1000@1!3"
+      ∷ codes "started 10.0.0.1:1000@1!4 user/dan#5"
+      ∷ codes "letter 10.0.0.1:1000@1 10.0.0.1:1000@1 2 register 4 user/dan#5 10.0.0.1:1000@1!4"
+      ∷ codes "status 2 known 2 held 4 asking 3 closing 0 finding 0 unsettled 0 kept 1"
+      ∷ codes "closing 10.0.0.1:1000@1!1 user/ann#7"
+      ∷ codes "letter 10.0.0.1:1000@1 10.0.0.1:1000@1 2 deregister 5 user/ann#7 10.0.0.1:1000@1!1"
+      ∷ codes "cancelled 10.0.0.1:1000@1!4 user/dan#5"
+      ∷ codes "letter 10.0.0.1:1000@1 10.0.0.1:1000@1 2 deregister 6 user/dan#5 10.0.0.1:1000@1!4"
+      ∷ codes "firm 10.0.0.1:1000@1!3 user/cat#9 at 2"
+      ∷ codes "finding user/zoe#1"
+      ∷ codes "letter 10.0.0.1:1000@1 10.0.0.1:1000@1 2 find 7 user/zoe#1"
+      ∷ codes "finding user/eve#4000000000"
+      ∷ codes "letter 10.0.0.1:1000@1 10.0.0.2:1000@1 2 find 8 user/eve#4000000000"
+      ∷ codes "finding user/abe#2"
+      ∷ codes "letter 10.0.0.1:1000@1 10.0.0.1:1000@1 2 find 9 user/abe#2"
+      ∷ codes "view 3 leaving 10.0.0.2:1000@1"
+      ∷ codes "status 2 known 3 held 4 asking 1 closing 2 finding 3 unsettled 0 kept 1"
+      ∷ codes "view 4 dead 10.0.0.1:1000@1"
+      ∷ codes "dead"
       ∷ []);
 }

@@ -208,3 +208,45 @@ lost_letter = record {
       ∷ []);
   status = 0;
 }
+
+-- the ask of a range is lost, and a nudge of the ranges sends it again, but no request; a nudge of the grain sends that
+abbrev pub asked_again : Row
+asked_again = record {
+  script = text_of_lines
+      (codes "join 10.0.0.1:1000@1 0"
+      ∷ codes "see 10.0.0.1:1000@1 1"
+      ∷ codes "settle"
+      ∷ codes "join 10.0.0.2:1000@1 2147483648"
+      ∷ codes "see 10.0.0.1:1000@1 2"
+      ∷ codes "see 10.0.0.2:1000@1 2"
+      ∷ codes "lose 3"
+      ∷ codes "wake 10.0.0.2:1000@1 user/bob#3000000000"
+      ∷ codes "nudge 10.0.0.2:1000@1 ranges"
+      ∷ codes "settle"
+      ∷ codes "nudge 10.0.0.2:1000@1 ranges"
+      ∷ codes "nudge 10.0.0.2:1000@1 user/bob#3000000000"
+      ∷ codes "settle"
+      ∷ []);
+  text = text_of_lines
+      (codes "view 1 joined 10.0.0.1:1000@1"
+      ∷ codes "10.0.0.1:1000@1 sees 1 next sent 1..1"
+      ∷ codes "delivered 1 query report sent 2..2"
+      ∷ codes "delivered 2 report complete"
+      ∷ codes "view 2 joined 10.0.0.2:1000@1"
+      ∷ codes "10.0.0.1:1000@1 sees 2 next"
+      ∷ codes "10.0.0.2:1000@1 sees 2 next sent 3..3"
+      ∷ codes "lost 3"
+      ∷ codes "started 10.0.0.2:1000@1!1 user/bob#3000000000 sent 4..4"
+      ∷ codes "nudged 10.0.0.2:1000@1 sent 5..5"
+      ∷ codes "delivered 4 register retry 602 sent 6..6"
+      ∷ codes "delivered 5 ask page sent 7..7"
+      ∷ codes "delivered 6 retry noted"
+      ∷ codes "delivered 7 page installed sent 8..8"
+      ∷ codes "delivered 8 done deleted"
+      ∷ codes "nudged 10.0.0.2:1000@1"
+      ∷ codes "nudged 10.0.0.2:1000@1 sent 9..9"
+      ∷ codes "delivered 9 register registered sent 10..10"
+      ∷ codes "delivered 10 registered firm"
+      ∷ []);
+  status = 0;
+}

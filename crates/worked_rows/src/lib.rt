@@ -126,6 +126,12 @@ pub fn lost_letter()
     ensures { Prints transfers.lost_letter }
 {}
 
+/// The ask of a range is lost, and a nudge of the ranges sends it again, but no request.
+#[tactic(auto, using(crate::proofs::Computed::asked_again))]
+pub fn asked_again()
+    ensures { Prints transfers.asked_again }
+{}
+
 /// Of two activations of one grain the second yields.
 #[tactic(auto, using(crate::proofs::Computed::two_wakes))]
 pub fn two_wakes()
@@ -142,6 +148,24 @@ pub fn old_number()
 #[tactic(auto, using(crate::proofs::Computed::old_number_no_entry))]
 pub fn old_number_no_entry()
     ensures { Prints requests.old_number_no_entry }
+{}
+
+/// An activation that asks is given up: its Register, which comes late, isn't served. One that is firm or closes can't be given up.
+#[tactic(auto, using(crate::proofs::Computed::given_up))]
+pub fn given_up()
+    ensures { Prints requests.given_up }
+{}
+
+/// An activation is given up whose Register was served already: its entry is taken out again.
+#[tactic(auto, using(crate::proofs::Computed::given_up_late))]
+pub fn given_up_late()
+    ensures { Prints requests.given_up_late }
+{}
+
+/// One grain is nudged faster than its replies come; another grain's reply counts.
+#[tactic(auto, using(crate::proofs::Computed::nudged_again))]
+pub fn nudged_again()
+    ensures { Prints requests.nudged_again }
 {}
 
 /// A reply of an older view is ignored.

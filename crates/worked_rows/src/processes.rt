@@ -8,6 +8,7 @@ ghost use Rattle.worked_rows.specs.MissingSnapshot as missing;
 ghost use Rattle.worked_rows.specs.Refused as refused;
 ghost use Rattle.worked_rows.specs.Tokens as tokens;
 ghost use Rattle.worked_rows.specs.Questions as questions;
+ghost use Rattle.worked_rows.specs.Deadlines as deadlines;
 ghost use Rattle.worked_rows.specs.ProcessFaults as faults;
 ghost use Rattle.worked_rows.specs.Bytes as bytes;
 
@@ -57,6 +58,30 @@ pub fn owners_and_places()
 #[tactic(auto, using(crate::proofs::ProcessesComputed::requests_waiting))]
 pub fn requests_waiting()
     ensures { Writes questions.requests_waiting }
+{}
+
+/// A silo tells how far it is, how much it holds and how much waits.
+#[tactic(auto, using(crate::proofs::ProcessesComputed::figures_told))]
+pub fn figures_told()
+    ensures { Writes questions.figures_told }
+{}
+
+/// An activation that asks is given up, and its Register, which comes late, isn't served.
+#[tactic(auto, using(crate::proofs::ProcessesComputed::a_grain_given_up))]
+pub fn a_grain_given_up()
+    ensures { Writes deadlines.a_grain_given_up }
+{}
+
+/// A nudge of one grain leaves the requests of all others as they are.
+#[tactic(auto, using(crate::proofs::ProcessesComputed::one_grain_nudged))]
+pub fn one_grain_nudged()
+    ensures { Writes deadlines.one_grain_nudged }
+{}
+
+/// A nudge of the ranges leaves every request as it is.
+#[tactic(auto, using(crate::proofs::ProcessesComputed::ranges_nudged))]
+pub fn ranges_nudged()
+    ensures { Writes deadlines.ranges_nudged }
 {}
 
 /// Each line with a fault is answered by its first one, and the next is read.

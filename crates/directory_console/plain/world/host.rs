@@ -135,6 +135,16 @@ impl Host {
         self.ask(Request::Of(slot))
     }
 
+    /// An asking activation is given up: it closes, under the number, and what it asked isn't outstanding any more.
+    pub fn give_up(&mut self, slot: Slot, grains: &Grains) -> u64 {
+        let asked = self.requests.iter().position(|request| matches!(request, Request::Of(its) if *its == slot));
+        if let Some(index) = asked {
+            self.answer(self.first_number + index as u64);
+        }
+        self.held[slot as usize].previous = None;
+        self.close(slot, grains)
+    }
+
     pub fn find(&mut self, grain: Grain) -> u64 {
         self.finds += 1;
         self.ask(Request::Find(grain))
@@ -172,6 +182,11 @@ impl Host {
             self.requests[index] = Request::Nothing;
             self.outstanding -= 1;
         }
+        self.close_gap();
+    }
+
+    /// No gap stands in front.
+    fn close_gap(&mut self) {
         while let Some(Request::Nothing) = self.requests.front() {
             self.requests.pop_front();
             self.first_number += 1;
@@ -215,7 +230,35 @@ impl Host {
         self.requests.retain(|request| !matches!(request, Request::Nothing));
     }
 
-    /// The outstanding requests under their numbers, just renewed.
+    /// Whether a request is about the grain.
+    fn is_about(&self, grain: Grain, request: Request) -> bool {
+        match request {
+            Request::Nothing => false,
+            Request::Of(slot) => self.held(slot).grain == grain,
+            Request::Find(its) => its == grain,
+        }
+    }
+
+    /// How many outstanding requests are about the grain.
+    pub fn outstanding_about(&self, grain: Grain) -> usize {
+        self.requests.iter().filter(|request| self.is_about(grain, **request)).count()
+    }
+
+    /// Each outstanding request about the grain gets a new number, in the order of the old ones; the first of these.
+    pub fn renew_about(&mut self, grain: Grain) -> u64 {
+        let first = self.first_number + self.requests.len() as u64;
+        for index in 0..self.requests.len() {
+            let request = self.requests[index];
+            if self.is_about(grain, request) {
+                self.requests[index] = Request::Nothing;
+                self.requests.push_back(request);
+            }
+        }
+        self.close_gap();
+        first
+    }
+
+    /// The requests under their numbers, gaps among them.
     pub fn requests(&self) -> impl Iterator<Item = (u64, Request)> + '_ {
         (self.first_number..).zip(self.requests.iter().copied())
     }

@@ -120,6 +120,20 @@ impl Node {
         Ok(Happening::Closing { activation, grain })
     }
 
+    /// An activation that asks is given up; 802 where the grain has none, 808 where it doesn't ask.
+    pub fn cancel(&mut self, commons: &mut Commons, grain: Grain) -> Step<Happening> {
+        let slot = self.host.slot_of(grain).ok_or(802u16)?;
+        let held = *self.host.held(slot);
+        if held.phase != Phase::Asking {
+            return Err(808);
+        }
+        let activation = held.activation;
+        let owner = self.owner(commons, grain)?;
+        let number = self.host.give_up(slot, &commons.grains);
+        self.post_request(commons, owner, number, Body::Deregister { grain, activation });
+        Ok(Happening::Cancelled { activation, grain })
+    }
+
     /// The activation closes, but its Deregister isn't sent before the next nudge or sight. The other silo is none that never joined.
     pub fn offer(&mut self, commons: &mut Commons, grain: Grain, to: Option<Silo>) -> Step<Happening> {
         let (slot, activation) = self.firm(grain)?;
@@ -149,18 +163,39 @@ impl Node {
     }
 
     pub fn nudge(&mut self, commons: &mut Commons) -> Step<Happening> {
-        let wanted: usize = self.pieces.0.iter().map(|piece| piece.state.wants()).sum();
-        let asked = if self.ring.points.is_empty() { 0 } else { self.host.outstanding() };
-        commons.mail.has_room_for(wanted + asked)?;
+        commons.mail.has_room_for(self.wanted() + self.asked(self.host.outstanding()))?;
         self.host.renew();
-        self.post_requests(commons);
+        self.post_requests(commons, 0);
         self.post_wants(commons);
         Ok(Happening::Nudged { silo: self.silo })
     }
 
-    /// Sends every outstanding request to its owner.
-    pub fn post_requests(&self, commons: &mut Commons) {
-        for (number, request) in self.host.requests() {
+    pub fn nudge_grain(&mut self, commons: &mut Commons, grain: Grain) -> Step<Happening> {
+        commons.mail.has_room_for(self.asked(self.host.outstanding_about(grain)))?;
+        let first = self.host.renew_about(grain);
+        self.post_requests(commons, first);
+        Ok(Happening::Nudged { silo: self.silo })
+    }
+
+    pub fn nudge_ranges(&mut self, commons: &mut Commons) -> Step<Happening> {
+        commons.mail.has_room_for(self.wanted())?;
+        self.post_wants(commons);
+        Ok(Happening::Nudged { silo: self.silo })
+    }
+
+    /// How many letters its pieces want sent.
+    fn wanted(&self) -> usize {
+        self.pieces.0.iter().map(|piece| piece.state.wants()).sum()
+    }
+
+    /// How many of so many requests are sent: none where nobody owns a hash.
+    fn asked(&self, requests: usize) -> usize {
+        if self.ring.points.is_empty() { 0 } else { requests }
+    }
+
+    /// Sends every outstanding request from that number on to its owner.
+    pub fn post_requests(&self, commons: &mut Commons, first: u64) {
+        for (number, request) in self.host.requests().filter(|(number, _)| *number >= first) {
             let (grain, body) = match request {
                 Request::Nothing => continue,
                 Request::Find(grain) => (grain, Body::Find { grain }),

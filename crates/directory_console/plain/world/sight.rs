@@ -36,7 +36,7 @@ impl Node {
         let (version, is_next) = (sight.version, sight.is_next);
         self.carry_out(commons, sight);
         self.post_wants(commons);
-        self.post_requests(commons);
+        self.post_requests(commons, 0);
         Ok(Happening::Saw { silo: self.silo, version, is_next })
     }
 

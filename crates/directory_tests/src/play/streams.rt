@@ -26,6 +26,13 @@ offer 10.0.0.1:1000@1 user/ann#3000000000 10.0.0.2:1000@1
 settle
 close 10.0.0.2:1000@1 user/ann#3000000000
 settle
+nudge 10.0.0.1:1000@1 user/ann#3000000000
+nudge 10.0.0.1:1000@1 ranges
+settle
+wake 10.0.0.1:1000@1 user/bob#1
+cancel 10.0.0.1:1000@1 user/bob#1
+deliver 19
+settle
 owner 3000000000
 place 10.0.0.1:1000@1 prefer_local user/bob#1
 show
@@ -63,11 +70,20 @@ delivered 13 registered firm
 closing 10.0.0.2:1000@1!1 user/ann#3000000000 sent 14..14
 delivered 14 deregister removed sent 15..15
 delivered 15 removed ended
+nudged 10.0.0.1:1000@1 sent 16..16
+nudged 10.0.0.1:1000@1
+delivered 16 deregister absent sent 17..17
+delivered 17 absent ended
+started 10.0.0.1:1000@1!2 user/bob#1 sent 18..18
+cancelled 10.0.0.1:1000@1!2 user/bob#1 sent 19..19
+delivered 19 deregister absent sent 20..20
+delivered 18 register retry 603 sent 21..21
+delivered 20 absent ended
+delivered 21 retry ignored
 owner 3000000000 10.0.0.2:1000@1 0
 place user/bob#1 10.0.0.1:1000@1
 version 2
-silo 10.0.0.1:1000@1 active seen 2 held 1
-held 10.0.0.1:1000@1!1 user/ann#3000000000 closing
+silo 10.0.0.1:1000@1 active seen 2 held 0
 silo 10.0.0.2:1000@1 active seen 2 held 0
 range 0+2147483648 10.0.0.1:1000@1 settled entries 0
 range 2147483648+2147483648 10.0.0.2:1000@1 settled entries 0
@@ -85,13 +101,18 @@ range 2147483648+2147483648 10.0.0.2:1000@1 settled entries 0
 13 registered 10.0.0.2:1000@1 10.0.0.2:1000@1 2
 14 deregister 10.0.0.2:1000@1 10.0.0.2:1000@1 2
 15 removed 10.0.0.2:1000@1 10.0.0.2:1000@1 2
-{\"current\":2,\"hashing\":\"stated\",\"nodes\":[{\"held\":[{\"activation\":\"10.0.0.1:1000@1!1\",\"grain\":\"user/ann#3000000000\",\"phase\":\"closing\"}],\"pieces\":[{\"entries\":[],\"from\":\"\",\"range\":\"0+2147483648\",\"state\":\"settled\"}],\"ring\":[[0,\"10.0.0.1:1000@1\",0],[2147483648,\"10.0.0.2:1000@1\",0]],\"seen\":2,\"silo\":\"10.0.0.1:1000@1\"},{\"held\":[],\"pieces\":[{\"entries\":[],\"from\":\"\",\"range\":\"2147483648+2147483648\",\"state\":\"settled\"}],\"ring\":[[0,\"10.0.0.1:1000@1\",0],[2147483648,\"10.0.0.2:1000@1\",0]],\"seen\":2,\"silo\":\"10.0.0.2:1000@1\"}],\"points\":30,\"rows\":[{\"dead\":0,\"joined\":1,\"left\":0,\"places\":[0],\"silo\":\"10.0.0.1:1000@1\"},{\"dead\":0,\"joined\":2,\"left\":0,\"places\":[2147483648],\"silo\":\"10.0.0.2:1000@1\"}]}
+16 deregister 10.0.0.1:1000@1 10.0.0.2:1000@1 2
+17 absent 10.0.0.2:1000@1 10.0.0.1:1000@1 2
+18 register 10.0.0.1:1000@1 10.0.0.1:1000@1 2
+19 deregister 10.0.0.1:1000@1 10.0.0.1:1000@1 2
+20 absent 10.0.0.1:1000@1 10.0.0.1:1000@1 2
+21 retry 10.0.0.1:1000@1 10.0.0.1:1000@1 2
+{\"current\":2,\"hashing\":\"stated\",\"nodes\":[{\"held\":[],\"pieces\":[{\"entries\":[],\"from\":\"\",\"range\":\"0+2147483648\",\"state\":\"settled\"}],\"ring\":[[0,\"10.0.0.1:1000@1\",0],[2147483648,\"10.0.0.2:1000@1\",0]],\"seen\":2,\"silo\":\"10.0.0.1:1000@1\"},{\"held\":[],\"pieces\":[{\"entries\":[],\"from\":\"\",\"range\":\"2147483648+2147483648\",\"state\":\"settled\"}],\"ring\":[[0,\"10.0.0.1:1000@1\",0],[2147483648,\"10.0.0.2:1000@1\",0]],\"seen\":2,\"silo\":\"10.0.0.2:1000@1\"}],\"points\":30,\"rows\":[{\"dead\":0,\"joined\":1,\"left\":0,\"places\":[0],\"silo\":\"10.0.0.1:1000@1\"},{\"dead\":0,\"joined\":2,\"left\":0,\"places\":[2147483648],\"silo\":\"10.0.0.2:1000@1\"}]}
 check ok
 view 3 leaving 10.0.0.2:1000@1
 view 4 dead 10.0.0.2:1000@1
 version 4
-silo 10.0.0.1:1000@1 active seen 2 held 1
-held 10.0.0.1:1000@1!1 user/ann#3000000000 closing
+silo 10.0.0.1:1000@1 active seen 2 held 0
 silo 10.0.0.2:1000@1 dead
 range 0+4294967296 10.0.0.1:1000@1 unsettled
 ";

@@ -52,15 +52,18 @@ fn event_name(event: &Event) -> &'static str {
     }
 }
 
-const NAMES: [(&str, &str); 21] = [
+const NAMES: [(&str, &str); 24] = [
     ("join 10.0.0.1:1000@1", "join"),
     ("leave 10.0.0.1:1000@1", "leave"),
     ("kill 10.0.0.1:1000@1", "kill"),
     ("nudge 10.0.0.1:1000@1", "nudge"),
+    ("nudge 10.0.0.1:1000@1 user/ann", "nudge grain"),
+    ("nudge 10.0.0.1:1000@1 ranges", "nudge ranges"),
     ("see 10.0.0.1:1000@1 1", "see"),
     ("sync", "sync"),
     ("wake 10.0.0.1:1000@1 user/ann", "wake"),
     ("close 10.0.0.1:1000@1 user/ann", "close"),
+    ("cancel 10.0.0.1:1000@1 user/ann", "cancel"),
     ("find 10.0.0.1:1000@1 user/ann", "find"),
     ("forget 10.0.0.1:1000@1 user/ann", "forget"),
     ("offer 10.0.0.1:1000@1 user/ann 10.0.0.2:1000@1", "offer"),
@@ -105,18 +108,22 @@ fn commands(rt: HostRuntime) {
     }
 }
 
-const FAULTS: [(&str, u16); 25] = [
+const FAULTS: [(&str, u16); 29] = [
     ("SHOW", 921),
     ("show; now", 921),
     ("sync x y z", 922),
     ("show ;", 922),
-    ("nudge x y", 922),
+    ("nudge", 922),
+    ("nudge x y z", 922),
+    ("cancel x", 922),
     ("kill", 922),
     ("lose x 7", 922),
     ("offer x ann", 922),
     ("offer x ann y z", 922),
     ("place x y", 922),
     ("leave x", 101),
+    ("nudge x y", 101),
+    ("nudge 10.0.0.1:1000@1 y", 111),
     ("place 10.0.0.1:1000@0 least ann", 103),
     ("place 10.0.0.1:1000@1 Prefer_local ann", 926),
     ("place 10.0.0.1:1000@1 hash_based ann", 111),

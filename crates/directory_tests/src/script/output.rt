@@ -138,6 +138,8 @@ fn lines_of_activations(rt: HostRuntime) {
     tells(&rt, alloc, Effect::Started(*entry), started);
     let closing = "closing 10.0.0.1:1000@1!1 user/t#3000000000";
     tells(&rt, alloc, Effect::Closing(*entry), closing);
+    let cancelled = "cancelled 10.0.0.1:1000@1!1 user/t#3000000000";
+    tells(&rt, alloc, Effect::Cancelled(*entry), cancelled);
     let offered = "offered 10.0.0.1:1000@1!1 user/t#3000000000 to 10.0.0.2:1000@1";
     let effect = Effect::Offered { entry: *entry, to };
     tells(&rt, alloc, effect, offered);

@@ -1,8 +1,9 @@
-ghost use Rattle.std.specs.Prelude.{◌≡◌, ◌≤◌, ◌^◌, None, IsTrue, IfSome, IsSomeAnd, OnOk, OnErr};
-ghost use Rattle.directory_rules.specs.Host.{held_of, is_firm, with_closing, with_find, with_started};
+ghost use Rattle.std.specs.Prelude.{◌≡◌, ◌≤◌, ◌^◌, None, IfSome, IsSome, OnOk, OnErr};
+ghost use Rattle.directory_rules.specs.Host.{held_of, with_closing, with_find, with_started};
 
 use super::Host;
-use crate::asked::OutstandingRequest;
+use super::end::free;
+use crate::asked::{OutstandingRequest, number_in};
 use directory_rules::Phase;
 use silo_address::{ActivationId, GrainId};
 use std::alloc::AllocError;
@@ -22,7 +23,7 @@ impl Host {
         ensures unchanged { OnErr result (self.new ≡ self.old) }
     {
         self.outstanding
-            .insert(self.next_number, OutstandingRequest::Activation(grain))?;
+            .insert(self.next_number, &OutstandingRequest::Activation(grain))?;
         match self.held.begin(grain, self.next_number, previous) {
             Ok(()) => {
                 self.held.whole();
@@ -30,24 +31,26 @@ impl Host {
                 Ok(())
             }
             Err(error) => {
-                self.outstanding.remove(&self.next_number);
+                self.outstanding.remove(self.next_number);
                 Err(error)
             }
         }
     }
 
-    /// The grain's firm activation asks to be taken out. Fails only when memory runs out.
+    /// The grain's activation asks to be taken out: from then on the request that it has had outstanding, if it had one, doesn't
+    /// count. Fails only when memory runs out.
     pub fn begin_to_close(&mut self, grain: &GrainId) -> Result<(), AllocError>
-        requires firm { IsSomeAnd (held_of self.old grain.now) (λ held. IsTrue (is_firm held.phase)) }
+        requires there { IsSome (held_of self.old grain.now) }
         requires number { self.old.next_number ≤ 2 ^ 60 }
         ensures closing { OnOk result (IfSome (held_of self.old grain.now) (λ held. self.new ≡ with_closing self.old grain.now held)) }
         ensures unchanged { OnErr result (self.new ≡ self.old) }
     {
         let held = self.held.get(grain).unwrap();
         self.outstanding
-            .insert(self.next_number, OutstandingRequest::Activation(*grain))?;
+            .insert(self.next_number, &OutstandingRequest::Activation(*grain))?;
+        free(&mut self.outstanding, number_in(held.phase));
         let closing = Phase::Closing(self.next_number);
-        self.held.set(grain, closing, held.previous);
+        self.held.set(grain, closing, None);
         self.held.whole();
         self.next_number += 1;
         Ok(())
@@ -60,9 +63,8 @@ impl Host {
         ensures unchanged { OnErr result (self.new ≡ self.old) }
     {
         self.outstanding
-            .insert(self.next_number, OutstandingRequest::Find(grain))?;
+            .insert(self.next_number, &OutstandingRequest::Find(grain))?;
         self.next_number += 1;
-        self.find_count += 1;
         Ok(())
     }
 }

@@ -8,10 +8,10 @@ ghost use Rattle.std.specs.Ordering.{nat_cmp};
 use super::Host;
 use super::replies::find_under;
 use crate::Activations;
-use crate::asked::{OutstandingRequest, number_in};
+use crate::asked::number_in;
+use crate::outstanding::OutstandingRequests;
 use directory_rules::Phase;
 use silo_address::GrainId;
-use std::collections::BTreeMap;
 
 impl Host {
     /// The activation whose Register has the number is firm from now on. Where there is none, nothing changes.
@@ -22,7 +22,7 @@ impl Host {
             return;
         };
         let (grain, _) = found;
-        self.outstanding.remove(&number);
+        self.outstanding.remove(number);
         self.held.set(&grain, Phase::Firm, None);
         self.held.whole();
     }
@@ -44,13 +44,12 @@ impl Host {
         let Some(_) = find_under(&self.outstanding, number) else {
             return;
         };
-        self.outstanding.remove(&number);
-        self.find_count -= 1;
+        self.outstanding.remove(number);
     }
 }
 
 // The number of the request that the grain's activation has outstanding.
-fn number_of(held: &Activations, grain: &GrainId) -> Option<u64>
+pub(super) fn number_of(held: &Activations, grain: &GrainId) -> Option<u64>
     ensures { result ≡ number_of grain.now held.now.entries }
 {
     match held.get(grain) {
@@ -60,10 +59,10 @@ fn number_of(held: &Activations, grain: &GrainId) -> Option<u64>
 }
 
 // The number has nothing outstanding any more, if there is one.
-fn free(outstanding: &mut BTreeMap<u64, OutstandingRequest>, number: Option<u64>)
+pub(super) fn free(outstanding: &mut OutstandingRequests, number: Option<u64>)
     ensures { MatchOption number (outstanding.new.entries ≡ outstanding.old.entries) (λ taken. outstanding.new.entries ≡ remove_entry (is_at (nat_cmp taken)) outstanding.old.entries) }
 {
     if let Some(number) = number {
-        outstanding.remove(&number);
+        outstanding.remove(number);
     }
 }

@@ -16,7 +16,7 @@ impl Host {
     pub fn is_full_of_finds(&self, settings: &Settings) -> bool
         ensures { result ≡ is_full_of_finds settings.now self.now }
     {
-        settings.finds() <= self.find_count
+        settings.finds() <= self.outstanding.find_count()
     }
 
     /// Whether the host may take so many more request numbers.

@@ -1,18 +1,17 @@
 ghost use Rattle.std.specs.BTreeMap.{is_at};
-ghost use Rattle.std.specs.List.{IsDistinct, enumerate_from};
-ghost use Rattle.std.specs.Map.{keys_of, lookup, set_value, values_of};
+ghost use Rattle.std.specs.List.{IsDistinct};
+ghost use Rattle.std.specs.Map.{keys_of, lookup, set_value};
 ghost use Rattle.std.specs.Prelude.{◌≡◌, ◌+◌, ◌≤◌, ◌^◌, length, IfOk, MatchOption};
 ghost use Rattle.silo_address.specs.Grain.{grain_cmp, grain_eq};
 ghost use Rattle.directory_rules.specs.Host.{outstanding, renewed};
-ghost use Rattle.host_activations.specs.HostModel.{IsWhole, host_of};
 ghost use Rattle.host_activations.specs.Numbers.{phase_under};
-ghost use Rattle.host_activations.specs.Renewal.{renewal_of};
-ghost use Rattle.host_activations.specs.declared.host.Host.TheInside.{Inside};
+ghost use Rattle.host_activations.specs.Renewal.{renewal_of, with_numbers};
 
 use super::Host;
 use super::telling::acts_in;
 use crate::Activations;
 use crate::asked::OutstandingRequest;
+use crate::outstanding::{OutstandingRequests, renumbered};
 use directory_rules::{Act, Phase};
 use silo_address::GrainId;
 use std::alloc::{AllocError, Global};
@@ -23,7 +22,7 @@ use std::marker::Model;
 /// changed, so that the change needs no memory.
 #[derive(Drop)]
 pub struct Renewal {
-    numbered: BTreeMap<u64, OutstandingRequest>,
+    numbered: OutstandingRequests,
 }
 
 impl Model for Renewal {
@@ -41,7 +40,7 @@ impl Host {
         requires { self.now.next_number + length (outstanding self.now) ≤ 2 ^ 60 + 1 }
         ensures { IfOk result (λ renewal. renewal ≡ renewal_of self.now) }
     {
-        let numbered = renumbered(alloc, &self.outstanding, self.next_number)?;
+        let numbered = renumbered(alloc, self.outstanding.by_number(), self.next_number)?;
         Ok(Renewal { numbered })
     }
 
@@ -53,7 +52,7 @@ impl Host {
     {
         let Renewal { numbered } = renewal;
         let count = self.outstanding.len() as u64;
-        set_numbers(&mut self.held, &numbered);
+        set_numbers(&mut self.held, numbered.by_number());
         self.next_number += count;
         self.outstanding = numbered;
     }
@@ -67,34 +66,14 @@ impl Host {
         requires { renewal.now ≡ renewal_of self.now }
         ensures { IfOk result (λ requests. requests.items ≡ outstanding (renewed self.now)) }
     {
-        acts_in(alloc, self.silo, &self.held, &renewal.numbered)
+        acts_in(alloc, self.silo, &self.held, renewal.numbered.by_number())
     }
 }
 
-// What is outstanding, in its order, under the numbers from this one on.
-fn renumbered(
-    alloc: Global,
-    outstanding: &BTreeMap<u64, OutstandingRequest>,
-    first: u64,
-) -> Result<BTreeMap<u64, OutstandingRequest>, AllocError>
-    requires { first + length outstanding.now.entries ≤ 2 ^ 60 + 1 }
-    ensures { IfOk result (λ renewed. renewed.entries ≡ enumerate_from first (values_of outstanding.now.entries)) }
-{
-    let mut renewed = BTreeMap::new(alloc);
-    let mut number = first;
-    for asked in outstanding.values() {
-        renewed.insert(number, *asked)?;
-        number += 1;
-    }
-    Ok(renewed)
-}
-
-// Each activation whose request is told has it under the number that is told: so the activations of a host, whose requests are
-// told under the numbers from its next one on, are renewed.
-fn set_numbers(held: &mut Activations, numbered: &BTreeMap<u64, OutstandingRequest>)
+// Each activation whose request is told has it under the number that is told.
+pub(super) fn set_numbers(held: &mut Activations, numbered: &BTreeMap<u64, OutstandingRequest>)
     ensures count { held.new.next_count ≡ held.old.next_count }
-    ensures renewed { (host : Inside) → IsWhole host → held.old.entries ≡ host.held.entries
-        → numbered.now.entries ≡ enumerate_from host.next_number (values_of host.outstanding.entries) → held.new.entries ≡ (renewed (host_of host)).held }
+    ensures set { held.new.entries ≡ with_numbers numbered.now.entries held.old.entries }
 {
     for (number, asked) in numbered {
         if let OutstandingRequest::Activation(grain) = asked {

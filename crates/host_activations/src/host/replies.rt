@@ -11,9 +11,9 @@ ghost use Rattle.silo_address.specs.Grain.{Grain};
 
 use super::Host;
 use crate::asked::{OutstandingRequest, find_in};
+use crate::outstanding::OutstandingRequests;
 use directory_rules::{Held, Phase};
 use silo_address::GrainId;
-use std::collections::BTreeMap;
 
 impl Host {
     /// The activation whose Register has the number.
@@ -55,7 +55,7 @@ impl Host {
     pub fn is_outstanding(&self, number: u64) -> bool
         ensures { result ≡ is_outstanding self.now number }
     {
-        self.outstanding.contains_key(&number)
+        self.outstanding.contains_key(number)
     }
 
     /// The grain for which the find of the number asks; `None` where no find has the number.
@@ -74,10 +74,10 @@ impl Host {
 }
 
 // The activation whose request has the number.
-fn activation_under(outstanding: &BTreeMap<u64, OutstandingRequest>, number: u64) -> Option<GrainId>
+fn activation_under(outstanding: &OutstandingRequests, number: u64) -> Option<GrainId>
     ensures { (grain : Grain) → (result ≡ Some grain) ↔ (asked_under number outstanding.now.entries ≡ Some (Activation grain)) }
 {
-    let asked = outstanding.get(&number)?;
+    let asked = outstanding.get(number)?;
     match asked {
         OutstandingRequest::Activation(grain) => Some(*grain),
         OutstandingRequest::Find(_) => None,
@@ -85,11 +85,8 @@ fn activation_under(outstanding: &BTreeMap<u64, OutstandingRequest>, number: u64
 }
 
 // The grain for which the find of the number asks.
-pub(super) fn find_under(
-    outstanding: &BTreeMap<u64, OutstandingRequest>,
-    number: u64,
-) -> Option<GrainId>
+pub(super) fn find_under(outstanding: &OutstandingRequests, number: u64) -> Option<GrainId>
     ensures { result ≡ option_and_then find_in (asked_under number outstanding.now.entries) }
 {
-    find_in(outstanding.get(&number)?)
+    find_in(*outstanding.get(number)?)
 }

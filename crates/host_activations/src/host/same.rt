@@ -8,9 +8,7 @@ ghost use Rattle.host_activations.specs.Begun.{IsNext};
 ghost use Rattle.silo_address.specs.Grain.{grain_eq};
 
 use super::Host;
-use crate::asked::OutstandingRequest;
 use std::alloc::AllocError;
-use std::collections::BTreeMap;
 
 impl Host {
     /// A law: what all hosts keep. Each grain has one activation; the requests have distinct numbers below the next one.
@@ -29,13 +27,12 @@ impl Host {
         ensures { IfOk result (λ host. host ≡ self.now) }
     {
         let held = self.held.copy()?;
-        let outstanding = self.outstanding.clone()?;
+        let outstanding = self.outstanding.copy()?;
         Ok(Host {
             silo: self.silo,
             next_number: self.next_number,
             held,
             outstanding,
-            find_count: self.find_count,
         })
     }
 
@@ -52,15 +49,6 @@ impl Host {
         if !self.held.same(&other.held) {
             return false;
         }
-        same_outstanding(&self.outstanding, &other.outstanding)
+        self.outstanding.same(&other.outstanding)
     }
-}
-
-fn same_outstanding(
-    one: &BTreeMap<u64, OutstandingRequest>,
-    other: &BTreeMap<u64, OutstandingRequest>,
-) -> bool
-    ensures { IsTrue result ↔ (one.now.entries ≡ other.now.entries) }
-{
-    *one == *other
 }

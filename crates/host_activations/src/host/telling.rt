@@ -32,7 +32,7 @@ impl Host {
     pub fn requests(&self, alloc: Global) -> Result<Vec<(u64, Act)>, AllocError>
         ensures { IfOk result (λ requests. requests.items ≡ outstanding self.now) }
     {
-        acts_in(alloc, self.silo, &self.held, &self.outstanding)
+        acts_in(alloc, self.silo, &self.held, self.outstanding.by_number())
     }
 }
 

@@ -1,5 +1,5 @@
 -- `grain_directory_open` meets its contract: a walk of its MIR, by hand.
-use Rattle.std.proofs.Common.{◌≡◌, ℕ, List, [], ◌∷◌, ◌++◌, refl, ap, ◌∙◌, subst}
+use Rattle.std.proofs.Common.{◌≡◌, ℕ, List, [], ◌∷◌, ◌++◌, None, refl, ap, ◌∙◌, subst}
 use mir.Syntax.{impl, tcons, tnil, dnil}
 use mir.Val.{Val, vunit, vptr, vstruct, vcons, vnil}
 use base.Fraction.{full_share}
@@ -42,6 +42,7 @@ use Rattle.std.proofs.boxed.Box.into_raw.Met as h_met
 use Rattle.silo_library.specs.contracts.open_silo.OpenSilo.{the_row as R}
 use Rattle.silo_library.proofs.open_silo.OpenSilo.TheLaws.{the_row_laws, the_within}
 use Rattle.silo_library.specs.Handle.{lent_for}
+use Rattle.silo_library.proofs.Opening.{by_case, heap_val}
 use Rattle.silo_library.specs.contracts.open_silo.OpenSilo.open as g
 use Rattle.silo_library.proofs.open_silo.OpenSilo.open.Met as g_met
 use Rattle.silo_library.specs.contracts.grain_directory_open as f
@@ -94,23 +95,19 @@ use types.Logic.{Logic}
 use Rattle.std.proofs.alloc.Shapes.{arm_body}
 
 abbrev stayed : Stays f.ended.signature.params f.ended.kept
-stayed = (stay_dropped (plain (λ _. heap.the_row)) yes, (stay_dropped (SliceRefOf (0 ∷ []) tt (plain (λ _. u8)) (λ _. tt)) yes, (stay_dropped (plain (λ _. u32)) yes, (stay_dropped (plain (λ _. usize)) yes, (stay_dropped (plain (λ _. usize)) yes, (stay_ref (1 ∷ []) tt (plain (λ _. RawPtr)), tt))))))
-
-abbrev heap_val : Val
-heap_val = vstruct (vcons (vstruct (vcons vunit vnil)) vnil)
-
--- what is owned of a result, by its case
-by_case : {M : Type 1} {𝓤 : Ura M} {𝓛 : Logic 𝓤} {K : Type 0} {Γ : List (Item 𝓤)} {G : Goal 𝓤 𝓛.H} → K → (X : RattleType) (r : Result X.Denot ℕ) (u : Val)
-    → ((x : X.Denot) (vs : List Val) → r ≡ Ok x → u ≡ live 0 (of_list (vs ++ [])) → Seq K 𝓛 (‵ (X.own_val x vs) ∷ Γ) G)
-    → ((n : ℕ) → n < 2 ^ 32 → r ≡ Err n → u ≡ live 1 (vcons (vint w32 n) vnil) → Seq K 𝓛 Γ G)
-    → Seq K 𝓛 (‵ ((result.the_row X u32).own_val r (u ∷ [])) ∷ Γ) G
-by_case t X (Ok x) u ok err =
-    fpick t (λ us. fsplit t $ feq_l t (λ eu. fpick t (λ vss. fsplit t $ feq_l t (λ ev. fsplit t $ move t (1 ∷ []) $ drop t $
-    ok x vss.0 refl (ap only eu ∙ ap (λ (zs : List Val). live 0 (of_list zs)) ev)))))
-by_case {𝓛 = 𝓛} t X (Err n) u ok err =
-    fpick t (λ us. fsplit t $ feq_l t (λ eu. fpick t (λ vss. fsplit t $ feq_l t (λ ev. fsplit t $ move t (1 ∷ []) $ drop t $
-    peeks t u32 (Is u32) (shows 𝓛 u32) n vss.0 (λ is. drop t $
-    err n is.1 refl (ap only eu ∙ (ap (λ (zs : List Val). live 1 (of_list zs)) ev ∙ ap (λ (zs : List Val). live 1 (of_list (zs ++ []))) is.0)))))))
+stayed = (
+  stay_dropped (plain (λ _. heap.the_row)) yes,
+  (
+    stay_dropped (SliceRefOf (0 ∷ []) tt (plain (λ _. u8)) (λ _. tt)) yes,
+    (
+      stay_dropped (plain (λ _. u32)) yes,
+      (
+        stay_dropped (plain (λ _. usize)) yes,
+        (stay_dropped (plain (λ _. usize)) yes, (stay_ref (1 ∷ []) tt (plain (λ _. RawPtr)), tt)),
+      ),
+    ),
+  ),
+)
 
 IsZero : ℕ → Type 0
 IsZero zero = Unit {0}
@@ -126,23 +123,28 @@ never_0 address hashing points cache (status.OutOfMemory, t, e) = subst IsZero e
 never_0 address hashing points cache (status.GoesOn, t, e) = absurd t
 never_0 address hashing points cache (status.Dead, t, e) = absurd t
 never_0 address hashing points cache (status.Ended, t, e) = absurd t
+never_0 address hashing points cache (status.NotAToken, t, e) = absurd t
 
 -- a refusal that is told leaves the handle
-refused : {M : Type 1} {𝓤 : Ura M} (𝓛 : Logic 𝓤) (address : List ℕ) (hashing points cache number : ℕ) (old : Ptr) → TellsRefusal address hashing points cache number
+refused : {M : Type 1} {𝓤 : Ura M} (𝓛 : Logic 𝓤) (address : List ℕ) (hashing points cache number : ℕ) (old : Ptr)
+    → TellsRefusal address hashing points cache number
     → ent 𝓤 (emp 𝓤) (sem 𝓛 (has_opened address hashing points cache number old old))
 refused 𝓛 address hashing points cache zero old told = absurd (never_0 address hashing points cache told)
 refused 𝓛 address hashing points cache (suc number) old told =
-    qed 𝓛 [] ∵ feq_i ! Ptr old old refl $ fpack ! (TellsRefusal address hashing points cache (suc number)) (λ _. feq Ptr old old) told $ done !
+    qed 𝓛 [] ∵ feq_i ! Ptr old old refl $ fpack ! (TellsRefusal address hashing points cache (suc number)) (λ _. feq Ptr old old) told $
+    done !
 
 pub grain_directory_open_spec : {M : Type 1} → statement M
 unfolding Rattle.silo_library.proofs.Destruct++none.drop.Code.code
 grain_directory_open_spec {M} 𝓤 𝓛 𝓜 𝓡 wired =
     let H = 𝓛.H in let c = f.clauses 𝓛 𝓜.mem 𝓡.returns in let W = walk_of 𝓛 f.ended stayed c in let 𝓣 = tables 𝓤 𝓛.H 𝓜 𝓡 𝓡.env in
-    let Z = arg (bare (layout heap.the_row)) no heap.the_row in let LZ = arg_laws (bare (layout heap.the_row)) no heap.the_row heap_laws.the_row_laws refl in
+    let Z = arg (bare (layout heap.the_row)) no heap.the_row in
+    let LZ = arg_laws (bare (layout heap.the_row)) no heap.the_row heap_laws.the_row_laws refl in
     let X = arg (bare (layout R)) no R in let LX = arg_laws (bare (layout R)) no R the_row_laws refl in
     let dd = impl ("silo_library::Destruct++none::drop" ∷ []) (tcons (layout Z) tnil) dnil in
     let dx = impl ("silo_library::silo_library++open_silo++OpenSilo+Destruct::drop" ∷ []) tnil dnil in
-    let E : box.Bx = record { row = X; laws = LX; al = record { row = Z; laws = LZ; g = ghosts; d = dict; drops = dd } } in let B = box.B E in
+    let E : box.Bx = record { row = X; laws = LX; al = record { row = Z; laws = LZ; g = ghosts; d = dict; drops = dd } } in
+    let B = box.B E in
     let N = triple_of 𝓛 g.signature (g.spec 𝓛 𝓜.mem 𝓡.returns) in
     let G = triple_of 𝓛 (h.signature X Z ghosts dict dd dx) (h.spec X Z ghosts dict dd dx 𝓛 𝓜.mem 𝓡.returns) in
     let En = ended_of 0 drop_kinds.ps drop_kinds.r in
@@ -152,45 +154,84 @@ grain_directory_open_spec {M} 𝓤 𝓛 𝓜 𝓡 wired =
     (λ κs a. AllWithin 1 (κs.0, tt) (X.lives, tt) × Unit {0}) 0 tt (λ κs a w. ((w, tt), tt))
     (via_longer 𝓛 (Over 𝓛 𝓜 𝓡 𝓡.env) 1 (glue_ps X LX) r_unit (λ κs a. Lasts En tt a) (λ κs a. lasts En tt a)
     (λ κs a x ws. Fit En (stays drop_kinds.ps) tt a ws × drop_reads.Learnt tt a x (at_exit En tt a ws))
-    (λ κs a. AllWithin 1 (κs.0, tt) (X.lives, tt) × Unit {0}) (method dx 0 (layouts [] tt)) 0 tt (λ κs. tt) (λ κs a. drop_reads.Asked tt a) (λ κs a p. (tt, tt))
-    (λ κs bd within a vss qs. method_Known 0 drop_kinds.ps drop_kinds.r drop_reads.requires drop_reads.ensures drop_reads.Asked drop_reads.Learnt drop_reads.known world
-    drop_symbol.name (method dx 0 (layouts [] tt)) (drop_symbol.as_method 𝓡.env (code.calls-silo_library::silo_library++open_silo++OpenSilo+Destruct::drop 𝓡.env wired) (method dx 0 (layouts [] tt)) refl)
-    (drop_met.met 𝓤 𝓛 𝓜 𝓡 (code.calls-silo_library::silo_library++open_silo++OpenSilo+Destruct::drop 𝓡.env wired)) ((tt, qs, tt, a, vss), tt))) in
+    (λ κs a. AllWithin 1 (κs.0, tt) (X.lives, tt) × Unit {0}) (method dx 0 (layouts [] tt)) 0 tt (λ κs. tt) (λ κs a. drop_reads.Asked tt a)
+    (λ κs a p. (tt, tt))
+    (λ κs bd within a vss qs. method_Known 0 drop_kinds.ps drop_kinds.r drop_reads.requires drop_reads.ensures drop_reads.Asked
+    drop_reads.Learnt drop_reads.known world
+    drop_symbol.name (method dx 0 (layouts [] tt)) (drop_symbol.as_method 𝓡.env
+    (code.calls-silo_library::silo_library++open_silo++OpenSilo+Destruct::drop 𝓡.env wired) (method dx 0 (layouts [] tt)) refl)
+    (drop_met.met 𝓤 𝓛 𝓜 𝓡 (code.calls-silo_library::silo_library++open_silo++OpenSilo+Destruct::drop 𝓡.env wired))
+    ((tt, qs, tt, a, vss), tt))) in
     let known = h_met.met 𝓤 𝓛 𝓜 𝓡 (code.calls-std_alloc::boxed::Box::into_raw 𝓡.env wired) X Z LX LZ ghosts dict dd dx
-    (passed 𝓡.env (code.calls-std_heap::GlobalAllocator::allocate 𝓡.env wired) (code.calls-std_heap::GlobalAllocator::deallocate 𝓡.env wired) (code.calls-std_heap::GlobalAllocator::grow 𝓡.env wired) (code.calls-std_heap::GlobalAllocator::shrink 𝓡.env wired) M 𝓤 𝓛 𝓜 𝓡)
+    (passed 𝓡.env (code.calls-std_heap::GlobalAllocator::allocate 𝓡.env wired)
+    (code.calls-std_heap::GlobalAllocator::deallocate 𝓡.env wired) (code.calls-std_heap::GlobalAllocator::grow 𝓡.env wired)
+    (code.calls-std_heap::GlobalAllocator::shrink 𝓡.env wired) M 𝓤 𝓛 𝓜 𝓡)
     (glues "silo_library::Destruct++none::drop" 𝓡.env (code.calls-silo_library::Destruct++none::drop 𝓡.env wired) Z LZ M 𝓤 𝓛 𝓜 𝓡) glue in
     proved 𝓛 f.ended stayed c 𝓜 𝓡 (
       Goes-dropped 𝓛 2 (plain (λ _. heap.the_row)) yes (λ κs x w. refl),
       (
         Goes-dropped 𝓛 2 (SliceRefOf (0 ∷ []) tt (plain (λ _. u8)) (λ _. tt)) yes (λ κs x w. refl),
-        (Goes-dropped 𝓛 2 (plain (λ _. u32)) yes (λ κs x w. refl), (Goes-dropped 𝓛 2 (plain (λ _. usize)) yes (λ κs x w. refl), (Goes-dropped 𝓛 2 (plain (λ _. usize)) yes (λ κs x w. refl), (Goes-ref 𝓛 2 1 tt (plain (λ _. RawPtr)), tt)))),
+        (
+          Goes-dropped 𝓛 2 (plain (λ _. u32)) yes (λ κs x w. refl),
+          (
+            Goes-dropped 𝓛 2 (plain (λ _. usize)) yes (λ κs x w. refl),
+            (Goes-dropped 𝓛 2 (plain (λ _. usize)) yes (λ κs x w. refl), (Goes-ref 𝓛 2 1 tt (plain (λ _. RawPtr)), tt)),
+          ),
+        ),
       ),
     )
     f.Key.name code.function (code.unfolded 𝓤 𝓛.H 𝓜 𝓡 wired)
     (λ κs. ((λ _. heap_val ∷ []), (shr_slice_vals, (uint_vals w32, (uint_vals w64, (uint_vals w64, (mut_vals, tt)))))))
-    (λ κs. (tells heap.the_type heap_laws.the_laws, (shr_slice_Tells (named 0) κs.0 u8, (uint_Tells w32, (uint_Tells w64, (uint_Tells w64, (mut_Tells (named 1) κs.1.0 RawPtr, tt))))))) (λ κs qs bounds a v are.
+    (λ κs. (
+      tells heap.the_type heap_laws.the_laws,
+      (
+        shr_slice_Tells (named 0) κs.0 u8,
+        (uint_Tells w32, (uint_Tells w64, (uint_Tells w64, (mut_Tells (named 1) κs.1.0 RawPtr, tt)))),
+      ),
+    )) (λ κs qs bounds a v are.
     let κ₀ = κs.0 in let q₀ = qs.0 in let κ₁ = κs.1.0 in let q₁ = qs.1.0 in
     let address = a.1.0 in let number = a.1.1.0 in let points = a.1.1.1.0 in let cache = a.1.1.1.1.0 in let out = a.1.1.1.1.1.0 in
     let fa : length address.now < 2 ^ 64 = are.1.0.0.1.0 in
     let y : W.Ghost = ((κs, qs, bounds, a, (heap_val ∷ [], (shr_slice_vals address, (uint_vals w32 number, (uint_vals w64 points, (uint_vals w64 cache, (mut_vals out, tt))))))), v) in
-    qed 𝓛 (((‵ (flft κ₀ q₀) ⊛ ‵ (flft κ₁ q₁) ⊛ ‵ ftrue) ⊛ ‵ (heap.the_row.own_val a.0 (heap_val ∷ [])) ⊛ ‵ ((ShrSlice (named 0) κ₀ u8).own_val address (shr_slice_vals address)) ⊛ ‵ (u32.own_val number (uint_vals w32 number)) ⊛ ‵ (usize.own_val points (uint_vals w64 points))
-    ⊛ ‵ (usize.own_val cache (uint_vals w64 cache)) ⊛ ‵ ((MutRef (named 1) κ₁ RawPtr).own_val out (mut_vals out)) ⊛ ‵ ftrue) ∷ ‵ ftrue ∷ []) ∵
-    split ! $ split3 ! $ move ! (3 ∷ []) $ split ! $ move ! (1 ∷ []) $ split ! $ move ! (1 ∷ []) $ split ! $ move ! (1 ∷ []) $ split ! $ move ! (1 ∷ []) $ split ! $ move ! (1 ∷ []) $ split ! $
+    qed 𝓛 (((‵ (flft κ₀ q₀) ⊛ ‵ (flft κ₁ q₁) ⊛ ‵ ftrue) ⊛ ‵ (heap.the_row.own_val a.0 (heap_val ∷ [])) ⊛ ‵
+    ((ShrSlice (named 0) κ₀ u8).own_val address (shr_slice_vals address)) ⊛ ‵ (u32.own_val number (uint_vals w32 number)) ⊛ ‵
+    (usize.own_val points (uint_vals w64 points))
+    ⊛ ‵ (usize.own_val cache (uint_vals w64 cache)) ⊛ ‵ ((MutRef (named 1) κ₁ RawPtr).own_val out (mut_vals out)) ⊛ ‵ ftrue) ∷ ‵ ftrue ∷ [])
+    ∵
+    split ! $ split3 ! $ move ! (3 ∷ []) $ split ! $ move ! (1 ∷ []) $ split ! $ move ! (1 ∷ []) $ split ! $ move ! (1 ∷ []) $ split ! $
+    move ! (1 ∷ []) $ split ! $ move ! (1 ∷ []) $ split ! $
     -- [out; true; cache; points; number; address; heap; κ₀; κ₁; true; true]
     keep ! (6 ∷ 5 ∷ 4 ∷ 3 ∷ 2 ∷ 7 ∷ 0 ∷ 8 ∷ []) $
     -- [the heap; the address; three numbers; the address's token; the handle; its token]
-    enter ! _ _ _ _ _ $ alloc_all ! (λ l. pass_all ! refl ((tt, ((tt, tt), tt)), ((tt, (tt, (record { fits = fa }, tt))), ((tt, record { fits = are.1.1.0.1 }), ((tt, record { fits = are.1.1.1.0.1 }), ((tt, record { fits = are.1.1.1.1.0.1 }), ((tt, tt), tt)))))) $
+    enter ! _ _ _ _ _ $ alloc_all ! (λ l. pass_all ! refl (
+      (tt, ((tt, tt), tt)),
+      (
+        (tt, (tt, (record { fits = fa }, tt))),
+        (
+          (tt, record { fits = are.1.1.0.1 }),
+          (
+            (tt, record { fits = are.1.1.1.0.1 }),
+            ((tt, record { fits = are.1.1.1.1.0.1 }), ((tt, tt), tt)),
+          ),
+        ),
+      ),
+    ) $
     let Ev = env code.Mir.locals l in
     -- OpenSilo::open(..)
     let z : N.Ghost = (((κ₀, tt), (q₀, tt), tt, (a.0, (address, (number, (points, (cache, tt))))), (heap_val ∷ [], (shr_slice_vals address, (uint_vals w32 number, (uint_vals w64 points, (uint_vals w64 cache, tt)))))), tt) in
     let Bx = box_row R heap.the_row ghosts in
-    nothing ! $ move ! (5 ∷ 0 ∷ []) $ join ! $ move ! (4 ∷ 0 ∷ []) $ join ! $ move ! (3 ∷ 0 ∷ []) $ join ! $ move ! (2 ∷ 0 ∷ []) $ join ! $ move ! (1 ∷ 0 ∷ []) $ join ! $
+    nothing ! $ move ! (5 ∷ 0 ∷ []) $ join ! $ move ! (4 ∷ 0 ∷ []) $ join ! $ move ! (3 ∷ 0 ∷ []) $ join ! $ move ! (2 ∷ 0 ∷ []) $ join ! $
+    move ! (1 ∷ 0 ∷ []) $ join ! $
     nothing ! $ move ! (2 ∷ 0 ∷ []) $ join ! $ join ! $ nothing ! $ move ! (1 ∷ 0 ∷ []) $ use2 𝓛 (raw (N.pre z)) (id⊢ 𝓤 _) $
     calls_at ! (framed 𝓤 𝓛.H 𝓜 𝓣) N (g_met.met 𝓤 𝓛 𝓜 𝓡 (code.calls-silo_library::open_silo::OpenSilo::open 𝓡.env wired)) z
-    (and_then ! (get ! refl) (and_then ! (get ! refl) (and_then ! (get ! refl) (and_then ! (get ! refl) (and_then ! (get ! refl) (no_more !)))))) (λ u.
+    (and_then ! (get ! refl) (and_then ! (get ! refl)
+    (and_then ! (get ! refl) (and_then ! (get ! refl) (and_then ! (get ! refl) (no_more !)))))) (λ u.
     use1 𝓛 (later (some (λ (r : Result Bx.Denot ℕ). ((‵ (flft κ₀ q₀) ⊛ ‵ ftrue) ⊛ ‵ ((result.the_row Bx u32).own_val r (u ∷ []))) ⊛
-    some (λ (ws : Lasts g.ended z.0.0 z.0.3). ‵ (lasts g.ended z.0.0 z.0.3 ws) ⊛ (raw (fact 𝓤 (IfOk r (λ it. Opens address.now number points cache it.value))) ⊛ raw (fact 𝓤 (IfErr r (TellsRefusal address.now number points cache)))))))) (id⊢ 𝓤 _) $
-    await ! tt $ pick ! (λ r. split ! $ split ! $ split ! $ move ! (3 ∷ []) $ pick ! (λ ws. split ! $ drop ! $ split ! $ heard ! _ (λ opened. heard ! _ (λ told. move ! (1 ∷ []) $ drop ! $ move ! (1 ∷ []) $
+    some (λ (ws : Lasts g.ended z.0.0 z.0.3). ‵ (lasts g.ended z.0.0 z.0.3 ws) ⊛
+    (raw (fact 𝓤 (IfOk r (λ it. Opens address.now None number points cache it.value))) ⊛ raw
+    (fact 𝓤 (IfErr r (TellsRefusal address.now number points cache)))))))) (id⊢ 𝓤 _) $
+    await ! tt $ pick ! (λ r. split ! $ split ! $ split ! $ move ! (3 ∷ []) $ pick !
+    (λ ws. split ! $ drop ! $ split ! $ heard ! _ (λ opened. heard ! _ (λ told. move ! (1 ∷ []) $ drop ! $ move ! (1 ∷ []) $
     let Then = any_q (after_seq 𝓤 H (Wp 𝓤 H 𝓣.C 𝓣.Λ Ev code.Mir.t-3 (at_return 𝓤 H Ev (W.post y))) (at_return 𝓤 H Ev (W.post y))) in
     by_case ! Bx r u
     -- Ok(silo): [the box; the address's token; the handle; its token]
@@ -200,45 +241,62 @@ grain_directory_open_spec {M} 𝓤 𝓛 𝓜 𝓡 wired =
     let known_as : u ≡ live 0 (vcons w vnil) = is ∙ ap (λ (zs : List Val). live 0 (of_list (zs ++ []))) ws in
     lands_as ! known_as refl (and_tt _ typed.0, (record { fits = lit< tt }, (typed.1, tt))) $
     first ! $ switches_on ! (get_tag ! (vrt ! refl (fld ! refl (stop !))) (whole !)) $ exec ! 𝓣.C 𝓣.Λ Ev (arm_body 0 code.Mir.s-2) Then $
-    sets ! (of_opd ! (get_in ! (vrt ! refl (fld ! refl (stop !))) (in_variant ! 0 0 refl refl (whole !)))) refl typed $ sets ! (of_opd ! (get ! refl)) refl typed $
+    sets ! (of_opd ! (get_in ! (vrt ! refl (fld ! refl (stop !))) (in_variant ! 0 0 refl refl (whole !)))) refl typed $ sets !
+    (of_opd ! (get ! refl)) refl typed $
     -- Box::into_raw(silo)
     lft_new ! tt (λ β. lft_new ! tt (λ δ.
-    let κs' : Lfts 2 = (β ∷ [], (δ ∷ [], tt)) in let yg : G.Ghost = ((κs', (full_share, (full_share, tt)), tt, (x, tt), (w ∷ [], tt)), tt) in
+    let κs' : Lfts 2 = (β ∷ [], (δ ∷ [], tt)) in
+    let yg : G.Ghost = ((κs', (full_share, (full_share, tt)), tt, (x, tt), (w ∷ [], tt)), tt) in
     nothing ! $ use0 𝓛 (raw (fact 𝓤 ((δ ∷ []) ⊑ Z.lives))) (fact_i 𝓤 _ (emp 𝓤) (heap_laws.the_within (δ ∷ []))) $ join ! $
     use0 𝓛 (raw (fact 𝓤 ((β ∷ []) ⊑ X.lives))) (fact_i 𝓤 _ (emp 𝓤) (the_within (β ∷ []))) $ join ! $
-    nothing ! $ move ! (4 ∷ 0 ∷ []) $ fjoin ! $ nothing ! $ move ! (3 ∷ 0 ∷ []) $ join ! $ move ! (3 ∷ 0 ∷ []) $ join ! $ join ! $ use2 𝓛 (raw (G.pre yg)) (id⊢ 𝓤 _) $
+    nothing ! $ move ! (4 ∷ 0 ∷ []) $ fjoin ! $ nothing ! $ move ! (3 ∷ 0 ∷ []) $ join ! $ move ! (3 ∷ 0 ∷ []) $ join ! $ join ! $ use2 𝓛
+    (raw (G.pre yg)) (id⊢ 𝓤 _) $
     calls_at ! (framed 𝓤 𝓛.H 𝓜 𝓣) G known yg (and_then ! (get ! refl) (no_more !)) (λ m.
-    use1 𝓛 (later (some (λ (π : Ptr). ((‵ (flft (β ∷ []) full_share) ⊛ ‵ (flft (δ ∷ []) full_share) ⊛ ‵ ftrue) ⊛ ‵ (RawPtr.own_val π (m ∷ []))) ⊛
-    some (λ (ls : Lasts (h.ended X Z ghosts dict dd dx) κs' yg.0.3). ‵ (lasts (h.ended X Z ghosts dict dd dx) κs' yg.0.3 ls) ⊛ ‵ (box_owns (ghosts.dealloc_token x.alloc) (box.R E) π it))))) (id⊢ 𝓤 _) $
+    use1 𝓛 (later (some (λ (π : Ptr). ((‵ (flft (β ∷ []) full_share) ⊛ ‵ (flft (δ ∷ []) full_share) ⊛ ‵ ftrue) ⊛ ‵
+    (RawPtr.own_val π (m ∷ []))) ⊛
+    some (λ (ls : Lasts (h.ended X Z ghosts dict dd dx) κs' yg.0.3). ‵ (lasts (h.ended X Z ghosts dict dd dx) κs' yg.0.3 ls) ⊛ ‵
+    (box_owns (ghosts.dealloc_token x.alloc) (box.R E) π it))))) (id⊢ 𝓤 _) $
     await ! tt $ pick ! (λ π. split ! $ split ! $ split3 ! $ move ! (4 ∷ []) $ pick ! (λ ls. split ! $ drop ! $
-    in_a_block ! π (λ q. box_owns (ghosts.dealloc_token x.alloc) (box.R E) q it) (fst∗ 𝓤 (never 𝓤) (sem 𝓛 (ghosts.dealloc_token x.alloc (bare (box.τ E)) null_ptr))) (λ b o at. fsplit ! $
+    in_a_block ! π (λ q. box_owns (ghosts.dealloc_token x.alloc) (box.R E) q it)
+    (fst∗ 𝓤 (never 𝓤) (sem 𝓛 (ghosts.dealloc_token x.alloc (bare (box.τ E)) null_ptr))) (λ b o at. fsplit ! $
     -- the silo is lent for a while, which is the caller's
     bor_new ! tt (δ ∷ []) $ drop ! $ move ! (2 ∷ []) $ drop ! $
     -- [what is lent; the right to free; the token of δ; true; the pointer; the address's token; the handle; its token]
-    move ! (3 ∷ []) $ fpack ! (InBlock (block_ptr b o)) (λ _. ftrue) tt $ move ! (2 ∷ 0 ∷ []) $ fjoin ! $ move ! (1 ∷ 0 ∷ []) $ fjoin ! $ move ! (1 ∷ 0 ∷ []) $ fjoin ! $
+    move ! (3 ∷ []) $ fpack ! (InBlock (block_ptr b o)) (λ _. ftrue) tt $ move ! (2 ∷ 0 ∷ []) $ fjoin ! $ move ! (1 ∷ 0 ∷ []) $ fjoin ! $
+    move ! (1 ∷ 0 ∷ []) $ fjoin ! $
     fpack ! ℕ (λ while. lent_for while (block_ptr b o) it) δ $
-    fpack ! (Opens address.now number points cache it) (λ _. is_handle (block_ptr b o) it) (subst (λ (r' : Result Bx.Denot ℕ). IfOk r' (λ it'. Opens address.now number points cache it'.value)) is_ok opened) $
-    fpack ! OpenSiloValue (λ it'. fex (Opens address.now number points cache it') (λ _. is_handle (block_ptr b o) it')) it $
+    fpack ! (Opens address.now None number points cache it) (λ _. is_handle (block_ptr b o) it)
+    (subst (λ (r' : Result Bx.Denot ℕ). IfOk r' (λ it'. Opens address.now None number points cache it'.value)) is_ok opened) $
+    fpack ! OpenSiloValue (λ it'. fex (Opens address.now None number points cache it') (λ _. is_handle (block_ptr b o) it')) it $
     move ! (1 ∷ []) $ feq_l ! (λ em. lands_as ! (ap only em ∙ ap ptr_val at) refl (tt, tt) $ sets ! (of_opd ! (get ! refl)) refl (tt, tt) $
     -- *handle = .. as *mut u8
-    move ! (2 ∷ 3 ∷ []) $ fsplit3 ! $ move ! (1 ∷ 2 ∷ 3 ∷ []) $ opens ! tt RawPtr out.ref_ptr.0 out.ref_ptr.1 (λ us. move ! (1 ∷ []) $ feq_l ! (λ eo.
+    move ! (2 ∷ 3 ∷ []) $ fsplit3 ! $ move ! (1 ∷ 2 ∷ 3 ∷ []) $ opens ! tt RawPtr out.ref_ptr.0 out.ref_ptr.1
+    (λ us. move ! (1 ∷ []) $ feq_l ! (λ eo.
     rewrite ! 0 (λ (zs : List Val). ‵ (cell_at full_share RawPtr.mir zs out.ref_ptr.0 out.ref_ptr.1)) eo refl $
     assigns ! (of_opd ! (get ! refl)) (through ! refl (stop !)) (store ! 0 refl (tt, tt)) $
-    feq_i ! (List Val) (vptr b o ∷ []) (vptr b o ∷ []) refl $ move ! (1 ∷ 0 ∷ []) $ closes ! tt RawPtr (block_ptr b o) (vptr b o ∷ []) out.ref_ptr.0 out.ref_ptr.1 $
+    feq_i ! (List Val) (vptr b o ∷ []) (vptr b o ∷ []) refl $ move ! (1 ∷ 0 ∷ []) $ closes ! tt RawPtr (block_ptr b o) (vptr b o ∷ [])
+    out.ref_ptr.0 out.ref_ptr.1 $
     sets_last ! (of_opd ! (lit ! tt)) refl (tt, record { fits = lit< tt }) $ exec ! 𝓣.C 𝓣.Λ Ev code.Mir.t-3 (at_ret Ev (W.post y)) $
     sets ! (of_opd ! (get ! refl)) refl (tt, record { fits = lit< tt }) $ returns ! (look_at ! 0 refl) $ free_all ! refl $
-    suffices ! _ (ends_at 𝓛 f.ended stayed c y (vint w32 0) 0 (tt, (tt, (tt, (tt, (tt, (block_ptr b o, tt)))))) (tt, (tt, (tt, (tt, (tt, (tt, tt))))))) $
+    suffices ! _ (ends_at 𝓛 f.ended stayed c y (vint w32 0) 0 (tt, (tt, (tt, (tt, (tt, (block_ptr b o, tt))))))
+    (tt, (tt, (tt, (tt, (tt, (tt, tt))))))) $
     owned ! u32 (Is u32) (uint_Makes 𝓛 w32) 0 _ (refl, lit< tt) $ keep ! (4 ∷ 1 ∷ 2 ∷ 3 ∷ 6 ∷ 0 ∷ 5 ∷ []) $ group ! 3 $
-    nothing ! $ move ! (1 ∷ 0 ∷ []) $ join ! $ nothing ! $ join ! $ nothing ! $ join ! $ nothing ! $ join ! $ nothing ! $ join ! $ nothing ! $ join ! $
+    nothing ! $ move ! (1 ∷ 0 ∷ []) $ join ! $ nothing ! $ join ! $ nothing ! $ join ! $ nothing ! $ join ! $ nothing ! $ join ! $ nothing !
+    $ join ! $
     nothing ! $ move ! (2 ∷ 0 ∷ []) $ join ! $ move ! (2 ∷ 0 ∷ []) $ join ! $ group ! 3 $ done !)))))))))))
     -- Err(status): [the address's token; the handle; its token]
     (λ n fits is_err is. lands_as ! is refl (tt, (record { fits = lit< tt }, (record { fits = fits }, tt))) $
     first ! $ switches_on ! (get_tag ! (vrt ! refl (fld ! refl (stop !))) (whole !)) $ exec ! 𝓣.C 𝓣.Λ Ev (arm_body 1 code.Mir.s-2) Then $
-    sets ! (of_opd ! (get_in ! (vrt ! refl (fld ! refl (stop !))) (in_variant ! 1 0 refl refl (whole !)))) refl (tt, record { fits = fits }) $
+    sets ! (of_opd ! (get_in ! (vrt ! refl (fld ! refl (stop !))) (in_variant ! 1 0 refl refl (whole !)))) refl (tt, record { fits = fits })
+    $
     sets_last ! (of_opd ! (get ! refl)) refl (tt, record { fits = fits }) $ exec ! 𝓣.C 𝓣.Λ Ev code.Mir.t-3 (at_ret Ev (W.post y)) $
     sets ! (of_opd ! (get ! refl)) refl (tt, record { fits = fits }) $ returns ! (look_at ! 0 refl) $ free_all ! refl $
-    suffices ! _ (ends_at 𝓛 f.ended stayed c y (vint w32 n) n (tt, (tt, (tt, (tt, (tt, (out.now, tt)))))) (tt, (tt, (tt, (tt, (tt, (tt, tt))))))) $
-    use0 𝓛 (‵ (has_opened address.now number points cache n out.now out.now)) (refused 𝓛 address.now number points cache n out.now (subst (λ (r' : Result Bx.Denot ℕ). IfErr r' (TellsRefusal address.now number points cache)) is_err told)) $
+    suffices ! _ (ends_at 𝓛 f.ended stayed c y (vint w32 n) n (tt, (tt, (tt, (tt, (tt, (out.now, tt))))))
+    (tt, (tt, (tt, (tt, (tt, (tt, tt))))))) $
+    use0 𝓛 (‵ (has_opened address.now number points cache n out.now out.now))
+    (refused 𝓛 address.now number points cache n out.now
+    (subst (λ (r' : Result Bx.Denot ℕ). IfErr r' (TellsRefusal address.now number points cache)) is_err told)) $
     owned ! u32 (Is u32) (uint_Makes 𝓛 w32) n _ (refl, fits) $ keep ! (3 ∷ 4 ∷ 2 ∷ 0 ∷ 1 ∷ []) $
-    nothing ! $ move ! (1 ∷ 0 ∷ []) $ join ! $ nothing ! $ join ! $ nothing ! $ join ! $ nothing ! $ join ! $ nothing ! $ join ! $ nothing ! $ join ! $
+    nothing ! $ move ! (1 ∷ 0 ∷ []) $ join ! $ nothing ! $ join ! $ nothing ! $ join ! $ nothing ! $ join ! $ nothing ! $ join ! $ nothing !
+    $ join ! $
     nothing ! $ move ! (2 ∷ 0 ∷ []) $ join ! $ move ! (2 ∷ 0 ∷ []) $ join ! $ group ! 3 $ done !))))))))

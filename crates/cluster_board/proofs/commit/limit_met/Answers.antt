@@ -1,5 +1,5 @@
 use Rattle.std.proofs.Common.{◌≡◌, ◌≤◌, ◌<◌, List, true, false, sym, ap, ◌∙◌, arith}
-use Rattle.directory_rules.specs.Letter.{Letter}
+use Rattle.directory_rules.specs.State.{Letter}
 use Rattle.directory_rules.specs.Mail.{has_room_for}
 use Rattle.directory_rules.specs.Settings.{Settings}
 use Rattle.cluster_board.proofs.Decision.{accepted, no_event_more, no_room}

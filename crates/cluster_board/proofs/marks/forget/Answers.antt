@@ -6,4 +6,5 @@ use Rattle.cluster_board.proofs.marks.forget.Goals as goal
 
 pub returns-clause-left : goal.returns-clause-left
 returns-clause-left g c = λ q.
-    left_of (is_at (silo_cmp c.args.silo.now) q) (marked_at c.args.marked.now.entries q) (marked_at c.remove.new.self.entries q) (c.remove.ensures.updates.0 q)
+    left_of (is_at (silo_cmp c.args.silo.now) q) (marked_at c.args.marked.now.entries q) (marked_at c.remove.new.self.entries q)
+    (c.remove.ensures.updates.0 q)

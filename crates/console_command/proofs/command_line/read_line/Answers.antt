@@ -26,7 +26,8 @@ returns-in-Some-Ok-clause-reads g c =
       command.0,
       command.1,
       (
-        ap (option_and_then line_in) (ap (λ (a : App). subcommand_of a words) (sym command.2) ∙ sym rows) ∙ sym c.line_in.ensures ∙ c.in-Some-Ok.is ∙ ap Some c.in-Some-Ok.field-0-is,
+        ap (option_and_then line_in) (ap (λ (a : App). subcommand_of a words) (sym command.2) ∙ sym rows) ∙ sym c.line_in.ensures
+            ∙ c.in-Some-Ok.is ∙ ap Some c.in-Some-Ok.field-0-is,
         ap (λ (a : App). fault_of a words) (sym command.2) ∙ faults,
       ),
     )
@@ -54,7 +55,8 @@ returns-in-Some-Err-clause-reads g c =
       command.0,
       command.1,
       (
-        ap (option_and_then line_in) (ap (λ (a : App). subcommand_of a words) (sym command.2) ∙ sym rows) ∙ sym c.line_in.ensures ∙ c.in-Some-Err.is ∙ ap Some c.in-Some-Err.field-0-is,
+        ap (option_and_then line_in) (ap (λ (a : App). subcommand_of a words) (sym command.2) ∙ sym rows) ∙ sym c.line_in.ensures
+            ∙ c.in-Some-Err.is ∙ ap Some c.in-Some-Err.field-0-is,
         ap (λ (a : App). fault_of a words) (sym command.2) ∙ faults,
       ),
     )

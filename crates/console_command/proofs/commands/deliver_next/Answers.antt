@@ -7,5 +7,6 @@ pub returns-clause-taken : goal.returns-clause-taken
 returns-clause-taken c =
     let old = c.args.world.now in
     let new = c.take_turn.new in
-    subst (λ (least : Option ℕ). IfOk c.take_turn.result (TakesTurn (λ next. deliver_next least (in_session old) next) c.args.out.now.items new.world new.out.items))
+    subst (λ (least : Option ℕ). IfOk c.take_turn.result
+    (TakesTurn (λ next. deliver_next least (in_session old) next) c.args.out.now.items new.world new.out.items))
     c.in-Some.ensures c.take_turn.ensures.taken

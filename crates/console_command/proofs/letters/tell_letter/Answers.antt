@@ -1,5 +1,5 @@
 use Rattle.std.proofs.Common.{◌++◌, Option, ap, refl, sym, ◌∙◌, append-nil}
-use Rattle.directory_rules.specs.Letter.{Letter}
+use Rattle.directory_rules.specs.State.{Letter}
 use Rattle.texts.specs.Printed.{text_of_lines}
 use Rattle.console_command.specs.Reports.{lines_of_letter}
 use Rattle.console_command.proofs.Lines.{begins_with_itself}

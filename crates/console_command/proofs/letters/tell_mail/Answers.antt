@@ -14,7 +14,9 @@ loop-before-init c =
     let sent = c.sent-sent.result in
     record {
       within = omega arith;
-      shows = shows_from_start (λ n. lines_of_letter n (letter_of c.args.world.now n)) c.args.out.now.items (range_with_len 1 sent) (range_with_len (0 + 1) (sent - 0)) (numbers_at_first sent);
+      shows =
+          shows_from_start (λ n. lines_of_letter n (letter_of c.args.world.now n)) c.args.out.now.items (range_with_len 1 sent)
+          (range_with_len (0 + 1) (sent - 0)) (numbers_at_first sent);
       begins = begins_with_itself _ _ refl;
     }
 
@@ -24,9 +26,14 @@ loop-before-preserved c =
     let before = c.loop-before.before in
     record {
       within = one_above before sent c.loop-before-test.true;
-      shows = shows_more (λ n. lines_of_letter n (letter_of c.args.world.now n)) c.args.out.now.items (range_with_len 1 sent) c.loop-before.out.items c.tell_letter.new.out.items
-          (before + 1) (range_with_len (before + 1 + 1) (sent - (before + 1))) (range_with_len (before + 1) (sent - before)) (numbers_left before sent c.loop-before-test.true) c.in_ok-tell_letter.ensures.told c.loop-before.invariant.shows;
-      begins = begins_with_the_first c.args.out.now.items c.loop-before.out.items c.tell_letter.new.out.items c.loop-before.invariant.begins c.in_ok-tell_letter.ensures.kept;
+      shows =
+          shows_more (λ n. lines_of_letter n (letter_of c.args.world.now n)) c.args.out.now.items (range_with_len 1 sent)
+          c.loop-before.out.items c.tell_letter.new.out.items
+          (before + 1) (range_with_len (before + 1 + 1) (sent - (before + 1))) (range_with_len (before + 1) (sent - before))
+          (numbers_left before sent c.loop-before-test.true) c.in_ok-tell_letter.ensures.told c.loop-before.invariant.shows;
+      begins =
+          begins_with_the_first c.args.out.now.items c.loop-before.out.items c.tell_letter.new.out.items c.loop-before.invariant.begins
+          c.in_ok-tell_letter.ensures.kept;
     }
 
 pub returns-clause-performed : goal.returns-clause-performed
@@ -34,7 +41,8 @@ returns-clause-performed c =
     let sent = c.sent-sent.result in
     let before = c.loop-before.before in
     mail_performed c.args.world.now sent c.args.out.now.items c.loop-before.out.items c.whole.ensures c.sent-sent.ensures
-    (shows_all (λ n. lines_of_letter n (letter_of c.args.world.now n)) c.args.out.now.items (range_with_len 1 sent) c.loop-before.out.items (range_with_len (before + 1) (sent - before)) (no_number_left before sent c.loop-before-test.false) c.loop-before.invariant.shows)
+    (shows_all (λ n. lines_of_letter n (letter_of c.args.world.now n)) c.args.out.now.items (range_with_len 1 sent) c.loop-before.out.items
+    (range_with_len (before + 1) (sent - before)) (no_number_left before sent c.loop-before-test.false) c.loop-before.invariant.shows)
 
 pub returns-in_err-tell_letter-clause-performed : goal.returns-in_err-tell_letter-clause-performed
 returns-in_err-tell_letter-clause-performed c = not_ok _ c.from_residual.result c.from_residual.ensures.0

@@ -5,4 +5,6 @@ use Rattle.console_command.proofs.Counted.{counted}
 use Rattle.console_command.proofs.place.counts_in.Given as goal
 
 abbrev pub invariant-loop-row : goal.invariant-loop-row
-invariant-loop-row l = counted (count_of (held_counts l.world)) (drop l.row-index l.row-items) l.counts.entries ≡ counted (count_of (held_counts l.world)) l.view.rows []
+invariant-loop-row l =
+    counted (count_of (held_counts l.world)) (drop l.row-index l.row-items) l.counts.entries ≡ counted (count_of (held_counts l.world))
+    l.view.rows []

@@ -13,7 +13,12 @@ pub returns-in_err-show_silos-clause-performed : goal.returns-in_err-show_silos-
 returns-in_err-show_silos-clause-performed c = not_ok _ c.from_residual-in_err-show_silos.result c.from_residual-in_err-show_silos.ensures.0
 
 pub returns-in_err-show_silos-clause-kept : goal.returns-in_err-show_silos-clause-kept
-returns-in_err-show_silos-clause-kept c = on_err c.from_residual-in_err-show_silos.result (begins_with_the_first _ _ _ (record { more = _; joined = c.in_ok-write_version.ensures.written }) c.show_silos.ensures.kept)
+returns-in_err-show_silos-clause-kept c =
+    on_err c.from_residual-in_err-show_silos.result (begins_with_the_first _ _ _
+    (record { more = _; joined = c.in_ok-write_version.ensures.written }) c.show_silos.ensures.kept)
 
 pub returns-clause-kept : goal.returns-clause-kept
-returns-clause-kept c = on_err c.show_ranges.result (begins_with_the_first _ _ _ (begins_with_the_first _ _ _ (record { more = _; joined = c.in_ok-write_version.ensures.written }) c.show_silos.ensures.kept) c.show_ranges.ensures.kept)
+returns-clause-kept c =
+    on_err c.show_ranges.result (begins_with_the_first _ _ _
+    (begins_with_the_first _ _ _ (record { more = _; joined = c.in_ok-write_version.ensures.written }) c.show_silos.ensures.kept)
+    c.show_ranges.ensures.kept)

@@ -13,7 +13,9 @@ pub loop-row-preserved : goal.loop-row-preserved
 loop-row-preserved c =
     let rows = c.args.activations.now in
     record {
-      shows = shows_next_line (λ e. held_line c.args.silo.now e.0 e.1) c.args.out.now.items rows rows c.loop-row.out.items c.write_held.new.out.items c.loop-row.row-index c.row-item.result
+      shows =
+          shows_next_line (λ e. held_line c.args.silo.now e.0 e.1) c.args.out.now.items rows rows c.loop-row.out.items
+          c.write_held.new.out.items c.loop-row.row-index c.row-item.result
           c.loop-row-test.true c.row-item.is c.in_ok-write_held.ensures.written c.loop-row.invariant.shows;
       begins = begins_with_the_first _ _ _ c.loop-row.invariant.begins (record { more = _; joined = c.in_ok-write_held.ensures.written });
     }
@@ -26,7 +28,9 @@ returns-in_err-write_held-clause-kept c =
     begins_with_the_first _ _ _ c.loop-row.invariant.begins (begins_with_itself _ _ c.in_err-write_held.ensures.unchanged)
 
 pub returns-clause-shown : goal.returns-clause-shown
-returns-clause-shown c = shows_each (λ e. held_line c.args.silo.now e.0 e.1) c.args.out.now.items c.args.activations.now c.loop-row.out.items c.loop-row.row-index c.loop-row-test.false c.loop-row.invariant.shows
+returns-clause-shown c =
+    shows_each (λ e. held_line c.args.silo.now e.0 e.1) c.args.out.now.items c.args.activations.now c.loop-row.out.items
+    c.loop-row.row-index c.loop-row-test.false c.loop-row.invariant.shows
 
 pub returns-clause-kept : goal.returns-clause-kept
 returns-clause-kept c = c.loop-row.invariant.begins

@@ -13,7 +13,9 @@ pub loop-row-preserved : goal.loop-row-preserved
 loop-row-preserved c =
     let rows = c.args.ranges.now in
     record {
-      shows = shows_next (λ e. range_line c.args.world.now e.0 e.1 ∷ []) c.args.out.now.items rows rows c.loop-row.out.items c.show_range.new.out.items c.loop-row.row-index c.row-item.result
+      shows =
+          shows_next (λ e. range_line c.args.world.now e.0 e.1 ∷ []) c.args.out.now.items rows rows c.loop-row.out.items
+          c.show_range.new.out.items c.loop-row.row-index c.row-item.result
           c.loop-row-test.true c.row-item.is c.in_ok-show_range.ensures.shown c.loop-row.invariant.shows;
       begins = begins_with_the_first _ _ _ c.loop-row.invariant.begins c.in_ok-show_range.ensures.kept;
     }
@@ -25,7 +27,9 @@ pub returns-in_err-show_range-clause-kept : goal.returns-in_err-show_range-claus
 returns-in_err-show_range-clause-kept c = begins_with_the_first _ _ _ c.loop-row.invariant.begins c.show_range.ensures.kept
 
 pub returns-clause-shown : goal.returns-clause-shown
-returns-clause-shown c = shows_each (λ e. range_line c.args.world.now e.0 e.1) c.args.out.now.items c.args.ranges.now c.loop-row.out.items c.loop-row.row-index c.loop-row-test.false c.loop-row.invariant.shows
+returns-clause-shown c =
+    shows_each (λ e. range_line c.args.world.now e.0 e.1) c.args.out.now.items c.args.ranges.now c.loop-row.out.items c.loop-row.row-index
+    c.loop-row-test.false c.loop-row.invariant.shows
 
 pub returns-clause-kept : goal.returns-clause-kept
 returns-clause-kept c = c.loop-row.invariant.begins

@@ -13,4 +13,5 @@ pub returns-in_err-write_silo-clause-kept : goal.returns-in_err-write_silo-claus
 returns-in_err-write_silo-clause-kept c = begins_with_itself _ _ c.in_err-write_silo.ensures.unchanged
 
 pub returns-clause-kept : goal.returns-clause-kept
-returns-clause-kept c = begins_with_the_first _ _ _ (record { more = _; joined = c.in_ok-write_silo.ensures.written }) c.show_held.ensures.kept
+returns-clause-kept c =
+    begins_with_the_first _ _ _ (record { more = _; joined = c.in_ok-write_silo.ensures.written }) c.show_held.ensures.kept

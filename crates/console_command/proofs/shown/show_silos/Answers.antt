@@ -5,7 +5,8 @@ use Rattle.membership_view.specs.declared.status.Status.{Status}
 use Rattle.membership_view.specs.View.{ViewValue}
 use Rattle.membership_view.specs.Views.{ViewsValue, view_at}
 use Rattle.directory_rules.specs.Happens.{node_of}
-use Rattle.directory_rules.specs.World.{World, current_view}
+use Rattle.directory_rules.specs.State.{World}
+use Rattle.directory_rules.specs.World.{current_view}
 use Rattle.script_lines.proofs.Fronts.{begins_with_the_first}
 use Rattle.script_rules.specs.Show.{silo_lines}
 use Rattle.console_command.proofs.Lines.{begins_with_itself}
@@ -17,10 +18,12 @@ is_made : (world : World) (views : ViewsValue) (version : ℕ) → views ≡ wor
 is_made world views version views_are version_is =
     let same : version ≡ views.version = version_is ∙ sym (ap (λ (v : ViewsValue). v.version) views_are) in omega (same, arith)
 
-rows_are : (world : World) (views : ViewsValue) (version : ℕ) (view : ViewValue) (rows : List (Silo × Status)) → views ≡ world.views → version ≡ world.views.version
+rows_are : (world : World) (views : ViewsValue) (version : ℕ) (view : ViewValue) (rows : List (Silo × Status)) → views ≡ world.views
+    → version ≡ world.views.version
     → view ≡ view_at views version → rows ≡ view.rows → rows ≡ (current_view world).rows
 rows_are world views version view rows views_are version_is view_is rows_is =
-    rows_is ∙ ap (λ (v : ViewValue). v.rows) (view_is ∙ (ap (λ (vs : ViewsValue). view_at vs version) views_are ∙ ap (view_at world.views) version_is))
+    rows_is ∙ ap (λ (v : ViewValue). v.rows) (view_is
+    ∙ (ap (λ (vs : ViewsValue). view_at vs version) views_are ∙ ap (view_at world.views) version_is))
 
 pub unreachable-requires : goal.unreachable-requires
 unreachable-requires c =
@@ -32,8 +35,11 @@ loop-row-init c =
     let world = c.args.world.now in
     let exact = subst (λ (found : Option ViewValue). IfSome found (λ view. view ≡ view_at c.views.result.now c.current.result)) c.in-Some.is c.in_ok-view.ensures.exact in
     record {
-      shows = shows_from_start (λ e. silo_lines e.0 e.1 (node_of world e.0)) c.args.out.now.items (current_view world).rows c.rows-row-items.result.now
-          (rows_are world c.views.result.now c.current.result c.in-Some.view c.rows-row-items.result.now c.views.ensures c.current.ensures exact c.rows-row-items.ensures);
+      shows =
+          shows_from_start (λ e. silo_lines e.0 e.1 (node_of world e.0)) c.args.out.now.items (current_view world).rows
+          c.rows-row-items.result.now
+          (rows_are world c.views.result.now c.current.result c.in-Some.view c.rows-row-items.result.now c.views.ensures c.current.ensures
+          exact c.rows-row-items.ensures);
       begins = begins_with_itself _ _ refl;
     }
 
@@ -41,8 +47,11 @@ pub loop-row-preserved : goal.loop-row-preserved
 loop-row-preserved c =
     let world = c.args.world.now in
     record {
-      shows = shows_next (λ e. silo_lines e.0 e.1 (node_of world e.0)) c.args.out.now.items (current_view world).rows c.rows-row-items.result.now c.loop-row.out.items
-          c.show_silo.new.out.items c.loop-row.row-index c.row-item.result c.loop-row-test.true c.row-item.is c.in_ok-show_silo.ensures.shown c.loop-row.invariant.shows;
+      shows =
+          shows_next (λ e. silo_lines e.0 e.1 (node_of world e.0)) c.args.out.now.items (current_view world).rows
+          c.rows-row-items.result.now c.loop-row.out.items
+          c.show_silo.new.out.items c.loop-row.row-index c.row-item.result c.loop-row-test.true c.row-item.is
+          c.in_ok-show_silo.ensures.shown c.loop-row.invariant.shows;
       begins = begins_with_the_first _ _ _ c.loop-row.invariant.begins c.in_ok-show_silo.ensures.kept;
     }
 
@@ -61,7 +70,8 @@ returns-in_err-show_silo-clause-kept c = begins_with_the_first _ _ _ c.loop-row.
 pub returns-clause-shown : goal.returns-clause-shown
 returns-clause-shown c =
     let world = c.args.world.now in
-    shows_whole (λ e. silo_lines e.0 e.1 (node_of world e.0)) c.args.out.now.items (current_view world).rows c.rows-row-items.result.now c.loop-row.out.items
+    shows_whole (λ e. silo_lines e.0 e.1 (node_of world e.0)) c.args.out.now.items (current_view world).rows c.rows-row-items.result.now
+    c.loop-row.out.items
     c.loop-row.row-index c.loop-row-test.false c.loop-row.invariant.shows
 
 pub returns-clause-kept : goal.returns-clause-kept

@@ -22,8 +22,11 @@ loop-unseen-preserved c =
     record {
       goes = goes_on (flat_map (sights current) silos) c.args.world.now c.args.out.now.items (flat_map (sights current) (drop index silos))
           (sights current unseen) (flat_map (sights current) (drop (index + 1) silos)) _ _ _ _ c.in_ok-see_up_to.field-0
-          c.if-not-branch.false (silo_left current silos index unseen c.loop-unseen-test.true c.unseen-item.is) c.loop-unseen.invariant.goes c.in_ok-see_up_to.ensures.taken;
-      begins = turns_begin (sights current unseen) _ _ _ _ _ c.in_ok-see_up_to.field-0 c.loop-unseen.invariant.begins c.in_ok-see_up_to.ensures.taken;
+          c.if-not-branch.false (silo_left current silos index unseen c.loop-unseen-test.true c.unseen-item.is) c.loop-unseen.invariant.goes
+          c.in_ok-see_up_to.ensures.taken;
+      begins =
+          turns_begin (sights current unseen) _ _ _ _ _ c.in_ok-see_up_to.field-0 c.loop-unseen.invariant.begins
+          c.in_ok-see_up_to.ensures.taken;
     }
 
 pub returns-then-not-branch-clause-performed : goal.returns-then-not-branch-clause-performed
@@ -35,7 +38,8 @@ returns-then-not-branch-clause-performed c =
     turns_alone (flat_map (sights current) silos) _ _ _ _ false
     (goes_no_further (flat_map (sights current) silos) c.args.world.now c.args.out.now.items (flat_map (sights current) (drop index silos))
     (sights current unseen) (flat_map (sights current) (drop (index + 1) silos)) _ _ _ _ c.in_ok-see_up_to.field-0
-    c.if-not-branch.true (silo_left current silos index unseen c.loop-unseen-test.true c.unseen-item.is) c.loop-unseen.invariant.goes c.in_ok-see_up_to.ensures.taken)
+    c.if-not-branch.true (silo_left current silos index unseen c.loop-unseen-test.true c.unseen-item.is) c.loop-unseen.invariant.goes
+    c.in_ok-see_up_to.ensures.taken)
 
 pub returns-clause-performed : goal.returns-clause-performed
 returns-clause-performed c =
@@ -50,7 +54,8 @@ pub returns-in_err-see_up_to-clause-performed : goal.returns-in_err-see_up_to-cl
 returns-in_err-see_up_to-clause-performed c = not_ok _ c.from_residual.result c.from_residual.ensures.0
 
 pub returns-in_err-see_up_to-clause-kept : goal.returns-in_err-see_up_to-clause-kept
-returns-in_err-see_up_to-clause-kept c = on_err c.from_residual.result (begins_with_the_first _ _ _ c.loop-unseen.invariant.begins c.in_err-see_up_to.ensures.kept)
+returns-in_err-see_up_to-clause-kept c =
+    on_err c.from_residual.result (begins_with_the_first _ _ _ c.loop-unseen.invariant.begins c.in_err-see_up_to.ensures.kept)
 
 pub returns-then-not-branch-clause-kept : goal.returns-then-not-branch-clause-kept
 returns-then-not-branch-clause-kept c = tt

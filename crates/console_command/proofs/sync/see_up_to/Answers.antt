@@ -19,8 +19,11 @@ loop-seen-preserved c =
     let current = c.args.current in
     let turns = one_turn _ (See silo (seen + 1)) _ _ _ c.in_ok-take_turn.field-0 c.in_ok-take_turn.ensures.taken in
     record {
-      goes = goes_on (sights current c.args.unseen.now) c.args.world.now c.args.out.now.items (map (See silo) (range_with_len (seen + 1) (current - seen)))
-          (See silo (seen + 1) ∷ []) (map (See silo) (range_with_len (seen + 1 + 1) (current - (seen + 1)))) _ _ _ _ c.in_ok-take_turn.field-0
+      goes =
+          goes_on (sights current c.args.unseen.now) c.args.world.now c.args.out.now.items
+          (map (See silo) (range_with_len (seen + 1) (current - seen)))
+          (See silo (seen + 1) ∷ []) (map (See silo) (range_with_len (seen + 1 + 1) (current - (seen + 1)))) _ _ _ _
+          c.in_ok-take_turn.field-0
           c.if-not-branch.false (sights_left silo seen current (omega arith)) c.loop-seen.invariant.goes turns;
       begins = turns_begin (See silo (seen + 1) ∷ []) _ _ _ _ _ c.in_ok-take_turn.field-0 c.loop-seen.invariant.begins turns;
     }
@@ -30,7 +33,8 @@ returns-then-not-branch-clause-taken c =
     let silo = c.args.unseen.now.silo in
     let seen = c.loop-seen.seen in
     let current = c.args.current in
-    goes_no_further (sights current c.args.unseen.now) c.args.world.now c.args.out.now.items (map (See silo) (range_with_len (seen + 1) (current - seen)))
+    goes_no_further (sights current c.args.unseen.now) c.args.world.now c.args.out.now.items
+    (map (See silo) (range_with_len (seen + 1) (current - seen)))
     (See silo (seen + 1) ∷ []) (map (See silo) (range_with_len (seen + 1 + 1) (current - (seen + 1)))) _ _ _ _ c.in_ok-take_turn.field-0
     c.if-not-branch.true (sights_left silo seen current (omega arith)) c.loop-seen.invariant.goes
     (one_turn _ (See silo (seen + 1)) _ _ _ c.in_ok-take_turn.field-0 c.in_ok-take_turn.ensures.taken)
@@ -40,5 +44,6 @@ returns-clause-taken c =
     let silo = c.args.unseen.now.silo in
     let seen = c.loop-seen.seen in
     let current = c.args.current in
-    all_went (sights current c.args.unseen.now) c.args.world.now c.args.out.now.items (map (See silo) (range_with_len (seen + 1) (current - seen))) _ _
+    all_went (sights current c.args.unseen.now) c.args.world.now c.args.out.now.items
+    (map (See silo) (range_with_len (seen + 1) (current - seen))) _ _
     (no_sight_left silo seen current (omega arith)) c.loop-seen.invariant.goes

@@ -24,10 +24,14 @@ returns-in-Ok-closed-clause-ends g c =
     let board = c.in-Ok-closed.board in
     let lines = c.in-Ok.lines in
     let script = c.play_lines-lines.new.script in
-    script_ends (g.R.Source.remaining c.args.reader.now) c.args.settings board.journal board.world lines.text.items lines.ended (record { commands = c.new.result }) script
-    (g.R.Source.remaining c.play_lines-lines.new.reader) (g.W.Sink.contents c.args.writer.now) (g.W.Sink.contents c.print.new.writer) c.print.result
+    script_ends (g.R.Source.remaining c.args.reader.now) c.args.settings board.journal board.world lines.text.items lines.ended
+    (record { commands = c.new.result }) script
+    (g.R.Source.remaining c.play_lines-lines.new.reader) (g.W.Sink.contents c.args.writer.now) (g.W.Sink.contents c.print.new.writer)
+    c.print.result
     c.new.ensures.items c.in-Ok-closed.ensures.journaled
-    (subst (λ (l : List Command). CarriesOut c.args.settings board.journal (map command_of l)) c.deref.ensures.value c.in-Ok-closed.ensures.carried)
+    (subst (λ (l : List Command). CarriesOut c.args.settings board.journal (map command_of l)) c.deref.ensures.value
+    c.in-Ok-closed.ensures.carried)
     c.in-Ok.ensures.ends c.in-Ok.ensures.kept
-    (subst (λ (s : Settings). EndsBy s board.journal board.world lines.text.items lines.ended (g.W.Sink.contents c.args.writer.now) (g.W.Sink.contents c.print.new.writer) c.print.result)
+    (subst (λ (s : Settings). EndsBy s board.journal board.world lines.text.items lines.ended (g.W.Sink.contents c.args.writer.now)
+    (g.W.Sink.contents c.print.new.writer) c.print.result)
     (sym c.requires.settings) c.print.ensures.ends)

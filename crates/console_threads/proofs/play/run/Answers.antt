@@ -15,8 +15,11 @@ pub returns-in-Ok-clause-carried : goal.returns-in-Ok-clause-carried
 returns-in-Ok-clause-carried g c =
     let driver = c.new-driver.result in
     let driven = c.drive.new.self in
-    closed_carries_out c.args.settings c.close.result (map command_of c.args.commands.now) driver.hand.seen driven.hand.seen driver.receipts.items driven.receipts.items driven.lacks
+    closed_carries_out c.args.settings c.close.result (map command_of c.args.commands.now) driver.hand.seen driven.hand.seen
+    driver.receipts.items driven.receipts.items driven.lacks
     c.new-driver.ensures.none (c.new-driver.ensures.seen ∙ c.in-Ok.ensures.seen)
-    (subst (λ (s : Settings). driven.lacks ≡ false → Puts (λ journal from to. AreCarriedOut s journal from to (map command_of c.args.commands.now)) driver.hand.seen driven.hand.seen driver.receipts.items driven.receipts.items)
+    (subst (λ (s : Settings). driven.lacks ≡ false → Puts
+    (λ journal from to. AreCarriedOut s journal from to (map command_of c.args.commands.now)) driver.hand.seen driven.hand.seen
+    driver.receipts.items driven.receipts.items)
     (sym c.requires.settings) c.drive.ensures)
     c.close.ensures.lacked_nothing c.close.ensures.seen c.close.ensures.beside

@@ -5,7 +5,7 @@ use Rattle.texts.proofs.Entries.{remove-insert_entry}
 use Rattle.silo_address.specs.Silo.{Silo, silo_cmp}
 use Rattle.silo_address.proofs.Order.{silo_cmp_total}
 use Rattle.membership_view.specs.Changes.{occupant}
-use Rattle.directory_rules.specs.Node.{Node}
+use Rattle.directory_rules.specs.State.{Node}
 use Rattle.directory_core.specs.Changes.{nodes_without}
 use Rattle.directory_core.proofs.Kept.{no_node, nodes_put}
 use Rattle.directory_core.proofs.join.put_in.Goals as goal

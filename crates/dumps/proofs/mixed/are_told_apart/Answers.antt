@@ -7,5 +7,6 @@ use Rattle.dumps.proofs.mixed.are_told_apart.Goals as goal
 pub returns : goal.returns
 returns c = λ rising.
     told_apart mixed (grains_lent c.args.grains.now) c.sort_unstable.new.self.items
-    (subst (λ (numbers : List ℕ). IsPermutation numbers c.sort_unstable.new.self.items) (c.in_ok-numbers.ensures ∙ map_lent mixed c.args.grains.now)
+    (subst (λ (numbers : List ℕ). IsPermutation numbers c.sort_unstable.new.self.items)
+    (c.in_ok-numbers.ensures ∙ map_lent mixed c.args.grains.now)
     c.sort_unstable.ensures.permutation) (rw c.deref.ensures.value at (c.is_rising.ensures rising))

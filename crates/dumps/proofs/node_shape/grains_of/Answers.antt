@@ -9,6 +9,8 @@ use Rattle.dumps.proofs.node_shape.grains_of.Goals as goal
 
 pub returns : goal.returns
 returns c =
-    subst (λ (node : DumpNode). IfOk c.collect.result (λ grains. grains_lent grains.items ≡ map (λ (held : DumpHeld). held.grain) node.held)) c.node.view_is
+    subst (λ (node : DumpNode). IfOk c.collect.result
+    (λ grains. grains_lent grains.items ≡ map (λ (held : DumpHeld). held.grain) node.held)) c.node.view_is
     (map_from_collect c.collect.result c.collect.ensures.ran
-    (YieldsList-from_map_by _ (λ (grain : Bor Grain). grain.now) (λ (held : DumpHeld). held.grain) (YieldsList-from_slice c.node.inside.held.items cc) c.map.ensures.closure (λ x r q k. search rules)))
+    (YieldsList-from_map_by _ (λ (grain : Bor Grain). grain.now) (λ (held : DumpHeld). held.grain)
+    (YieldsList-from_slice c.node.inside.held.items cc) c.map.ensures.closure (λ x r q k. search rules)))

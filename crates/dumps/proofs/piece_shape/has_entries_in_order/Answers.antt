@@ -10,7 +10,8 @@ use Rattle.dumps.proofs.piece_shape.has_entries_in_order.Goals as goal
 pub returns : goal.returns
 returns c =
     in_order_answer (λ (one next : Entry). grain_cmp one.grain next.grain) c.deref.result.now c.is_sorted_by.result
-    (c.is_sorted_by.ensures.cases (λ (one next : Entry). not (is_lt (grain_cmp next.grain one.grain))) (answers_always _ _ _ (λ f a r g called. search rules)))
+    (c.is_sorted_by.ensures.cases (λ (one next : Entry). not (is_lt (grain_cmp next.grain one.grain)))
+    (answers_always _ _ _ (λ f a r g called. search rules)))
     ∙ (in_order_by grain_cmp (λ (entry : Entry). entry.grain) c.deref.result.now
     ∙ (ap (λ (entries : List Entry). are_in_order grain_cmp (map (λ (entry : Entry). entry.grain) entries)) c.deref.ensures.value
     ∙ ap has_entries_in_order c.piece.view_is))

@@ -11,7 +11,8 @@ items-smaller g c =
 pub items-preserved : goal.items-preserved
 items-preserved g c =
     let same : c.take_end_array.new.self ≡ c.items.reader = grind arith in
-    continues g.T.ReadItem.reads g.T.ReadItem.deep c.items.list.items c.push.new.self.items c.in_ok-item.item _ c.items.reader c.read_item.new.reader
+    continues g.T.ReadItem.reads g.T.ReadItem.deep c.items.list.items c.push.new.self.items c.in_ok-item.item _ c.items.reader
+    c.read_item.new.reader
     c.items.invariant (rw same at c.in_ok-item.ensures) c.in_ok-push.ensures.items
 
 pub returns : goal.returns

@@ -14,4 +14,5 @@ returns-in_err-item g c =
     (list_unread g.T.ReadJson.reads _ _ _ _ _ c.in_ok-values.ensures.read c.loop-value-test.true c.value-item.is c.loop-value.invariant)
 
 pub returns : goal.returns
-returns g c = list_read g.T.ReadJson.reads _ _ _ _ c.in_ok-values.ensures.read (omega (arith, c.loop-value-test.false)) c.loop-value.invariant
+returns g c =
+    list_read g.T.ReadJson.reads _ _ _ _ c.in_ok-values.ensures.read (omega (arith, c.loop-value-test.false)) c.loop-value.invariant

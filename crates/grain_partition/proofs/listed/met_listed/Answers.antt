@@ -3,9 +3,9 @@ use Rattle.std.specs.Prelude.{filter, fold, Some, None, IsSome, option_copied}
 use Rattle.std.specs.List.Sorted.{IsPermutation}
 use Rattle.ring_range.specs.Range.{Range, holds}
 use Rattle.directory_rules.specs.Answer.{piece_with}
-use Rattle.directory_rules.specs.Piece.{Piece}
+use Rattle.directory_rules.specs.State.{Piece, Table}
 use Rattle.directory_rules.specs.Sight.{is_kept, was_settled}
-use Rattle.directory_rules.specs.Table.{Table, entries_of, with_entry}
+use Rattle.directory_rules.specs.Table.{entries_of, with_entry}
 use Rattle.grain_partition.proofs.EntriesByWalk.{has_piece, less_behind, settles_at}
 use Rattle.grain_partition.proofs.ListsByWalk.{AreListed, listed_all, listed_more, listed_none}
 use Rattle.grain_partition.proofs.SettledHashes.{with_has}
@@ -15,14 +15,17 @@ use Rattle.grain_partition.proofs.listed.met_listed.Goals as goal
 pub walk-init : goal.walk-init
 walk-init c = record {
   settled = c.requires.settled;
-  listed = subst (λ l. AreListed c.args.hashing c.args.view.now c.args.pieces.now.entries c.args.range.now c.args.range.now l) (sym c.new-entries.ensures.items)
+  listed =
+      subst (λ l. AreListed c.args.hashing c.args.view.now c.args.pieces.now.entries c.args.range.now c.args.range.now l)
+      (sym c.new-entries.ensures.items)
       (listed_none c.args.hashing c.args.view.now c.args.pieces.now.entries c.args.range.now);
 }
 
 pub unwrap-piece-requires : goal.unwrap-piece-requires
 unwrap-piece-requires c =
     let there : IsSome (option_copied c.piece_with.result) =
-    has_piece c.args.hashing c.args.pieces.now.entries c.requires.pieces c.args.range.now c.walk.rest c.in_range.ensures (omega (arith, c.walk-test.true, c.size.ensures.value)) c.walk.invariant.settled
+    has_piece c.args.hashing c.args.pieces.now.entries c.requires.pieces c.args.range.now c.walk.rest c.in_range.ensures
+    (omega (arith, c.walk-test.true, c.size.ensures.value)) c.walk.invariant.settled
     (option_copied c.piece_with.result) (c.piece_with.ensures ∙ ap (λ k. piece_with k c.args.pieces.now.entries) c.start.ensures) in
     elim (c.piece_with.result) as (λ o. IsSome (option_copied o) → IsSome o) [ None ↦ λ h. h | Some x ↦ λ h. h ] there
 
@@ -30,14 +33,16 @@ pub part_behind-behind-requires : goal.part_behind-behind-requires
 part_behind-behind-requires c =
     let piece : Piece = c.unwrap-piece.result.now in
     let with : piece_with c.walk.rest.start c.args.pieces.now.entries ≡ Some piece =
-    ap (λ k. piece_with k c.args.pieces.now.entries) (sym c.start.ensures) ∙ sym c.piece_with.ensures ∙ ap option_copied c.unwrap-piece.ensures in
+    ap (λ k. piece_with k c.args.pieces.now.entries) (sym c.start.ensures) ∙ sym c.piece_with.ensures
+    ∙ ap option_copied c.unwrap-piece.ensures in
     ap (λ r. holds r c.walk.rest.start) c.range.ensures ∙ with_has c.walk.rest.start c.args.pieces.now.entries c.requires.pieces piece with
 
 pub front_of-front-requires : goal.front_of-front-requires
 front_of-front-requires c =
     let piece : Piece = c.unwrap-piece.result.now in
     let with : piece_with c.walk.rest.start c.args.pieces.now.entries ≡ Some piece =
-    ap (λ k. piece_with k c.args.pieces.now.entries) (sym c.start.ensures) ∙ sym c.piece_with.ensures ∙ ap option_copied c.unwrap-piece.ensures in
+    ap (λ k. piece_with k c.args.pieces.now.entries) (sym c.start.ensures) ∙ sym c.piece_with.ensures
+    ∙ ap option_copied c.unwrap-piece.ensures in
     let less = less_behind c.args.hashing c.args.pieces.now.entries c.requires.pieces c.args.range.now c.walk.rest c.in_range.ensures (omega (arith, c.walk-test.true, c.size.ensures.value)) c.walk.invariant.settled
     piece with in
     let size : c.part_behind-behind.result.size ≡ (part_behind c.walk.rest piece.range).size = ap (λ (r : Range). r.size) (c.part_behind-behind.ensures ∙ ap (part_behind c.walk.rest) c.range.ensures) in
@@ -47,7 +52,8 @@ pub walk-smaller : goal.walk-smaller
 walk-smaller c =
     let piece : Piece = c.unwrap-piece.result.now in
     let with : piece_with c.walk.rest.start c.args.pieces.now.entries ≡ Some piece =
-    ap (λ k. piece_with k c.args.pieces.now.entries) (sym c.start.ensures) ∙ sym c.piece_with.ensures ∙ ap option_copied c.unwrap-piece.ensures in
+    ap (λ k. piece_with k c.args.pieces.now.entries) (sym c.start.ensures) ∙ sym c.piece_with.ensures
+    ∙ ap option_copied c.unwrap-piece.ensures in
     let less = less_behind c.args.hashing c.args.pieces.now.entries c.requires.pieces c.args.range.now c.walk.rest c.in_range.ensures (omega (arith, c.walk-test.true, c.size.ensures.value)) c.walk.invariant.settled
     piece with in
     let size : c.part_behind-behind.result.size ≡ (part_behind c.walk.rest piece.range).size = ap (λ (r : Range). r.size) (c.part_behind-behind.ensures ∙ ap (part_behind c.walk.rest) c.range.ensures) in
@@ -57,27 +63,39 @@ pub walk-preserved : goal.walk-preserved
 walk-preserved c =
     let piece : Piece = c.unwrap-piece.result.now in
     let with : piece_with c.walk.rest.start c.args.pieces.now.entries ≡ Some piece =
-    ap (λ k. piece_with k c.args.pieces.now.entries) (sym c.start.ensures) ∙ sym c.piece_with.ensures ∙ ap option_copied c.unwrap-piece.ensures in
+    ap (λ k. piece_with k c.args.pieces.now.entries) (sym c.start.ensures) ∙ sym c.piece_with.ensures
+    ∙ ap option_copied c.unwrap-piece.ensures in
     let again : fold with_entry [] (entries_of piece.entries) ≡ piece.entries = subst (λ (entries : Table). fold with_entry [] (entries_of entries) ≡ entries) c.entries-table.ensures c.made_again.ensures in
     let behind : c.part_behind-behind.result ≡ part_behind c.walk.rest piece.range = c.part_behind-behind.ensures ∙ ap (part_behind c.walk.rest) c.range.ensures in
     let front_is : c.front_of-front.result ≡ record { start = c.walk.rest.start; size = c.walk.rest.size - (part_behind c.walk.rest piece.range).size } =
     c.front_of-front.ensures ∙ ap (λ (r : Range). record { start = c.walk.rest.start; size = c.walk.rest.size - r.size }) behind in
     let moved : IsPermutation (c.walk.entries.items ++ filter (is_kept c.args.hashing c.args.view.now (record { start = c.walk.rest.start; size = c.walk.rest.size - (part_behind c.walk.rest piece.range).size })) (entries_of piece.entries)) c.in_ok-entries.entries.items =
-    subst (λ (entries : Table). IsPermutation (c.walk.entries.items ++ filter (is_kept c.args.hashing c.args.view.now (record { start = c.walk.rest.start; size = c.walk.rest.size - (part_behind c.walk.rest piece.range).size })) (entries_of entries)) c.in_ok-entries.entries.items) c.entries-table.ensures
-    (subst (λ r. IsPermutation (c.walk.entries.items ++ filter (is_kept c.args.hashing c.args.view.now r) (entries_of c.entries-table.result.now.entries)) c.in_ok-entries.entries.items) front_is c.in_ok-entries.ensures) in
+    subst (λ (entries : Table). IsPermutation (c.walk.entries.items ++ filter
+    (is_kept c.args.hashing c.args.view.now (record {
+      start = c.walk.rest.start;
+      size = c.walk.rest.size -
+          (part_behind c.walk.rest piece.range).size;
+    })) (entries_of entries)) c.in_ok-entries.entries.items) c.entries-table.ensures
+    (subst (λ r. IsPermutation (c.walk.entries.items ++ filter (is_kept c.args.hashing c.args.view.now r)
+    (entries_of c.entries-table.result.now.entries)) c.in_ok-entries.entries.items) front_is c.in_ok-entries.ensures) in
     record {
       settled =
           ap (was_settled c.args.pieces.now.entries) behind
           ∙ sym (settled-behind c.args.pieces.now.entries c.requires.pieces c.walk.rest c.in_range.ensures piece.range
-          (settles_at c.args.hashing c.args.pieces.now.entries c.requires.pieces c.args.range.now c.walk.rest c.in_range.ensures (omega (arith, c.walk-test.true, c.size.ensures.value)) c.walk.invariant.settled piece with))
+          (settles_at c.args.hashing c.args.pieces.now.entries c.requires.pieces c.args.range.now c.walk.rest c.in_range.ensures
+          (omega (arith, c.walk-test.true, c.size.ensures.value)) c.walk.invariant.settled piece with))
           ∙ c.walk.invariant.settled;
       listed =
-          subst (λ r. AreListed c.args.hashing c.args.view.now c.args.pieces.now.entries c.args.range.now r c.in_ok-entries.entries.items) (sym behind)
-          (listed_more c.args.hashing c.args.view.now c.args.pieces.now.entries c.args.range.now c.requires.pieces c.requires.tidy c.walk.rest c.in_range.ensures
-          (omega (arith, c.walk-test.true, c.size.ensures.value)) c.walk.invariant.settled piece with again c.walk.entries.items c.in_ok-entries.entries.items moved c.walk.invariant.listed);
+          subst (λ r. AreListed c.args.hashing c.args.view.now c.args.pieces.now.entries c.args.range.now r c.in_ok-entries.entries.items)
+          (sym behind)
+          (listed_more c.args.hashing c.args.view.now c.args.pieces.now.entries c.args.range.now c.requires.pieces c.requires.tidy
+          c.walk.rest c.in_range.ensures
+          (omega (arith, c.walk-test.true, c.size.ensures.value)) c.walk.invariant.settled piece with again c.walk.entries.items
+          c.in_ok-entries.entries.items moved c.walk.invariant.listed);
     }
 
 pub returns : goal.returns
 returns c =
-    listed_all c.args.hashing c.args.view.now c.args.pieces.now.entries c.args.range.now c.walk.rest c.walk.entries.items (omega (arith, c.walk-test.false, c.size.ensures.value))
+    listed_all c.args.hashing c.args.view.now c.args.pieces.now.entries c.args.range.now c.walk.rest c.walk.entries.items
+    (omega (arith, c.walk-test.false, c.size.ensures.value))
     c.walk.invariant.listed

@@ -4,7 +4,7 @@ use Rattle.std.specs.Map.{lookup}
 use Rattle.std.specs.BTreeMap.{is_at}
 use Rattle.std.proofs.lemmas.Map.Keys.{le_from_not_gt, ge_from_not_lt}
 use Rattle.texts.proofs.Orderings.{upto_nat}
-use Rattle.directory_rules.specs.Piece.{Piece}
+use Rattle.directory_rules.specs.State.{Piece}
 use Rattle.grain_partition.proofs.PieceSearch.{nearest_before, nearest_round, past_where}
 use Rattle.grain_partition.proofs.search.nearest.Goals as goal
 
@@ -15,7 +15,8 @@ returns-in-Some c =
     let shown = c.range.ensures.in_range tt in
     let entry = shown.3 (start, piece) c.next_back.new.self c.in-Some.ensures.steps in
     nearest_before c.args.pieces.now.entries c.requires c.args.hash start piece entry.1 (le_from_not_gt start c.args.hash entry.0.1)
-    (λ other le there. ge_from_not_lt start other (shown.4 (start, piece) c.next_back.new.self c.in-Some.ensures.steps other (tt, upto_nat other c.args.hash le) there))
+    (λ other le there. ge_from_not_lt start other (shown.4 (start, piece) c.next_back.new.self c.in-Some.ensures.steps other
+    (tt, upto_nat other c.args.hash le) there))
 
 pub returns : goal.returns
 returns c =

@@ -9,4 +9,5 @@ returns-in-Err-clause-served_stay c =
     let request : Request = c.request.result.now in
     c.unnote.ensures
     ∙ ap (number_before request.sender c.in_ok-before.before) c.in_ok-before.ensures.entries
-    ∙ number_again request.sender request.number c.in_ok-before.before c.args.served.now.entries c.in_ok-before.ensures.was_ordered c.in_ok-before.ensures.old
+    ∙ number_again request.sender request.number c.in_ok-before.before c.args.served.now.entries c.in_ok-before.ensures.was_ordered
+    c.in_ok-before.ensures.old

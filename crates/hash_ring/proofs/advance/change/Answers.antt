@@ -39,7 +39,8 @@ returns-in_err-merged-clause-succeeds c = λ none.
     let places = c.args.places.now in
     let view = c.args.view.now in
     let empty : c.deref-3.result.now ≡ [] =
-    c.deref-3.ensures.value ∙ c.in_ok-new.ensures.new ∙ ap (λ (l : List Point). in_turn places view l) c.deref.ensures.value ∙ ap (λ silos. sorted_points (flat_map (silo_points places) silos)) none in
+    c.deref-3.ensures.value ∙ c.in_ok-new.ensures.new ∙ ap (λ (l : List Point). in_turn places view l) c.deref.ensures.value
+    ∙ ap (λ silos. sorted_points (flat_map (silo_points places) silos)) none in
     let no : false ≡ true = c.in_err-merged.ensures.succeeds (c.room_for.ensures.none empty) in cc
 
 pub returns-clause-changed : goal.returns-clause-changed
@@ -52,10 +53,13 @@ returns-clause-changed c =
     elim c.if-not-is_empty.branch [
       | then-not-is_empty w ↦
           ap (λ v. v.items) w.points-is ∙ w.merge.ensures
-          ∙ sorted_first_from point_cmp_total point_cmp_exact kept (all_new places view c.args.points.now.items) w.deref-then-not-is_empty.result.now w.deref-then-not-is_empty-2.result.now in_order
+          ∙ sorted_first_from point_cmp_total point_cmp_exact kept (all_new places view c.args.points.now.items)
+          w.deref-then-not-is_empty.result.now w.deref-then-not-is_empty-2.result.now in_order
           (w.deref-then-not-is_empty.ensures.value ∙ c.take_out.ensures.kept) (w.deref-then-not-is_empty-2.ensures.value ∙ new)
       | else-not-is_empty w ↦
           ap (λ v. v.items) w.points-is
-          ∙ sorted_first_from point_cmp_total point_cmp_exact kept (all_new places view c.args.points.now.items) c.take_out.new.points.items [] in_order
-          c.take_out.ensures.kept (sym (nil_from_length c.in_ok-new.new.items (let none = w.if-not-is_empty.ensures in grind (arith, nat_tests))) ∙ new)
+          ∙ sorted_first_from point_cmp_total point_cmp_exact kept (all_new places view c.args.points.now.items) c.take_out.new.points.items
+          [] in_order
+          c.take_out.ensures.kept (sym (nil_from_length c.in_ok-new.new.items
+          (let none = w.if-not-is_empty.ensures in grind (arith, nat_tests))) ∙ new)
     ]

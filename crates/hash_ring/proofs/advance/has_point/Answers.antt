@@ -12,4 +12,5 @@ up_to-past-requires c = places_rise c.args.points.now c.requires
 pub returns : goal.returns
 returns c =
     subst (λ b. Decides b (Contains c.args.points.now c.args.point.now)) (sym c.is_ok.ensures.value)
-    (Decides-found point_cmp_total point_cmp_exact c.args.points.now c.args.point.now c.binary_search.result c.requires c.binary_search.ensures.bound c.binary_search.ensures.position)
+    (Decides-found point_cmp_total point_cmp_exact c.args.points.now c.args.point.now c.binary_search.result c.requires
+    c.binary_search.ensures.bound c.binary_search.ensures.position)

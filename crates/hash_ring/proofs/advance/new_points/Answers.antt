@@ -14,18 +14,23 @@ pub loop-row-preserved : goal.loop-row-preserved
 loop-row-preserved c =
     elim c.if-is_new.branch [
       | then-is_new+in_ok-push_points w ↦
-          new_in_new c.args.places.now c.args.points.now c.rows-row-items.result.now c.loop-row.row-index c.row-item.result c.loop-row-test.true c.row-item.is
-          (sym c.is_new.ensures ∙ w.if-is_new.true) c.loop-row.new.items c.if-is_new.new.items c.loop-row.invariant (ap (λ v. v.items) w.new-is ∙ w.in_ok-push_points.ensures)
+          new_in_new c.args.places.now c.args.points.now c.rows-row-items.result.now c.loop-row.row-index c.row-item.result
+          c.loop-row-test.true c.row-item.is
+          (sym c.is_new.ensures ∙ w.if-is_new.true) c.loop-row.new.items c.if-is_new.new.items c.loop-row.invariant
+          (ap (λ v. v.items) w.new-is ∙ w.in_ok-push_points.ensures)
       | else-is_new w ↦
-          new_in_other c.args.places.now c.args.points.now c.rows-row-items.result.now c.loop-row.row-index c.row-item.result c.loop-row-test.true c.row-item.is
-          (sym c.is_new.ensures ∙ w.if-is_new.false) c.loop-row.new.items c.if-is_new.new.items c.loop-row.invariant (ap (λ v. v.items) w.new-is)
+          new_in_other c.args.places.now c.args.points.now c.rows-row-items.result.now c.loop-row.row-index c.row-item.result
+          c.loop-row-test.true c.row-item.is
+          (sym c.is_new.ensures ∙ w.if-is_new.false) c.loop-row.new.items c.if-is_new.new.items c.loop-row.invariant
+          (ap (λ v. v.items) w.new-is)
     ]
 
 pub returns-clause-new : goal.returns-clause-new
 returns-clause-new c =
     let ring : RingValue = record { version = 0; points = c.args.points.now } in
     let all = flat_map (silo_points c.args.places.now) (new_silos ring c.args.view.now) in
-    sorted_is_inserted point_cmp_total point_cmp_exact naming_cmp_total all c.sort_unstable.new.self.items (new_points-rising ring c.args.view.now c.args.places.now c.in_order.ensures)
+    sorted_is_inserted point_cmp_total point_cmp_exact naming_cmp_total all c.sort_unstable.new.self.items
+    (new_points-rising ring c.args.view.now c.args.places.now c.in_order.ensures)
     (subst (λ (l : List Point). IsPermutation l c.sort_unstable.new.self.items)
     (c.loop-row.invariant
     ∙ new_in_end c.args.places.now c.args.points.now c.rows-row-items.result.now c.loop-row.row-index c.loop-row-test.false

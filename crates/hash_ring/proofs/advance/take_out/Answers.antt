@@ -44,8 +44,12 @@ loop-silo-preserved-then-is_gone c =
     let gone : (not (passes silo) && is_on_ring before silo) ≡ true =
     ap (λ l. not (passes silo) && is_on_ring l silo) (sym c.deref.ensures.value) ∙ sym c.is_gone.ensures ∙ c.if-is_gone.true in
     record {
-      whole = subst (λ (l : List Point). HasWholeSilos c.args.places.now l) (sym c.take_out_of.ensures.kept) (some_silos c.args.places.now before (λ s. not (silo_eq s silo)) c.loop-silo.invariant.whole);
-      same = ap (λ l. filter (λ p. passes p.silo) l) c.take_out_of.ensures.kept ∙ passing_stay passes before silo gone ∙ c.loop-silo.invariant.same;
+      whole =
+          subst (λ (l : List Point). HasWholeSilos c.args.places.now l) (sym c.take_out_of.ensures.kept)
+          (some_silos c.args.places.now before (λ s. not (silo_eq s silo)) c.loop-silo.invariant.whole);
+      same =
+          ap (λ l. filter (λ p. passes p.silo) l) c.take_out_of.ensures.kept ∙ passing_stay passes before silo gone
+          ∙ c.loop-silo.invariant.same;
       left =
           subst (λ (l : List Point). AreLeft passes l (keys_of c.next.new.self)) (sym c.take_out_of.ensures.kept)
           (left_without passes before silo (keys_of c.next.new.self)
@@ -58,5 +62,6 @@ pub returns-clause-kept : goal.returns-clause-kept
 returns-clause-kept c =
     let passes = is_active_in c.args.view.now in
     let after : List Point = c.loop-silo.points.items in
-    sym (none_left passes after (subst (λ (es : List (Silo × List ℕ)). AreLeft passes after (keys_of es)) c.in-None.ensures.steps.0 c.loop-silo.invariant.left))
+    sym (none_left passes after (subst (λ (es : List (Silo × List ℕ)). AreLeft passes after (keys_of es)) c.in-None.ensures.steps.0
+    c.loop-silo.invariant.left))
     ∙ c.loop-silo.invariant.same

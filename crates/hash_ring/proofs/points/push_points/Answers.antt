@@ -13,4 +13,5 @@ loop-index-preserved c =
     c.in_ok-push.ensures.items
     ∙ ap (λ l. l ++ point ∷ []) c.loop-index.invariant
     ∙ append_assoc c.args.points.now.items (points_at c.args.silo.now (take c.loop-index.index c.in-Some.list.now)) (point ∷ [])
-    ∙ ap (λ l. c.args.points.now.items ++ l) (sym (points_at_more c.args.silo.now c.loop-index.index next c.in-Some.list.now within (get_or_default c.in-Some.list.now c.loop-index.index 0 next within)))
+    ∙ ap (λ l. c.args.points.now.items ++ l) (sym (points_at_more c.args.silo.now c.loop-index.index next c.in-Some.list.now within
+    (get_or_default c.in-Some.list.now c.loop-index.index 0 next within)))

@@ -7,7 +7,8 @@ use Rattle.hash_ring.proofs.ranges.room_from.Goals as goal
 pub returns-then-next-points-clause-room : goal.returns-then-next-points-clause-room
 returns-then-next-points-clause-room c =
     c.from.ensures
-    ∙ room_to_next c.args.points.now c.args.place c.up_to-next.result c.requires.rise c.requires.on_circle c.if-next-points.true c.up_to-next.ensures.split c.index-points-next.result
+    ∙ room_to_next c.args.points.now c.args.place c.up_to-next.result c.requires.rise c.requires.on_circle c.if-next-points.true
+    c.up_to-next.ensures.split c.index-points-next.result
 
 pub returns-else-next-points-clause-room : goal.returns-else-next-points-clause-room
 returns-else-next-points-clause-room c =
@@ -18,4 +19,5 @@ returns-else-next-points-clause-room c =
     let is = c.requires.is d in
     let first : (get_or points 0 d).place ≤ c.args.place = omega arith in
     ap (λ n. circle - n) c.from-else-next-points.ensures
-    ∙ room_round points c.args.place c.up_to-next.result c.requires.rise c.requires.on_circle (omega arith) (omega arith) c.if-next-points.false d first c.up_to-next.ensures.split
+    ∙ room_round points c.args.place c.up_to-next.result c.requires.rise c.requires.on_circle (omega arith) (omega arith)
+    c.if-next-points.false d first c.up_to-next.ensures.split

@@ -14,12 +14,16 @@ pub move_to-requires : goal.move_to-requires
 move_to-requires c =
     let key = its_key c.args.hashing c.args.map.now c.args.hashes.now.items c.requires.hashes c.args.index _ (sym c.in-Some.ensures) c.hash_at.result c.hash_at.ensures in
     subst (λ k. IsSome (lookup (is_at (hashed_count_cmp k)) c.args.by_hash.now.entries)) (sym key)
-    (subst (λ o. MatchOption o ⊤ (λ e. IsSome (lookup (is_at (hashed_count_cmp (key_of c.args.hashing e))) c.args.by_hash.now.entries))) (sym c.in-Some.ensures) c.requires.there)
+    (subst (λ o. MatchOption o ⊤ (λ e. IsSome (lookup (is_at (hashed_count_cmp (key_of c.args.hashing e))) c.args.by_hash.now.entries)))
+    (sym c.in-Some.ensures) c.requires.there)
 
 pub returns-in-Some : goal.returns-in-Some
 returns-in-Some c =
     let key = its_key c.args.hashing c.args.map.now c.args.hashes.now.items c.requires.hashes c.args.index _ (sym c.in-Some.ensures) c.hash_at.result c.hash_at.ensures in
     let old = c.args.by_hash.now.entries in
     let new = c.move_to.new.by_hash.entries in
-    subst (λ o. MatchOption o (new ≡ old) (λ e. (q : HashedCount) → lookup (is_at (hashed_count_cmp q)) new ≡ (if is_at (hashed_count_cmp (key_of c.args.hashing e)) q then Some c.args.index else lookup (is_at (hashed_count_cmp q)) old))) c.in-Some.ensures
-    (subst (λ k. (q : HashedCount) → lookup (is_at (hashed_count_cmp q)) new ≡ (if is_at (hashed_count_cmp k) q then Some c.args.index else lookup (is_at (hashed_count_cmp q)) old)) key c.move_to.ensures)
+    subst (λ o. MatchOption o (new ≡ old) (λ e. (q : HashedCount)
+    → lookup (is_at (hashed_count_cmp q)) new ≡ (if is_at (hashed_count_cmp (key_of c.args.hashing e)) q then Some c.args.index else
+    lookup (is_at (hashed_count_cmp q)) old))) c.in-Some.ensures
+    (subst (λ k. (q : HashedCount) → lookup (is_at (hashed_count_cmp q)) new
+    ≡ (if is_at (hashed_count_cmp k) q then Some c.args.index else lookup (is_at (hashed_count_cmp q)) old)) key c.move_to.ensures)

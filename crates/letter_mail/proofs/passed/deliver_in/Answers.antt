@@ -14,5 +14,7 @@ returns-clause-queued c =
     let below : k < length slots = omega (arith, c.requires.sent, c.requires.within) in
     let after : c.deref.result.now ≡ set slots k c.deliver.new.self = search rules in
     subst (λ (l : List Slot). AreQueued l c.advance_at.new.queues.entries) after
-    (queued_passed slots c.deref.result.now c.deliver.new.self old c.to-to.result k c.args.queues.now.entries c.advance_at.new.queues.entries c.requires.queued below after
-    (ap slot_to is ∙ stale_to (get_or slots k old)) (sym c.to-to.ensures) (ap is_fresh is ∙ stale_stale (get_or slots k old)) c.advance_at.ensures.none c.advance_at.ensures.some)
+    (queued_passed slots c.deref.result.now c.deliver.new.self old c.to-to.result k c.args.queues.now.entries
+    c.advance_at.new.queues.entries c.requires.queued below after
+    (ap slot_to is ∙ stale_to (get_or slots k old)) (sym c.to-to.ensures) (ap is_fresh is ∙ stale_stale (get_or slots k old))
+    c.advance_at.ensures.none c.advance_at.ensures.some)

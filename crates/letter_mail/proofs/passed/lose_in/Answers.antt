@@ -14,5 +14,6 @@ returns-clause-queued c =
     let below : k < length slots = omega (arith, c.requires.sent, c.requires.within) in
     let after : c.deref.result.now ≡ set slots k c.lose.new.self = search rules in
     subst (λ (l : List Slot). AreQueued l c.advance_at.new.queues.entries) after
-    (queued_passed slots c.deref.result.now c.lose.new.self old c.to-to.result k c.args.queues.now.entries c.advance_at.new.queues.entries c.requires.queued below after
+    (queued_passed slots c.deref.result.now c.lose.new.self old c.to-to.result k c.args.queues.now.entries c.advance_at.new.queues.entries
+    c.requires.queued below after
     (ap slot_to is) (sym c.to-to.ensures) (ap is_fresh is) c.advance_at.ensures.none c.advance_at.ensures.some)

@@ -11,18 +11,21 @@ pub returns-clause-numbered : goal.returns-clause-numbered
 returns-clause-numbered c =
     let items : c.push.new.self.items ≡ c.args.slots.now.items ++ c.in_ok-slot.slot ∷ [] = search rules in
     subst (λ (l : List Slot). AreKept (length (keys_of c.kept.new.grains)) l) (sym items)
-    (are_put (keys_of c.args.grains.now) (keys_of c.kept.new.grains) c.args.slots.now.items c.in_ok-slot.slot c.kept.ensures.grown c.requires.numbered c.in_ok-slot.ensures.numbered)
+    (are_put (keys_of c.args.grains.now) (keys_of c.kept.new.grains) c.args.slots.now.items c.in_ok-slot.slot c.kept.ensures.grown
+    c.requires.numbered c.in_ok-slot.ensures.numbered)
 
 pub returns-clause-queued : goal.returns-clause-queued
 returns-clause-queued c =
     let items : c.push.new.self.items ≡ c.args.slots.now.items ++ c.in_ok-slot.slot ∷ [] = search rules in
     let is = put_slot (keys_of c.kept.new.grains) c.in_ok-slot.slot c.args.letter c.in_ok-slot.ensures.exact in
-    queued_put c.args.slots.now.items c.push.new.self.items c.in_ok-slot.slot c.to-to.result (c.len.result + 1) c.args.queues.now.entries c.enqueue.new.queues.entries
+    queued_put c.args.slots.now.items c.push.new.self.items c.in_ok-slot.slot c.to-to.result (c.len.result + 1) c.args.queues.now.entries
+    c.enqueue.new.queues.entries
     c.requires.queued items is.0 (is.1 ∙ sym c.to-to.ensures)
     (search rules) c.in_ok-enqueue.ensures.put
 
 pub returns-clause-put : goal.returns-clause-put
 returns-clause-put c =
     let items : c.push.new.self.items ≡ c.args.slots.now.items ++ c.in_ok-slot.slot ∷ [] = search rules in
-    put_posted (keys_of c.args.grains.now) (keys_of c.kept.new.grains) c.args.slots.now.items c.push.new.self.items c.in_ok-slot.slot c.args.letter
+    put_posted (keys_of c.args.grains.now) (keys_of c.kept.new.grains) c.args.slots.now.items c.push.new.self.items c.in_ok-slot.slot
+    c.args.letter
     c.kept.ensures.grown c.requires.numbered items c.in_ok-slot.ensures.exact

@@ -14,6 +14,7 @@ invariant-loop-letter l = record {
   queued : AreQueued l.slots.items l.queues.entries;
   behind : Grows l.fn.slots.items l.slots.items;
   grown : Grows (keys_of l.fn.grains) (keys_of l.grains);
-  put : with_posted (mail_in (keys_of l.grains) l.slots.items) l.letter-iterator.rest.items ≡ with_posted (mail_in (keys_of l.fn.grains) l.fn.slots.items) l.fn.letters.items;
+  put : with_posted (mail_in (keys_of l.grains) l.slots.items) l.letter-iterator.rest.items ≡ with_posted
+      (mail_in (keys_of l.fn.grains) l.fn.slots.items) l.fn.letters.items;
   none : l.fn.letters.items ≡ [] → l.letter-iterator.rest.items ≡ [];
 }

@@ -12,10 +12,12 @@ pub returns-in-Some-clause-hint : goal.returns-in-Some-clause-hint
 returns-in-Some-clause-hint c =
     ap told c.in-Some.ensures
     ∙ ap (λ h. told (slice_get h.entries 0)) c.bring_to_front.ensures.front
-    ∙ first-promoted (grain_eq c.args.grain.now) c.args.hints.now.entries (sym c.bring_to_front.ensures.found ∙ c.if-not-bring_to_front.false)
+    ∙ first-promoted (grain_eq c.args.grain.now) c.args.hints.now.entries
+    (sym c.bring_to_front.ensures.found ∙ c.if-not-bring_to_front.false)
 
 pub returns-in-None-clause-hint : goal.returns-in-None-clause-hint
 returns-in-None-clause-hint c =
     ap told c.in-None.ensures
     ∙ ap (λ h. told (slice_get h.entries 0)) c.bring_to_front.ensures.front
-    ∙ first-promoted (grain_eq c.args.grain.now) c.args.hints.now.entries (sym c.bring_to_front.ensures.found ∙ c.if-not-bring_to_front.false)
+    ∙ first-promoted (grain_eq c.args.grain.now) c.args.hints.now.entries
+    (sym c.bring_to_front.ensures.found ∙ c.if-not-bring_to_front.false)

@@ -29,7 +29,8 @@ returns-then-is_none c =
     (sym (shares_is c.args.silo.now last c.same_endpoint.result c.same_endpoint.ensures) ∙ c.if-same_endpoint.true)
     (not_some row.dead true c.if-is_none.ensures) in
     ap (λ b. if b then Some last else None) (sym passes)
-    ∙ occupant_last c.args.silo.now c.args.rows.now.entries c.range.ensures.ordered c.requires.newest c.requires.older_dead last row entry.1 entry.0.1
+    ∙ occupant_last c.args.silo.now c.args.rows.now.entries c.range.ensures.ordered c.requires.newest c.requires.older_dead last row entry.1
+    entry.0.1
     (λ q at there. found.4 (last, row) c.next_back.new.self c.in_ok-last.ensures.steps q (tt, at) there)
 
 pub returns : goal.returns
@@ -41,9 +42,12 @@ returns c =
     let shares = shares_is c.args.silo.now last c.same_endpoint.result c.same_endpoint.ensures in
     let no : (shares_endpoint c.args.silo.now last && is_none row.dead) ≡ false =
     elim c.else-same_endpoint.branch [
-      | else-same_endpoint-via-then-same_endpoint+else-is_none w ↦ and_right (shares_endpoint c.args.silo.now last) (is_none row.dead) (not_some row.dead false w.if-is_none.ensures)
-      | else-same_endpoint-via-else-same_endpoint w ↦ and_left (shares_endpoint c.args.silo.now last) (is_none row.dead) (sym shares ∙ w.if-same_endpoint.false)
+      | else-same_endpoint-via-then-same_endpoint+else-is_none w ↦ and_right (shares_endpoint c.args.silo.now last) (is_none row.dead)
+          (not_some row.dead false w.if-is_none.ensures)
+      | else-same_endpoint-via-else-same_endpoint w ↦ and_left (shares_endpoint c.args.silo.now last) (is_none row.dead)
+          (sym shares ∙ w.if-same_endpoint.false)
     ] in
     ap (λ b. if b then Some last else None) (sym no)
-    ∙ occupant_last c.args.silo.now c.args.rows.now.entries c.range.ensures.ordered c.requires.newest c.requires.older_dead last row entry.1 entry.0.1
+    ∙ occupant_last c.args.silo.now c.args.rows.now.entries c.range.ensures.ordered c.requires.newest c.requires.older_dead last row entry.1
+    entry.0.1
     (λ q at there. found.4 (last, row) c.next_back.new.self c.in_ok-last.ensures.steps q (tt, at) there)

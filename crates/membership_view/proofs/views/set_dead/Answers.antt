@@ -7,7 +7,8 @@ use Rattle.silo_address.proofs.Order.{silo_cmp_total}
 pub returns-in-Some : goal.returns-in-Some
 returns-in-Some c =
     (c.get_mut.follows.holds (dying c.args.version c.in-Some.row.now)).0
-    ∙ set_value-changed silo_cmp_total (dying c.args.version) c.args.silo.now c.args.rows.now.entries c.in-Some.row.now c.get_mut.ensures.ordered (sym c.in-Some.ensures.value)
+    ∙ set_value-changed silo_cmp_total (dying c.args.version) c.args.silo.now c.args.rows.now.entries c.in-Some.row.now
+    c.get_mut.ensures.ordered (sym c.in-Some.ensures.value)
 
 pub returns-in_default : goal.returns-in_default
 returns-in_default c =

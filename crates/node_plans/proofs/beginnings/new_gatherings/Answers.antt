@@ -3,11 +3,13 @@ use Rattle.node_plans.proofs.Begun.{ArePassed, all_passed, new_gatherings_are, g
 use Rattle.node_plans.proofs.beginnings.new_gatherings.Goals as goal
 
 pub loop-start-init : goal.loop-start-init
-loop-start-init c = let gives : c.into_iter-start-iterator.result ≡ c.args.pieces.now.entries = c.into_iter-start-iterator.ensures.into_iter_gives.0 in record {
-  passed = [];
-  split = sym gives;
-  made = c.new-gatherings.ensures.empty;
-}
+loop-start-init c =
+    let gives : c.into_iter-start-iterator.result ≡ c.args.pieces.now.entries = c.into_iter-start-iterator.ensures.into_iter_gives.0 in
+    record {
+      passed = [];
+      split = sym gives;
+      made = c.new-gatherings.ensures.empty;
+    }
 
 pub loop-start-preserved : goal.loop-start-preserved
 loop-start-preserved c =
@@ -21,5 +23,6 @@ loop-start-preserved c =
 pub returns : goal.returns
 returns c =
     let view = c.args.view.now in
-    all_passed (gathers view) c.args.pieces.now.entries c.loop-start.start-iterator c.loop-start.gatherings.entries c.loop-start.invariant c.in-None.ensures.steps.0
+    all_passed (gathers view) c.args.pieces.now.entries c.loop-start.start-iterator c.loop-start.gatherings.entries c.loop-start.invariant
+    c.in-None.ensures.steps.0
     ∙ sym (new_gatherings_are view c.args.pieces.now.entries)

@@ -29,4 +29,5 @@ returns-in-Some-clause-made c =
     ∙ ap (λ g. set_value (is_at (nat_cmp c.start-start.result)) old g) c.in_ok-taken.ensures.made
     ∙ ap (λ (s : ℕ). set_value (is_at (nat_cmp s)) old (with_page its page)) start
     ∙ sym (insert_entry-there page.range.start (with_page its page) its old c.get_mut.ensures.ordered there)
-    ∙ ap (λ o. insert_entry nat_cmp old page.range.start (with_page (unwrap_or o (new_gathering c.args.version page.range)) page)) (sym there)
+    ∙ ap (λ o. insert_entry nat_cmp old page.range.start (with_page (unwrap_or o (new_gathering c.args.version page.range)) page))
+    (sym there)

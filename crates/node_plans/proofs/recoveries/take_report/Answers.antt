@@ -4,7 +4,7 @@ use Rattle.std.specs.BTreeMap.{is_at}
 use Rattle.std.specs.Ordering.{nat_cmp}
 use Rattle.std.proofs.lemmas.Map.Steps.{set_value_same}
 use Rattle.ring_range.specs.Range.{Range}
-use Rattle.directory_rules.specs.Recovery.{Recovery}
+use Rattle.directory_rules.specs.State.{Recovery}
 use Rattle.range_recovery.specs.Progress.{RefusesOrLacksMemory}
 use Rattle.node_plans.proofs.TakenReports.{refused_is}
 use Rattle.node_plans.proofs.recoveries.take_report.Goals as goal

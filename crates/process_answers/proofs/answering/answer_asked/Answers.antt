@@ -9,4 +9,5 @@ use Rattle.process_answers.proofs.answering.answer_asked.Goals as goal
 pub returns-in_err-write_show-in-Show-clause-memory : goal.returns-in_err-write_show-in-Show-clause-memory
 returns-in_err-write_show-in-Show-clause-memory c =
     let failed = c.from_residual-in_err-write_show-in-Show.result in
-    subst (λ (asked : Asked). OnErr failed ((answered (asked_of asked) c.args.silo.now).lines ≡ [] → ⊥)) (sym c.in-Show.is) (show_prints failed c.args.silo.now)
+    subst (λ (asked : Asked). OnErr failed ((answered (asked_of asked) c.args.silo.now).lines ≡ [] → ⊥)) (sym c.in-Show.is)
+    (show_prints failed c.args.silo.now)

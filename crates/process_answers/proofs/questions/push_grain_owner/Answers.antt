@@ -6,7 +6,8 @@ pub returns-in_err-push_grain-clause-kept : goal.returns-in_err-push_grain-claus
 returns-in_err-push_grain-clause-kept c = begins_with_the_first _ _ _ c.push_word.ensures.kept c.push_grain.ensures.kept
 
 pub returns-in_err-push_owner-clause-kept : goal.returns-in_err-push_owner-clause-kept
-returns-in_err-push_owner-clause-kept c = begins_with_the_first _ _ _ (begins_with_the_first _ _ _ c.push_word.ensures.kept c.push_grain.ensures.kept) c.push_owner.ensures.kept
+returns-in_err-push_owner-clause-kept c =
+    begins_with_the_first _ _ _ (begins_with_the_first _ _ _ c.push_word.ensures.kept c.push_grain.ensures.kept) c.push_owner.ensures.kept
 
 pub returns-clause-written : goal.returns-clause-written
 returns-clause-written c =
@@ -15,4 +16,5 @@ returns-clause-written c =
     c.in_ok-push_owner.ensures.written)
 
 pub returns-clause-kept : goal.returns-clause-kept
-returns-clause-kept c = begins_with_the_first _ _ _ (begins_with_the_first _ _ _ c.push_word.ensures.kept c.push_grain.ensures.kept) c.push_owner.ensures.kept
+returns-clause-kept c =
+    begins_with_the_first _ _ _ (begins_with_the_first _ _ _ c.push_word.ensures.kept c.push_grain.ensures.kept) c.push_owner.ensures.kept

@@ -9,13 +9,16 @@ pub returns-in_err-push_range-clause-kept : goal.returns-in_err-push_range-claus
 returns-in_err-push_range-clause-kept c = begins_with_the_first _ _ _ c.push_word.ensures.kept c.push_range.ensures.kept
 
 pub returns-in_err-push_state-clause-kept : goal.returns-in_err-push_state-clause-kept
-returns-in_err-push_state-clause-kept c = begins_with_the_first _ _ _ (begins_with_the_first _ _ _ c.push_word.ensures.kept c.push_range.ensures.kept) c.push_state.ensures.kept
+returns-in_err-push_state-clause-kept c =
+    begins_with_the_first _ _ _ (begins_with_the_first _ _ _ c.push_word.ensures.kept c.push_range.ensures.kept) c.push_state.ensures.kept
 
 pub returns-clause-written : goal.returns-clause-written
 returns-clause-written c =
     then_spaced _ _ _ _ _ c.in_ok-push_word.ensures.written
-    (then_spaced _ _ _ _ _ (c.in_ok-push_range.ensures.written ∙ ap (λ range. c.push_word.new.out.items ++ spaced (range_text range ∷ [])) c.range.ensures)
+    (then_spaced _ _ _ _ _ (c.in_ok-push_range.ensures.written
+    ∙ ap (λ range. c.push_word.new.out.items ++ spaced (range_text range ∷ [])) c.range.ensures)
     c.in_ok-push_state.ensures.written)
 
 pub returns-clause-kept : goal.returns-clause-kept
-returns-clause-kept c = begins_with_the_first _ _ _ (begins_with_the_first _ _ _ c.push_word.ensures.kept c.push_range.ensures.kept) c.push_state.ensures.kept
+returns-clause-kept c =
+    begins_with_the_first _ _ _ (begins_with_the_first _ _ _ c.push_word.ensures.kept c.push_range.ensures.kept) c.push_state.ensures.kept

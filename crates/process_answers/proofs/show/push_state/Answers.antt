@@ -7,5 +7,6 @@ use Rattle.process_answers.proofs.show.push_state.Goals as goal
 
 pub returns-in-Recovering-clause-written : goal.returns-in-Recovering-clause-written
 returns-in-Recovering-clause-written c =
-    subst (λ (state : PieceState). OnOk c.push_word.result (c.push_word.new.out.items ≡ c.args.out.now.items ++ spaced (state_words state c.args.piece.now.entries)))
+    subst (λ (state : PieceState). OnOk c.push_word.result
+    (c.push_word.new.out.items ≡ c.args.out.now.items ++ spaced (state_words state c.args.piece.now.entries)))
     c.in-Recovering.ensures c.push_word.ensures.written

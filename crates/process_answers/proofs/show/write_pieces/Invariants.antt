@@ -6,6 +6,7 @@ use Rattle.process_answers.proofs.show.write_pieces.Given as goal
 
 abbrev pub invariant-loop-piece : goal.invariant-loop-piece
 invariant-loop-piece l = record {
-  shows : l.out.items ++ text_of_lines (map (λ e. piece_line e.1) l.piece-iterator) ≡ l.fn.out.items ++ text_of_lines (map (λ e. piece_line e.1) l.holding.pieces);
+  shows : l.out.items ++ text_of_lines (map (λ e. piece_line e.1) l.piece-iterator) ≡ l.fn.out.items ++ text_of_lines
+      (map (λ e. piece_line e.1) l.holding.pieces);
   begins : BeginsWith l.fn.out.items l.out.items;
 }

@@ -8,13 +8,16 @@ pub returns-in_err-push_word-2-clause-kept : goal.returns-in_err-push_word-2-cla
 returns-in_err-push_word-2-clause-kept c = begins_with_the_first _ _ _ c.push_word.ensures.kept c.push_word-2.ensures.kept
 
 pub returns-in_err-push_effect-clause-kept : goal.returns-in_err-push_effect-clause-kept
-returns-in_err-push_effect-clause-kept c = begins_with_the_first _ _ _ (begins_with_the_first _ _ _ c.push_word.ensures.kept c.push_word-2.ensures.kept) c.push_effect.ensures.kept
+returns-in_err-push_effect-clause-kept c =
+    begins_with_the_first _ _ _ (begins_with_the_first _ _ _ c.push_word.ensures.kept c.push_word-2.ensures.kept) c.push_effect.ensures.kept
 
 pub returns-clause-written : goal.returns-clause-written
 returns-clause-written c =
     then_spaced _ _ _ _ _ c.in_ok-push_word.ensures.written
-    (then_spaced _ _ _ _ _ (c.in_ok-push_word-2.ensures.written ∙ ap (λ word. c.push_word.new.out.items ++ spaced (word ∷ [])) c.kind_word.ensures)
+    (then_spaced _ _ _ _ _ (c.in_ok-push_word-2.ensures.written
+    ∙ ap (λ word. c.push_word.new.out.items ++ spaced (word ∷ [])) c.kind_word.ensures)
     c.in_ok-push_effect.ensures.written)
 
 pub returns-clause-kept : goal.returns-clause-kept
-returns-clause-kept c = begins_with_the_first _ _ _ (begins_with_the_first _ _ _ c.push_word.ensures.kept c.push_word-2.ensures.kept) c.push_effect.ensures.kept
+returns-clause-kept c =
+    begins_with_the_first _ _ _ (begins_with_the_first _ _ _ c.push_word.ensures.kept c.push_word-2.ensures.kept) c.push_effect.ensures.kept

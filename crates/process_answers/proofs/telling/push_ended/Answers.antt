@@ -6,7 +6,9 @@ pub returns-in_err-push_entry_if_any-clause-kept : goal.returns-in_err-push_entr
 returns-in_err-push_entry_if_any-clause-kept c = begins_with_the_first _ _ _ c.push_word.ensures.kept c.push_entry_if_any.ensures.kept
 
 pub returns-in_err-push_word-2-clause-kept : goal.returns-in_err-push_word-2-clause-kept
-returns-in_err-push_word-2-clause-kept c = begins_with_the_first _ _ _ (begins_with_the_first _ _ _ c.push_word.ensures.kept c.push_entry_if_any.ensures.kept) c.push_word-2.ensures.kept
+returns-in_err-push_word-2-clause-kept c =
+    begins_with_the_first _ _ _ (begins_with_the_first _ _ _ c.push_word.ensures.kept c.push_entry_if_any.ensures.kept)
+    c.push_word-2.ensures.kept
 
 pub returns-clause-written : goal.returns-clause-written
 returns-clause-written c =
@@ -15,4 +17,6 @@ returns-clause-written c =
     c.in_ok-push_word-2.ensures.written)
 
 pub returns-clause-kept : goal.returns-clause-kept
-returns-clause-kept c = begins_with_the_first _ _ _ (begins_with_the_first _ _ _ c.push_word.ensures.kept c.push_entry_if_any.ensures.kept) c.push_word-2.ensures.kept
+returns-clause-kept c =
+    begins_with_the_first _ _ _ (begins_with_the_first _ _ _ c.push_word.ensures.kept c.push_entry_if_any.ensures.kept)
+    c.push_word-2.ensures.kept

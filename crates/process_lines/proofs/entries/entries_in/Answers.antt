@@ -13,7 +13,8 @@ pub words-preserved : goal.words-preserved
 words-preserved c =
     let pushed : c.push.new.self.items ≡ c.words.entries.items ++ c.in_ok-entry.entry ∷ [] = search rules in
     c.words.invariant
-    ∙ entries_more c.words.entries.items (words_in c.words.rest.now) (words_in c.in-Some.behind.now) (words_in c.in-Some-split_word.after.now) c.in-Some.grain.now c.in-Some-split_word.activation.now c.in_ok-entry.entry
+    ∙ entries_more c.words.entries.items (words_in c.words.rest.now) (words_in c.in-Some.behind.now)
+    (words_in c.in-Some-split_word.after.now) c.in-Some.grain.now c.in-Some-split_word.activation.now c.in_ok-entry.entry
     c.in-Some.ensures.words c.in-Some-split_word.ensures.words c.in_ok-entry.ensures
     ∙ ap (λ (items : List Entry). onto items (entries_in (words_in c.in-Some-split_word.after.now))) (sym pushed)
 
@@ -23,7 +24,9 @@ returns-then-is_err-clause-memory c memory =
     let entry = c.in_ok-entry.entry in
     let behind = entries_in (words_in c.in-Some-split_word.after.now) in
     let whole = c.words.invariant
-    ∙ entries_more before (words_in c.words.rest.now) (words_in c.in-Some.behind.now) (words_in c.in-Some-split_word.after.now) c.in-Some.grain.now c.in-Some-split_word.activation.now entry
+    ∙ entries_more before (words_in c.words.rest.now) (words_in c.in-Some.behind.now) (words_in c.in-Some-split_word.after.now)
+    c.in-Some.grain.now c.in-Some-split_word.activation.now entry
     c.in-Some.ensures.words c.in-Some-split_word.ensures.words c.in_ok-entry.ensures in
     let out : c.without_memory.result ≡ OutOfMemory = cc memory in
-    subst AreEntries (sym whole) (has_entries before entry behind (subst (λ (error : LineError). Fails error behind) out c.without_memory.ensures))
+    subst AreEntries (sym whole) (has_entries before entry behind
+    (subst (λ (error : LineError). Fails error behind) out c.without_memory.ensures))

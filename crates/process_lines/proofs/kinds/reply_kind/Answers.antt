@@ -26,4 +26,8 @@ returns-in-retry c = kind_read reply_kinds c.args.word.now (codes "retry") _ (om
 
 -- a `grind arith` for each of `reply_kinds`: the word differs from that of the kind
 pub returns-in_default : goal.returns-in_default
-returns-in_default c = no_kind reply_kinds c.args.word.now (grind arith, (grind arith, (grind arith, (grind arith, (grind arith, (grind arith, (grind arith, tt)))))))
+returns-in_default c =
+    no_kind reply_kinds c.args.word.now (
+      grind arith,
+      (grind arith, (grind arith, (grind arith, (grind arith, (grind arith, (grind arith, tt)))))),
+    )

@@ -20,4 +20,8 @@ returns-in-ahead c = kind_read transfer_kinds c.args.word.now (codes "ahead") _ 
 
 -- a `grind arith` for each of `transfer_kinds`: the word differs from that of the kind
 pub returns-in_default : goal.returns-in_default
-returns-in_default c = no_kind transfer_kinds c.args.word.now (grind arith, (grind arith, (grind arith, (grind arith, (grind arith, (grind arith, (grind arith, (grind arith, tt))))))))
+returns-in_default c =
+    no_kind transfer_kinds c.args.word.now (
+      grind arith,
+      (grind arith, (grind arith, (grind arith, (grind arith, (grind arith, (grind arith, (grind arith, tt))))))),
+    )

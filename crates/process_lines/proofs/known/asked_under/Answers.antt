@@ -13,7 +13,8 @@ pub returns-in_err-asked-clause-reads : goal.returns-in_err-asked-clause-reads
 returns-in_err-asked-clause-reads c =
     let no_join : bytes_eq c.args.name.now (codes "joined") ≡ false = search rules in
     let no_letter : bytes_eq c.args.name.now (codes "letter") ≡ false = search rules in
-    subst (λ (known : Option (Grammar Asked)). Reads (λ (asked : code.Asked). Some (asked_of asked)) c.from_residual.result (asked_if_known known (words_in c.args.words.now)))
+    subst (λ (known : Option (Grammar Asked)). Reads (λ (asked : code.Asked). Some (asked_of asked)) c.from_residual.result
+    (asked_if_known known (words_in c.args.words.now)))
     (sym (among_others c.args.hashing c.args.name.now no_join no_letter)) (search rules)
 
 pub returns-clause-reads : goal.returns-clause-reads

@@ -21,6 +21,9 @@ returns-in-owner c = row_read other_commands c.args.name.now (codes "owner") _ _
 pub returns-in-place : goal.returns-in-place
 returns-in-place c = row_read other_commands c.args.name.now (codes "place") _ _ _ (omega arith) (search rules) refl c.place.ensures
 
+pub returns-in-status : goal.returns-in-status
+returns-in-status c = row_read other_commands c.args.name.now (codes "status") _ _ _ (omega arith) (search rules) refl c.figures.ensures
+
 pub returns-in-show : goal.returns-in-show
 returns-in-show c = row_read other_commands c.args.name.now (codes "show") _ _ _ (omega arith) (search rules) refl c.show.ensures
 
@@ -29,4 +32,8 @@ returns-in-dump c = row_read other_commands c.args.name.now (codes "dump") _ _ _
 
 -- a `grind arith` for each row of `other_commands`: the name differs from it
 pub returns-in_default : goal.returns-in_default
-returns-in_default c = no_row other_commands c.args.name.now _ (grind arith, (grind arith, (grind arith, (grind arith, (grind arith, (grind arith, (grind arith, (grind arith, tt))))))))
+returns-in_default c =
+    no_row other_commands c.args.name.now _ (
+      grind arith,
+      (grind arith, (grind arith, (grind arith, (grind arith, (grind arith, (grind arith, (grind arith, (grind arith, tt)))))))),
+    )

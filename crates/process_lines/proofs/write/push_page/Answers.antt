@@ -11,7 +11,8 @@ returns-in_err-push_entries-clause-kept c = begins_with_the_first _ _ _ c.push_p
 pub returns-clause-written : goal.returns-clause-written
 returns-clause-written c =
     then_spaced _ _ _ _ _ c.in_ok-push_page_front.ensures.written
-    (c.in_ok-push_entries.ensures.written ∙ ap (λ entries. c.push_page_front.new.out.items ++ spaced (entries_words entries)) c.entries.ensures)
+    (c.in_ok-push_entries.ensures.written ∙ ap (λ entries. c.push_page_front.new.out.items ++ spaced (entries_words entries))
+    c.entries.ensures)
 
 pub returns-clause-kept : goal.returns-clause-kept
 returns-clause-kept c = begins_with_the_first _ _ _ c.push_page_front.ensures.kept c.push_entries.ensures.kept

@@ -11,7 +11,8 @@ returns-in_err-push_entries-clause-kept c = begins_with_the_first _ _ _ c.push_r
 
 pub returns-clause-written : goal.returns-clause-written
 returns-clause-written c =
-    then_spaced _ _ _ _ _ (c.in_ok-push_range.ensures.written ∙ ap (λ range. c.args.out.now.items ++ spaced (range_text range ∷ [])) c.range.ensures)
+    then_spaced _ _ _ _ _ (c.in_ok-push_range.ensures.written
+    ∙ ap (λ range. c.args.out.now.items ++ spaced (range_text range ∷ [])) c.range.ensures)
     (c.in_ok-push_entries.ensures.written ∙ ap (λ entries. c.push_range.new.out.items ++ spaced (entries_words entries)) c.entries.ensures)
 
 pub returns-clause-kept : goal.returns-clause-kept

@@ -15,7 +15,8 @@ publish_as-writer-requires g c next is =
     let pending : List EditionValue = drop c.args.writer.behind c.args.writer.log.items in
     let its : shown.edition ≡ c.args.edition = rw c.in-Ok.ensures.desk c.requires in
     let same : next ≡ shown = is ∙ shown_next shown all pending c.args.edition c.in-Ok.ensures.pending ∙ ap (λ (e : EditionValue). showing shown e) (sym its) in
-    subst (λ (y : ShownValue). TurnsAt Keeps desk.place.id (view desk.place) shown y Opens) (sym same) (opens_so desk.place.id (view desk.place) shown)
+    subst (λ (y : ShownValue). TurnsAt Keeps desk.place.id (view desk.place) shown y Opens) (sym same)
+    (opens_so desk.place.id (view desk.place) shown)
 
 pub returns-clause-same : goal.returns-clause-same
 returns-clause-same g c =
@@ -25,6 +26,7 @@ returns-clause-same g c =
     let pending : List EditionValue = drop c.args.writer.behind c.args.writer.log.items in
     let its : shown.edition ≡ c.args.edition = rw c.in-Ok.ensures.desk c.requires in
     let same : now.0.desk.shown.value ≡ shown =
-    shown_so now.1 shown now.0.desk.shown.value all pending c.args.edition _ _ (sym c.is_err.ensures.value ∙ c.if-is_err.false) c.in-Ok.ensures.pending c.publish_as-writer.ensures.values
+    shown_so now.1 shown now.0.desk.shown.value all pending c.args.edition _ _ (sym c.is_err.ensures.value ∙ c.if-is_err.false)
+    c.in-Ok.ensures.pending c.publish_as-writer.ensures.values
     ∙ ap (λ (e : EditionValue). showing shown e) (sym its) in
     rw (sym c.in-Ok.ensures.desk) same

@@ -15,4 +15,5 @@ publish_as-requires g c next is =
     let follows : FollowsOn shown (fold showing shown all) = rw (c.loop.invariant.0, c.loop.invariant.1) c.requires in
     let edition : EditionValue = edition_after shown.edition (fold showing shown all).edition.ring in
     let same : next ≡ showing shown edition = is ∙ follows in
-    subst (λ (y : ShownValue). TurnsAt Keeps desk.place.id (view desk.place) shown y Adds) (sym same) (adds desk.place.id (view desk.place) shown edition refl)
+    subst (λ (y : ShownValue). TurnsAt Keeps desk.place.id (view desk.place) shown y Adds) (sym same)
+    (adds desk.place.id (view desk.place) shown edition refl)

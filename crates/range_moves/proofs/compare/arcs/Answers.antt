@@ -23,13 +23,23 @@ pub loop-next-init : goal.loop-next-init
 loop-next-init c =
     let rings = are_rings c.args.old.now c.args.new.now c.whole.ensures c.whole-2.ensures in
     let e : nearer_place (place_ahead c.args.old.now.points) (place_ahead c.args.new.now.points) ≡ Some c.in-Some.first = cc in
-    rw (c.at-old.ensures.owner, c.at-new.ensures.owner, c.at-old.ensures.ahead, c.at-new.ensures.ahead, c.in_ok-arcs.ensures.items, c.before_first-old.ensures.ahead, c.before_first-new.ensures.ahead)
-    (underway_first c.args.old.now.points c.args.new.now.points rings c.in-Some.first c.before_first-old.result.owner c.before_first-new.result.owner c.before_first-old.ensures.owner c.before_first-new.ensures.owner e)
+    rw (
+      c.at-old.ensures.owner,
+      c.at-new.ensures.owner,
+      c.at-old.ensures.ahead,
+      c.at-new.ensures.ahead,
+      c.in_ok-arcs.ensures.items,
+      c.before_first-old.ensures.ahead,
+      c.before_first-new.ensures.ahead,
+    )
+    (underway_first c.args.old.now.points c.args.new.now.points rings c.in-Some.first c.before_first-old.result.owner
+    c.before_first-new.result.owner c.before_first-old.ensures.owner c.before_first-new.ensures.owner e)
 
 pub up_to-requires : goal.up_to-requires
 up_to-requires c =
     let rings = are_rings c.args.old.now c.args.new.now c.whole.ensures c.whole-2.ensures in
-    next_beyond _ _ rings _ _ _ _ _ _ _ c.loop-next.invariant c.in-Some-next_place.next (sym c.next_place-in-loop-next.ensures ∙ c.in-Some-next_place.is)
+    next_beyond _ _ rings _ _ _ _ _ _ _ c.loop-next.invariant c.in-Some-next_place.next
+    (sym c.next_place-in-loop-next.ensures ∙ c.in-Some-next_place.is)
 
 pub loop-next-smaller : goal.loop-next-smaller
 loop-next-smaller c =
@@ -40,7 +50,15 @@ pub loop-next-preserved : goal.loop-next-preserved
 loop-next-preserved c =
     let rings = are_rings c.args.old.now c.args.new.now c.whole.ensures c.whole-2.ensures in
     let e : nearer_place (place_ahead c.loop-next.old.ahead.now) (place_ahead c.loop-next.new.ahead.now) ≡ Some c.in-Some-next_place.next = sym c.next_place-in-loop-next.ensures ∙ c.in-Some-next_place.is in
-    rw (c.at-old-in-Some-next_place.ensures.owner, c.at-new-in-Some-next_place.ensures.owner, c.at-old-in-Some-next_place.ensures.ahead, c.at-new-in-Some-next_place.ensures.ahead, c.in_ok-push.ensures.items, c.arc.ensures, c.up_to.ensures)
+    rw (
+      c.at-old-in-Some-next_place.ensures.owner,
+      c.at-new-in-Some-next_place.ensures.owner,
+      c.at-old-in-Some-next_place.ensures.ahead,
+      c.at-new-in-Some-next_place.ensures.ahead,
+      c.in_ok-push.ensures.items,
+      c.arc.ensures,
+      c.up_to.ensures,
+    )
     (underway_next _ _ rings _ _ _ _ _ _ _ c.loop-next.invariant c.in-Some-next_place.next e)
 
 pub round_to-requires : goal.round_to-requires
@@ -55,4 +73,5 @@ returns-clause-exact c =
 pub returns-clause-whole : goal.returns-clause-whole
 returns-clause-whole c =
     let exact : c.push-2.new.self.items ≡ arcs_of c.args.old.now.points c.args.new.now.points = returns-clause-exact c in
-    subst (λ (arcs : List RingArc). AreArcs c.args.old.now.points c.args.new.now.points arcs) (sym exact) (arcs_whole c.args.old.now.points c.args.new.now.points c.whole.ensures.on_circle c.whole-2.ensures.on_circle)
+    subst (λ (arcs : List RingArc). AreArcs c.args.old.now.points c.args.new.now.points arcs) (sym exact)
+    (arcs_whole c.args.old.now.points c.args.new.now.points c.whole.ensures.on_circle c.whole-2.ensures.on_circle)

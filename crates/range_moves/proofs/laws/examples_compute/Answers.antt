@@ -5,4 +5,5 @@ use Rattle.range_moves.proofs.laws.examples_compute.Goals as goal
 
 pub returns : goal.returns
 unfolding cut_parts
-returns c = record { arcs_opposite = refl; moves_opposite = refl; moves_tied = refl; moves_first = refl; arcs_last = refl; moves_last = refl }
+returns c =
+    record { arcs_opposite = refl; moves_opposite = refl; moves_tied = refl; moves_first = refl; arcs_last = refl; moves_last = refl }

@@ -9,7 +9,8 @@ use Rattle.range_recovery.proofs.gather.gather_one.Goals as goal
 pub returns-clause-noted : goal.returns-clause-noted
 returns-clause-noted c =
     ap (λ l. without_grains l c.insert_new.new.self.entries)
-    (c.push.ensures.items ∙ ap (λ r. cond (is_ok r) (c.args.new.now.items ++ c.args.entry.now.grain ∷ []) c.args.new.now.items) c.unwrap.ensures)
+    (c.push.ensures.items ∙ ap (λ r. cond (is_ok r) (c.args.new.now.items ++ c.args.entry.now.grain ∷ []) c.args.new.now.items)
+    c.unwrap.ensures)
     ∙ without_grains-push c.args.new.now.items c.args.entry.now.grain c.insert_new.new.self.entries
     ∙ ap (λ t. without_grains c.args.new.now.items t)
     (ap (λ (v : TableValue). without_grain c.args.entry.now.grain v.entries) c.in_ok-is_new.ensures.put

@@ -11,4 +11,6 @@ returns-then-times-gt0 c =
     (grain_below c.args.hashing c.args.grain.now) (omega arith)
 
 pub returns : goal.returns
-returns c = ap (ltb c.args.times) (c.count_holding.ensures ∙ ap (covering c.args.cover.now) (c.from.ensures ∙ c.hash_grain-hash.ensures ∙ ap (hash_grain c.args.hashing) c.id.ensures))
+returns c =
+    ap (ltb c.args.times) (c.count_holding.ensures ∙ ap (covering c.args.cover.now)
+    (c.from.ensures ∙ c.hash_grain-hash.ensures ∙ ap (hash_grain c.args.hashing) c.id.ensures))

@@ -12,10 +12,12 @@ returns c =
     map_from_collect c.collect.result c.collect.ensures.ran
     (YieldsList-from_filter _ (λ (piece : DumpPiece). is_settled_state piece.state)
     (YieldsList-at c.filter-2.ensures.source
-    (YieldsList-from_flat_map _ _ _ (λ (piece : Bor DumpPiece). piece.now) (λ (node : Bor DumpNode). node.now.pieces) _ (λ x u q k. (search rules, λ j b. YieldsList-from_slice _ (search rules)))
+    (YieldsList-from_flat_map _ _ _ (λ (piece : Bor DumpPiece). piece.now) (λ (node : Bor DumpNode). node.now.pieces) _
+    (λ x u q k. (search rules, λ j b. YieldsList-from_slice _ (search rules)))
     (YieldsList-at c.flat_map.ensures.source
     (YieldsList-from_filter _ (λ (node : Bor DumpNode). node.now.seen == c.args.current)
-    (YieldsList-at c.filter.ensures.source (YieldsList-from_copied (YieldsList-at c.copied.ensures.source (YieldsList-from_slice c.args.nodes.now cc))))
+    (YieldsList-at c.filter.ensures.source (YieldsList-from_copied
+    (YieldsList-at c.copied.ensures.source (YieldsList-from_slice c.args.nodes.now cc))))
     c.filter.ensures.closure (λ x b q k. search (rules, tests))))
     c.flat_map.ensures.closure c.flat_map.ensures.front c.flat_map.ensures.back c.flat_map.ensures.done))
     c.filter-2.ensures.closure (λ x b q k. search (rules, tests)))

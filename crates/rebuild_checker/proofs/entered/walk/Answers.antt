@@ -27,12 +27,15 @@ returns-clause-missing c =
     ∙ (ap (λ (hs : List DumpHeld). map (λ (held : DumpHeld). held.grain) (filter (lacks c.dump.inside.hashing) hs)) c.requires.firm
     ∙ (ap (λ (dump : DumpValue). map (λ (held : DumpHeld). held.grain)
     (filter (lacks dump.hashing) (filter (λ (held : DumpHeld). is_firm_phase held.phase) (held_on c.args.nodes.now)))) c.dump.view_is
-    ∙ missing_told c.args.dump.now c.args.nodes.now (is_lacking c.args.dump.now.hashing c.in_ok-cover.cover c.args.entered.now) c.requires.live told))))
+    ∙ missing_told c.args.dump.now c.args.nodes.now (is_lacking c.args.dump.now.hashing c.in_ok-cover.cover c.args.entered.now)
+    c.requires.live told))))
     c.walk_along.ensures.missing
 
 pub returns-clause-passed : goal.returns-clause-passed
 returns-clause-passed c =
     IfOk-weaker c.walk_along.result _ _
-    (λ walked is. apart_of_more (λ (held : DumpHeld). is_firm_phase held.phase) (held_on c.args.nodes.now) walked.passed.items c.args.entered.now
-    (subst (λ (hs : List DumpHeld). named_apart_from (map entry_of_held hs) walked.passed.items ≡ named_apart_from (map entry_of_held hs) c.args.entered.now) c.requires.firm is))
+    (λ walked is. apart_of_more (λ (held : DumpHeld). is_firm_phase held.phase) (held_on c.args.nodes.now) walked.passed.items
+    c.args.entered.now
+    (subst (λ (hs : List DumpHeld). named_apart_from (map entry_of_held hs) walked.passed.items ≡ named_apart_from (map entry_of_held hs)
+    c.args.entered.now) c.requires.firm is))
     c.walk_along.ensures.passed

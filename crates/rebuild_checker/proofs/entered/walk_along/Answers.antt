@@ -36,15 +36,20 @@ loop-held-preserved c =
             ∙ (w.in_ok-push.ensures.items
             ∙ (ap (λ (grain : Grain). c.loop-held.missing.items ++ grain ∷ []) w.id.ensures
             ∙ (ap (λ (gs : List Grain). gs ++ c.held.inside.now.grain ∷ []) c.loop-held.invariant.0
-            ∙ (ap (λ (b : Bor DumpHeld). map grain_of (filter lacks (take c.loop-held.held-index c.args.activations.now)) ++ b.now.grain ∷ []) c.held.view_is
-            ∙ sym (kept_more grain_of lacks c.args.activations.now c.loop-held.held-index held c.loop-held-test.true c.held-item.is (sym told ∙ w.if-is_lacking.true))))))
+            ∙ (ap (λ (b : Bor DumpHeld). map grain_of (filter lacks (take c.loop-held.held-index c.args.activations.now)) ++ b.now.grain ∷
+            []) c.held.view_is
+            ∙ sym (kept_more grain_of lacks c.args.activations.now c.loop-held.held-index held c.loop-held-test.true c.held-item.is
+            (sym told ∙ w.if-is_lacking.true))))))
         | else-is_lacking w ↦ ap (λ v. v.items) w.missing-is
             ∙ (c.loop-held.invariant.0
-            ∙ sym (left_more grain_of lacks c.args.activations.now c.loop-held.held-index held c.loop-held-test.true c.held-item.is (sym told ∙ w.if-is_lacking.false)))
+            ∙ sym (left_more grain_of lacks c.args.activations.now c.loop-held.held-index held c.loop-held-test.true c.held-item.is
+            (sym told ∙ w.if-is_lacking.false)))
       ],
-      passed_more c.args.activations.now c.loop-held.held-index held c.loop-held-test.true c.held-item.is c.args.entered.now one c.requires.entered
+      passed_more c.args.activations.now c.loop-held.held-index held c.loop-held-test.true c.held-item.is c.args.entered.now one
+          c.requires.entered
           (ap (λ (b : Bor DumpHeld). entry_of_held b.now) c.held.view_is)
-          c.loop-held.done c.places_of-from.result.0 c.places_of-from.result.1 c.max-done.result c.places_of-from.ensures.from c.places_of-from.ensures.to
+          c.loop-held.done c.places_of-from.result.0 c.places_of-from.result.1 c.max-done.result c.places_of-from.ensures.from
+          c.places_of-from.ensures.to
           (parted_bound one c.args.entered.now _ _ c.places_of-from.ensures.from c.places_of-from.ensures.to)
           (omega (arith, furthest)) (omega (arith, furthest)) (λ more. omega (arith, furthest, more))
           c.loop-held.passed.items c.pass.new.passed.items c.loop-held.invariant.1 c.in_ok-pass.ensures,
@@ -53,10 +58,12 @@ loop-held-preserved c =
 pub returns-clause-missing : goal.returns-clause-missing
 returns-clause-missing c =
     c.loop-held.invariant.0
-    ∙ ap (λ (hs : List (Bor DumpHeld)). map (λ (one : Bor DumpHeld). one.now.grain) (filter (λ (one : Bor DumpHeld). is_lacking c.args.hashing c.args.cover.now c.args.entered.now (entry_of_held one.now)) hs))
+    ∙ ap (λ (hs : List (Bor DumpHeld)). map (λ (one : Bor DumpHeld). one.now.grain)
+    (filter (λ (one : Bor DumpHeld). is_lacking c.args.hashing c.args.cover.now c.args.entered.now (entry_of_held one.now)) hs))
     (take_all c.loop-held.held-index c.args.activations.now (omega arith))
 
 pub returns-clause-passed : goal.returns-clause-passed
 returns-clause-passed c =
-    passed_all (map entry_of_held (held_lent c.args.activations.now)) c.args.entered.now c.loop-held.done c.loop-held.passed.items c.pass-2.new.passed.items
+    passed_all (map entry_of_held (held_lent c.args.activations.now)) c.args.entered.now c.loop-held.done c.loop-held.passed.items
+    c.pass-2.new.passed.items
     c.loop-held.invariant.1 c.in_ok-pass-2.ensures

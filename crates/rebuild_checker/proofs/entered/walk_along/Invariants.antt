@@ -7,6 +7,8 @@ use Rattle.rebuild_checker.proofs.entered.walk_along.Given as goal
 
 abbrev pub invariant-loop-held : goal.invariant-loop-held
 invariant-loop-held l =
-    (l.missing.items ≡ map (λ one. one.now.grain) (filter (λ one. is_lacking l.hashing l.cover l.entered (entry_of_held one.now)) (take l.held-index l.activations)))
-    × (named_apart_from (map entry_of_held (held_lent l.activations)) l.passed.items ++ named_apart_from (map entry_of_held (held_lent l.activations)) (drop l.done l.entered)
+    (l.missing.items ≡ map (λ one. one.now.grain) (filter (λ one. is_lacking l.hashing l.cover l.entered (entry_of_held one.now))
+    (take l.held-index l.activations)))
+    × (named_apart_from (map entry_of_held (held_lent l.activations)) l.passed.items ++ named_apart_from
+    (map entry_of_held (held_lent l.activations)) (drop l.done l.entered)
     ≡ named_apart_from (map entry_of_held (held_lent l.activations)) l.entered)

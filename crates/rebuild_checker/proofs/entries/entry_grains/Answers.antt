@@ -12,11 +12,13 @@ use Rattle.rebuild_checker.proofs.entries.entry_grains.Goals as goal
 
 pub returns : goal.returns
 returns c =
-    subst (λ (node : DumpNode). IfOk c.collect.result (λ grains. grains_lent grains.items ≡ map (λ (entry : Entry). entry.grain) (node_entries node))) c.node.view_is
+    subst (λ (node : DumpNode). IfOk c.collect.result
+    (λ grains. grains_lent grains.items ≡ map (λ (entry : Entry). entry.grain) (node_entries node))) c.node.view_is
     (map_from_collect c.collect.result c.collect.ensures.ran
     (YieldsList-from_map_by _ (λ (grain : Bor Grain). grain.now) (λ (entry : Entry). entry.grain)
     (YieldsList-at c.map.ensures.source
-    (YieldsList-from_flat_map _ _ _ (λ (entry : Bor Entry). entry.now) (λ (piece : DumpPiece). piece.entries) _ (λ x u q k. (search rules, λ j b. YieldsList-from_slice _ (search rules)))
+    (YieldsList-from_flat_map _ _ _ (λ (entry : Bor Entry). entry.now) (λ (piece : DumpPiece). piece.entries) _
+    (λ x u q k. (search rules, λ j b. YieldsList-from_slice _ (search rules)))
     (YieldsList-at c.flat_map.ensures.source (YieldsList-from_slice c.node.inside.pieces.items cc))
     c.flat_map.ensures.closure c.flat_map.ensures.front c.flat_map.ensures.back c.flat_map.ensures.done))
     c.map.ensures.closure (λ x r q k. search rules)))

@@ -8,4 +8,5 @@ use Rattle.rebuild_checker.proofs.entries.has_one_entry_a_grain.Goals as goal
 pub returns : goal.returns
 returns c =
     c.in_ok-once.ensures
-    ∙ (ap (are_distinct_by grain_eq) (ap grains_lent c.deref.ensures.value ∙ c.in_ok-grains.ensures) ∙ sym (same_test (grains_in c.args.node.now.pieces)))
+    ∙ (ap (are_distinct_by grain_eq) (ap grains_lent c.deref.ensures.value ∙ c.in_ok-grains.ensures)
+    ∙ sym (same_test (grains_in c.args.node.now.pieces)))

@@ -13,6 +13,8 @@ returns c =
     let told = items_from_extend c.extend.result c.extend.ensures.ran
     (YieldsList-from_map _ (λ (held : DumpHeld). held.grain)
     (YieldsList-at c.map.ensures.source (YieldsList-from_filter _ (λ (held : DumpHeld). is_firm_phase held.phase)
-    (YieldsList-at c.filter.ensures.source (YieldsList-from_slice c.node.inside.held.items cc)) c.filter.ensures.closure (λ x b q k. search (rules, tests))))
+    (YieldsList-at c.filter.ensures.source (YieldsList-from_slice c.node.inside.held.items cc)) c.filter.ensures.closure
+    (λ x b q k. search (rules, tests))))
     c.map.ensures.closure (λ x r q k. search rules)) in
-    subst (λ (node : DumpNode). OnOk c.extend.result (InsertsAll grain_cmp c.args.grains.now (firm_grains node) c.extend.new.self)) c.node.view_is told
+    subst (λ (node : DumpNode). OnOk c.extend.result (InsertsAll grain_cmp c.args.grains.now (firm_grains node) c.extend.new.self))
+    c.node.view_is told

@@ -9,4 +9,5 @@ use Rattle.rebuild_checker.proofs.firm.held_grains.Goals as goal
 pub returns : goal.returns
 returns c =
     map_from_collect c.collect.result c.collect.ensures.ran
-    (YieldsList-from_map_by _ (λ (grain : Bor Grain). grain.now) (λ (one : Bor DumpHeld). one.now.grain) (YieldsList-from_copied (YieldsList-from_slice c.args.held.now cc)) c.map.ensures.closure (λ x r q k. search rules))
+    (YieldsList-from_map_by _ (λ (grain : Bor Grain). grain.now) (λ (one : Bor DumpHeld). one.now.grain)
+    (YieldsList-from_copied (YieldsList-from_slice c.args.held.now cc)) c.map.ensures.closure (λ x r q k. search rules))

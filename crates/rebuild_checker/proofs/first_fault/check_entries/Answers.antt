@@ -12,8 +12,10 @@ returns-in-Some-2 c =
     ap least_grain (sym (c.deref-4.ensures.value ∙ c.in_ok-walked.ensures.missing)) ∙ (sym c.least_of.ensures ∙ c.in_default.is) in
     let strange : c.in_ok-grain.field-0 ≡ least_grain (map (λ (entry : Entry). entry.grain) (strangers c.args.dump.now)) =
     c.in_ok-grain.ensures
-    ∙ (ap (λ (names : List Named). least_grain (map (λ (one : Named). one.1.now) (named_apart_from (map entry_of_held (held_on c.args.nodes.now)) names))) c.deref-5.ensures.value
-    ∙ least_strange c.args.dump.now c.in_ok-walked.walked.passed.items c.in_ok-entered.entered.items c.args.nodes.now c.deref.result.now c.requires.live
+    ∙ (ap (λ (names : List Named). least_grain (map (λ (one : Named). one.1.now)
+    (named_apart_from (map entry_of_held (held_on c.args.nodes.now)) names))) c.deref-5.ensures.value
+    ∙ least_strange c.args.dump.now c.in_ok-walked.walked.passed.items c.in_ok-entered.entered.items c.args.nodes.now c.deref.result.now
+    c.requires.live
     (ap pieces_lent c.deref.ensures.value ∙ c.in_ok-pieces.ensures) c.in_ok-entered.ensures
     (c.in_ok-walked.ensures.passed ∙ ap (named_apart_from (map entry_of_held (held_on c.args.nodes.now))) c.deref-3.ensures.value)) in
     search rules
@@ -24,8 +26,10 @@ returns c =
     ap least_grain (sym (c.deref-4.ensures.value ∙ c.in_ok-walked.ensures.missing)) ∙ (sym c.least_of.ensures ∙ c.in_default.is) in
     let strange : c.in_ok-grain.field-0 ≡ least_grain (map (λ (entry : Entry). entry.grain) (strangers c.args.dump.now)) =
     c.in_ok-grain.ensures
-    ∙ (ap (λ (names : List Named). least_grain (map (λ (one : Named). one.1.now) (named_apart_from (map entry_of_held (held_on c.args.nodes.now)) names))) c.deref-5.ensures.value
-    ∙ least_strange c.args.dump.now c.in_ok-walked.walked.passed.items c.in_ok-entered.entered.items c.args.nodes.now c.deref.result.now c.requires.live
+    ∙ (ap (λ (names : List Named). least_grain (map (λ (one : Named). one.1.now)
+    (named_apart_from (map entry_of_held (held_on c.args.nodes.now)) names))) c.deref-5.ensures.value
+    ∙ least_strange c.args.dump.now c.in_ok-walked.walked.passed.items c.in_ok-entered.entered.items c.args.nodes.now c.deref.result.now
+    c.requires.live
     (ap pieces_lent c.deref.ensures.value ∙ c.in_ok-pieces.ensures) c.in_ok-entered.ensures
     (c.in_ok-walked.ensures.passed ∙ ap (named_apart_from (map entry_of_held (held_on c.args.nodes.now))) c.deref-3.ensures.value)) in
     search rules

@@ -10,6 +10,8 @@ use Rattle.rebuild_checker.proofs.index.entries_of.Goals as goal
 pub returns : goal.returns
 returns c =
     map_from_collect c.collect.result c.collect.ensures.ran
-    (YieldsList-from_flat_map _ _ _ (λ (entry : Bor Entry). entry.now) (λ (piece : Bor DumpPiece). piece.now.entries) _ (λ x u q k. (search rules, λ j b. YieldsList-from_slice _ (search rules)))
-    (YieldsList-at c.flat_map.ensures.source (YieldsList-from_copied (YieldsList-at c.copied.ensures.source (YieldsList-from_slice c.args.pieces.now cc))))
+    (YieldsList-from_flat_map _ _ _ (λ (entry : Bor Entry). entry.now) (λ (piece : Bor DumpPiece). piece.now.entries) _
+    (λ x u q k. (search rules, λ j b. YieldsList-from_slice _ (search rules)))
+    (YieldsList-at c.flat_map.ensures.source (YieldsList-from_copied
+    (YieldsList-at c.copied.ensures.source (YieldsList-from_slice c.args.pieces.now cc))))
     c.flat_map.ensures.closure c.flat_map.ensures.front c.flat_map.ensures.back c.flat_map.ensures.done)

@@ -9,4 +9,5 @@ use Rattle.rebuild_checker.proofs.index.named_by_entries.Goals as goal
 pub returns : goal.returns
 returns c =
     map_from_collect c.collect.result c.collect.ensures.ran
-    (YieldsList-from_map_by _ entry_named (λ (one : Bor Entry). one.now) (YieldsList-from_copied (YieldsList-from_slice c.args.entries.now cc)) c.map.ensures.closure (λ x r q k. search rules))
+    (YieldsList-from_map_by _ entry_named (λ (one : Bor Entry). one.now)
+    (YieldsList-from_copied (YieldsList-from_slice c.args.entries.now cc)) c.map.ensures.closure (λ x r q k. search rules))

@@ -12,6 +12,8 @@ use Rattle.rebuild_checker.proofs.index.named_by_held.Goals as goal
 
 pub returns : goal.returns
 returns c =
-    subst (λ (entries : List Entry). IfOk c.collect.result (λ names. entries_named names.items ≡ entries)) (sym (map-map entry_of_held (λ (one : Bor DumpHeld). one.now) c.args.held.now))
+    subst (λ (entries : List Entry). IfOk c.collect.result (λ names. entries_named names.items ≡ entries))
+    (sym (map-map entry_of_held (λ (one : Bor DumpHeld). one.now) c.args.held.now))
     (map_from_collect c.collect.result c.collect.ensures.ran
-    (YieldsList-from_map_by _ entry_named (λ (one : Bor DumpHeld). entry_of_held one.now) (YieldsList-from_copied (YieldsList-from_slice c.args.held.now cc)) c.map.ensures.closure (λ x r q k. search rules)))
+    (YieldsList-from_map_by _ entry_named (λ (one : Bor DumpHeld). entry_of_held one.now)
+    (YieldsList-from_copied (YieldsList-from_slice c.args.held.now cc)) c.map.ensures.closure (λ x r q k. search rules)))

@@ -19,6 +19,7 @@ returns-then-is_gt-clause-up_to c tested =
     let here : c.args.index ≡ (c.args.index + 1) - 1 = omega arith in
     ends_between c.args.one.now c.args.names.now (c.args.index + 1) c.requires past within
     c.index-names-index-then-is_gt.result c.index-names-index-2.result
-    (c.index-names-index-then-is_gt.is ∙ ap (λ (k : ℕ). get_or c.args.names.now k c.index-names-index-then-is_gt.result) here) c.index-names-index-2.is
+    (c.index-names-index-then-is_gt.is ∙ ap (λ (k : ℕ). get_or c.args.names.now k c.index-names-index-then-is_gt.result) here)
+    c.index-names-index-2.is
     (equal_is_le _ (ap is_eq (sym c.cmp.ensures) ∙ (sym c.is_eq.ensures ∙ tested)))
     (ap is_gt (sym c.cmp-behind.ensures) ∙ (sym c.is_gt.ensures ∙ c.if-is_gt.true))

@@ -10,5 +10,6 @@ pub returns : goal.returns
 returns c =
     let one : Named = c.args.one.now in
     count_split (λ (other : Named). is_lt (named_cmp other one)) c.args.names.now c.partition_point.result c.partition_point.ensures.bound
-    (IsPartitionPoint-from_clause (λ (other : Named). is_lt (named_cmp other one)) c.args.names.now c.partition_point.result c.partition_point.ensures.partitioned
+    (IsPartitionPoint-from_clause (λ (other : Named). is_lt (named_cmp other one)) c.args.names.now c.partition_point.result
+    c.partition_point.ensures.partitioned
     (parted_lt one c.args.names.now c.requires) (search rules))

@@ -12,4 +12,5 @@ returns c =
     let is_live : DumpNode → Bool = λ node. not (is_dead_in (dump_view c.args.dump.now c.args.dump.now.current) node.silo) in
     subst (λ (dump : DumpValue). IfOk c.collect.result (λ nodes. nodes_lent nodes.items ≡ filter is_live dump.nodes)) c.dump.view_is
     (map_from_collect c.collect.result c.collect.ensures.ran
-    (YieldsList-from_filter _ is_live (YieldsList-at c.filter.ensures.source (YieldsList-from_slice c.dump.inside.nodes.items cc)) c.filter.ensures.closure (λ x b q k. search (rules, tests))))
+    (YieldsList-from_filter _ is_live (YieldsList-at c.filter.ensures.source (YieldsList-from_slice c.dump.inside.nodes.items cc))
+    c.filter.ensures.closure (λ x b q k. search (rules, tests))))

@@ -9,5 +9,6 @@ returns-then-past-gt0-clause-found c =
 
 pub returns-clause-found : goal.returns-clause-found
 returns-clause-found c =
-    last_if_some c.args.ring.now c.args.hash c.up_to-past.result c.checked_sub.result c.requires.in_order c.up_to-past.ensures.split c.if-past-gt0.false
+    last_if_some c.args.ring.now c.args.hash c.up_to-past.result c.checked_sub.result c.requires.in_order c.up_to-past.ensures.split
+    c.if-past-gt0.false
     c.checked_sub.ensures

@@ -8,11 +8,13 @@ use Rattle.rebuild_checker.proofs.ranges.has_its_ranges.Goals as goal
 
 pub returns-then-not-is_right_at_points : goal.returns-then-not-is_right_at_points
 returns-then-not-is_right_at_points c =
-    sym (all_turns c.args.node.now ∙ ap (λ b. b && list_all (λ (p : DumpPiece). is_right_at_bounds c.args.node.now p.range) c.args.node.now.pieces)
+    sym (all_turns c.args.node.now ∙ ap (λ b. b && list_all (λ (p : DumpPiece). is_right_at_bounds c.args.node.now p.range)
+    c.args.node.now.pieces)
     (sym c.is_right_at_points.ensures ∙ c.if-not-is_right_at_points.true))
 
 pub returns : goal.returns
 returns c =
     c.is_right_at_pieces.ensures
-    ∙ sym (all_turns c.args.node.now ∙ ap (λ b. b && list_all (λ (p : DumpPiece). is_right_at_bounds c.args.node.now p.range) c.args.node.now.pieces)
+    ∙ sym (all_turns c.args.node.now ∙ ap (λ b. b && list_all (λ (p : DumpPiece). is_right_at_bounds c.args.node.now p.range)
+    c.args.node.now.pieces)
     (sym c.is_right_at_points.ensures ∙ c.if-not-is_right_at_points.false))

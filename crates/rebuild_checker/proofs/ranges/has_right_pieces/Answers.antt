@@ -12,4 +12,5 @@ returns-then-have_rising_entries c =
     let its : has_its_ranges node ≡ true = sym c.has_its_ranges.ensures ∙ c.if-not-has_its_ranges.false in
     let inside : list_all (has_entries_inside dump) node.pieces ≡ true = sym c.have_entries_inside.ensures ∙ c.if-not-have_entries_inside.false in
     let one = one_a_grain dump node c.in_ok-cover.cover c.in_ok-cover.ensures (c.is_apart.ensures c.if-is_apart.true) inside (c.have_rising_entries.ensures c.if-have_rising_entries.true) in
-    sym (ap (λ b. b && list_all (has_entries_inside dump) node.pieces && has_one_entry_a_grain node) its ∙ (ap (λ b. b && has_one_entry_a_grain node) inside ∙ one))
+    sym (ap (λ b. b && list_all (has_entries_inside dump) node.pieces && has_one_entry_a_grain node) its
+    ∙ (ap (λ b. b && has_one_entry_a_grain node) inside ∙ one))

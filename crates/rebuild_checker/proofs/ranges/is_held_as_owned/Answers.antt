@@ -11,7 +11,8 @@ count_holding-held-requires-clause-cover c = (ranges_of c.args.node.now, c.requi
 
 pub returns : goal.returns
 returns c =
-    held_told c.args.node.now c.args.cover.now c.args.hash c.requires.cover c.requires.hash c.count_holding-held.result c.from.result c.count_holding-held.ensures
+    held_told c.args.node.now c.args.cover.now c.args.hash c.requires.cover c.requires.hash c.count_holding-held.result c.from.result
+    c.count_holding-held.ensures
     (owned_told c.owns.result _ c.from.result c.from.ensures
     (c.owns.ensures ∙ ap (λ (l : List Point). owns l c.node.inside.silo c.args.hash) c.deref.ensures.value
     ∙ ap (λ (n : DumpNode). owns n.ring n.silo c.args.hash) c.node.view_is))

@@ -11,4 +11,6 @@ cover_of-requires c =
     (All-map IsRange (λ (piece : DumpPiece). piece.range) c.args.node.now.pieces c.requires.hashes.ranges)
 
 pub returns : goal.returns
-returns c = subst (λ (ranges : List Range). IfOk c.cover_of.result (λ cover. IsCover ranges cover)) (c.deref.ensures.value ∙ c.in_ok-ranges.ensures) c.cover_of.ensures
+returns c =
+    subst (λ (ranges : List Range). IfOk c.cover_of.result (λ cover. IsCover ranges cover)) (c.deref.ensures.value ∙ c.in_ok-ranges.ensures)
+    c.cover_of.ensures

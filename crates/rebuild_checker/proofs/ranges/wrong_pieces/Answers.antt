@@ -9,12 +9,14 @@ use Rattle.rebuild_checker.proofs.ranges.wrong_pieces.Goals as goal
 
 pub has_right_pieces-requires : goal.has_right_pieces-requires
 has_right_pieces-requires c =
-    is_ready c.args.dump.now c.requires.dump c.requires.rings c.args.nodes.now c.requires.live c.loop-node.node-index c.node-item.result c.loop-node-test.true c.node-item.is
+    is_ready c.args.dump.now c.requires.dump c.requires.rings c.args.nodes.now c.requires.live c.loop-node.node-index c.node-item.result
+    c.loop-node-test.true c.node-item.is
 
 pub returns-then-not-branch : goal.returns-then-not-branch
 returns-then-not-branch c =
     ap (λ (b : Bor DumpNode). Some b.now.silo) c.node.view_is
-    ∙ fails_here (has_right_pieces c.args.dump.now) c.args.nodes.now c.loop-node.node-index c.node-item.result c.loop-node-test.true c.node-item.is
+    ∙ fails_here (has_right_pieces c.args.dump.now) c.args.nodes.now c.loop-node.node-index c.node-item.result c.loop-node-test.true
+    c.node-item.is
     c.loop-node.invariant (sym c.in_ok-has_right_pieces.ensures ∙ c.if-not-branch.true)
     ∙ ap (first_failing (has_right_pieces c.args.dump.now)) c.requires.live
 

@@ -13,21 +13,27 @@ returns-then-ne c =
     let dump : DumpValue = c.args.dump.now in
     let node : Bor DumpNode = c.node-item.result in
     let fails =
-    ring_told dump _ node.now (ap (λ (b : Bor DumpNode). b.now) c.node.view_is) _ _ c.in_ok-ring-2.ensures.version c.in_ok-ring-2.ensures.ring c.ne.result c.ne.ensures ∙ ap not c.if-ne.true in
+    ring_told dump _ node.now (ap (λ (b : Bor DumpNode). b.now) c.node.view_is) _ _ c.in_ok-ring-2.ensures.version
+    c.in_ok-ring-2.ensures.ring c.ne.result c.ne.ensures ∙ ap not c.if-ne.true in
     ap (λ (b : Bor DumpNode). Some b.now.silo) c.node.view_is
-    ∙ fails_here (has_its_ring dump) c.args.nodes.now c.loop-node.node-index node c.loop-node-test.true c.node-item.is c.loop-node.invariant.passed fails
+    ∙ fails_here (has_its_ring dump) c.args.nodes.now c.loop-node.node-index node c.loop-node-test.true c.node-item.is
+    c.loop-node.invariant.passed fails
 
 pub loop-node-preserved : goal.loop-node-preserved
 loop-node-preserved c =
     let dump : DumpValue = c.args.dump.now in
     let node : Bor DumpNode = c.node-item.result in
     let right =
-    ring_told dump _ node.now (ap (λ (b : Bor DumpNode). b.now) c.node.view_is) _ _ c.in_ok-ring-2.ensures.version c.in_ok-ring-2.ensures.ring c.ne.result c.ne.ensures ∙ ap not c.if-ne.false in
+    ring_told dump _ node.now (ap (λ (b : Bor DumpNode). b.now) c.node.view_is) _ _ c.in_ok-ring-2.ensures.version
+    c.in_ok-ring-2.ensures.ring c.ne.result c.ne.ensures ∙ ap not c.if-ne.false in
     record {
-      passed = passes_more (λ (n : Bor DumpNode). has_its_ring dump n.now) c.args.nodes.now c.loop-node.node-index node c.loop-node-test.true c.node-item.is
+      passed =
+          passes_more (λ (n : Bor DumpNode). has_its_ring dump n.now) c.args.nodes.now c.loop-node.node-index node c.loop-node-test.true
+          c.node-item.is
           c.loop-node.invariant.passed right;
       ring = c.in_ok-ring-2.ensures.ring;
     }
 
 pub returns : goal.returns
-returns c = none_fails (has_its_ring c.args.dump.now) c.args.nodes.now c.loop-node.node-index c.loop-node-test.false c.loop-node.invariant.passed
+returns c =
+    none_fails (has_its_ring c.args.dump.now) c.args.nodes.now c.loop-node.node-index c.loop-node-test.false c.loop-node.invariant.passed

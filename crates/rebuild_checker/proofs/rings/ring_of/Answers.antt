@@ -10,5 +10,6 @@ use Rattle.rebuild_checker.proofs.rings.ring_of.Goals as goal
 pub returns-clause-ring : goal.returns-clause-ring
 returns-clause-ring c =
     c.loop-point.invariant
-    ∙ ap (filter (λ (p : Point). is_active_in (dump_view c.args.dump.now c.args.version) p.silo)) (take_all c.loop-point.point-index c.args.points.now c.loop-point-test.false ∙ c.requires.points)
+    ∙ ap (filter (λ (p : Point). is_active_in (dump_view c.args.dump.now c.args.version) p.silo))
+    (take_all c.loop-point.point-index c.args.points.now c.loop-point-test.false ∙ c.requires.points)
     ∙ ring_left c.args.dump.now c.requires.dump c.args.version

@@ -11,4 +11,5 @@ pub returns-then-branch : goal.returns-then-branch
 returns-then-branch c =
     sym (ap least_grain (none_twice (nodes_lent c.args.nodes.now)
     (ap (are_distinct_by grain_eq) (sym (ap grains_lent c.deref.ensures.value
-    ∙ firm_listed c.args.nodes.now c.args.firm.now _ c.in_ok-grains.ensures c.requires)) ∙ (sym c.in_ok-are_distinct_grains.ensures ∙ c.if-branch.true))))
+    ∙ firm_listed c.args.nodes.now c.args.firm.now _ c.in_ok-grains.ensures c.requires))
+    ∙ (sym c.in_ok-are_distinct_grains.ensures ∙ c.if-branch.true))))

@@ -6,7 +6,8 @@ use Rattle.ring_range.proofs.text.read.Goals as goal
 
 pub returns-then-not-are_numerals : goal.returns-then-not-are_numerals
 returns-then-not-are_numerals c =
-    sym (read_range-words c.args.text.now _ c.first_position-plus.ensures.first c.if-plus-eq0.false c.if-plus-text.false ∙ rw (sym c.are_numerals.ensures.exact, c.if-not-are_numerals.true) refl)
+    sym (read_range-words c.args.text.now _ c.first_position-plus.ensures.first c.if-plus-eq0.false c.if-plus-text.false
+    ∙ rw (sym c.are_numerals.ensures.exact, c.if-not-are_numerals.true) refl)
 
 pub value_up_to-requires : goal.value_up_to-requires
 value_up_to-requires c = (c.are_numerals.ensures.numerals.0 c.if-not-are_numerals.false).0

@@ -11,7 +11,8 @@ returns-in_err-push_named-2-clause-kept c = begins_with_the_first _ _ _ c.push_n
 pub returns-clause-written : goal.returns-clause-written
 returns-clause-written c =
     then_spaced _ _ _ _ _ c.in_ok-push_named.ensures.written
-    (c.in_ok-push_named-2.ensures.written ∙ ap (λ fault. c.push_named.new.out.items ++ spaced (codes "fault" ∷ decimal fault ∷ [])) c.from.ensures)
+    (c.in_ok-push_named-2.ensures.written ∙ ap (λ fault. c.push_named.new.out.items ++ spaced (codes "fault" ∷ decimal fault ∷ []))
+    c.from.ensures)
 
 pub returns-clause-kept : goal.returns-clause-kept
 returns-clause-kept c = begins_with_the_first _ _ _ c.push_named.ensures.kept c.push_named-2.ensures.kept

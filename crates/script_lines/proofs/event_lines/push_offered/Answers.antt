@@ -6,7 +6,8 @@ pub returns-in_err-push_word-clause-kept : goal.returns-in_err-push_word-clause-
 returns-in_err-push_word-clause-kept c = begins_with_the_first _ _ _ c.push_entry.ensures.kept c.push_word.ensures.kept
 
 pub returns-in_err-push_silo-clause-kept : goal.returns-in_err-push_silo-clause-kept
-returns-in_err-push_silo-clause-kept c = begins_with_the_first _ _ _ (begins_with_the_first _ _ _ c.push_entry.ensures.kept c.push_word.ensures.kept) c.push_silo.ensures.kept
+returns-in_err-push_silo-clause-kept c =
+    begins_with_the_first _ _ _ (begins_with_the_first _ _ _ c.push_entry.ensures.kept c.push_word.ensures.kept) c.push_silo.ensures.kept
 
 pub returns-clause-written : goal.returns-clause-written
 returns-clause-written c =
@@ -15,4 +16,5 @@ returns-clause-written c =
     c.in_ok-push_silo.ensures.written)
 
 pub returns-clause-kept : goal.returns-clause-kept
-returns-clause-kept c = begins_with_the_first _ _ _ (begins_with_the_first _ _ _ c.push_entry.ensures.kept c.push_word.ensures.kept) c.push_silo.ensures.kept
+returns-clause-kept c =
+    begins_with_the_first _ _ _ (begins_with_the_first _ _ _ c.push_entry.ensures.kept c.push_word.ensures.kept) c.push_silo.ensures.kept

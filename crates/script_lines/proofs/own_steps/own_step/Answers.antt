@@ -9,6 +9,9 @@ returns-in-wake c = row_read own_steps c.args.name.now (codes "wake") _ _ _ (ome
 pub returns-in-close : goal.returns-in-close
 returns-in-close c = row_read own_steps c.args.name.now (codes "close") _ _ _ (omega arith) (search rules) refl c.close.ensures
 
+pub returns-in-cancel : goal.returns-in-cancel
+returns-in-cancel c = row_read own_steps c.args.name.now (codes "cancel") _ _ _ (omega arith) (search rules) refl c.cancel.ensures
+
 pub returns-in-find : goal.returns-in-find
 returns-in-find c = row_read own_steps c.args.name.now (codes "find") _ _ _ (omega arith) (search rules) refl c.find.ensures
 
@@ -23,4 +26,8 @@ returns-in-offer c = row_read own_steps c.args.name.now (codes "offer") _ _ _ (o
 
 -- a `grind arith` for each row of `own_steps`: the name differs from it
 pub returns-in_default : goal.returns-in_default
-returns-in_default c = no_row own_steps c.args.name.now _ (grind arith, (grind arith, (grind arith, (grind arith, (grind arith, (grind arith, tt))))))
+returns-in_default c =
+    no_row own_steps c.args.name.now _ (
+      grind arith,
+      (grind arith, (grind arith, (grind arith, (grind arith, (grind arith, (grind arith, tt)))))),
+    )

@@ -17,4 +17,5 @@ returns-then-is_err-clause-memory c memory =
     let behind = places_in (words_in c.in-Some.behind.now) in
     let whole = c.loop-word.invariant ∙ places_more before (words_in c.loop-word.rest.now) c.in-Some.word.now (words_in c.in-Some.behind.now) place c.in-Some.ensures.words c.in_ok-place.ensures in
     let out : c.without_memory.result ≡ OutOfMemory = cc memory in
-    subst HasPlaces (sym whole) (has_places before place behind (subst (λ (error : ReadError). Fails error behind) out c.without_memory.ensures))
+    subst HasPlaces (sym whole) (has_places before place behind
+    (subst (λ (error : ReadError). Fails error behind) out c.without_memory.ensures))

@@ -7,5 +7,6 @@ pub loop-word-preserved : goal.loop-word-preserved
 loop-word-preserved c =
     let before = c.loop-word.invariant.0 in (
       before ++ c.in_default-hash_word.field-0 ∷ [],
-      c.loop-word.invariant.1 ∙ places_more before (words_in c.loop-word.rest.now) c.in-Some.word.now (words_in c.in-Some.behind.now) c.in_default-hash_word.field-0 c.in-Some.ensures.words c.in_default-hash_word.ensures,
+      c.loop-word.invariant.1 ∙ places_more before (words_in c.loop-word.rest.now) c.in-Some.word.now (words_in c.in-Some.behind.now)
+          c.in_default-hash_word.field-0 c.in-Some.ensures.words c.in_default-hash_word.ensures,
     )

@@ -10,7 +10,8 @@ returns-in_err-push_point-clause-kept c = begins_with_the_first _ _ _ c.push_nam
 
 pub returns-clause-written : goal.returns-clause-written
 returns-clause-written c =
-    then_spaced _ _ _ _ _ (c.in_ok-push_named.ensures.written ∙ ap (λ hash. c.args.out.now.items ++ spaced (codes "owner" ∷ decimal hash ∷ [])) c.from.ensures)
+    then_spaced _ _ _ _ _ (c.in_ok-push_named.ensures.written
+    ∙ ap (λ hash. c.args.out.now.items ++ spaced (codes "owner" ∷ decimal hash ∷ [])) c.from.ensures)
     c.in_ok-push_point.ensures.written
 
 pub returns-clause-kept : goal.returns-clause-kept

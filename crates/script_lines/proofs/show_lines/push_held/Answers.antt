@@ -8,10 +8,15 @@ pub returns-in_err-push_activation-clause-kept : goal.returns-in_err-push_activa
 returns-in_err-push_activation-clause-kept c = begins_with_the_first _ _ _ c.push_word.ensures.kept c.push_activation.ensures.kept
 
 pub returns-in_err-push_grain-clause-kept : goal.returns-in_err-push_grain-clause-kept
-returns-in_err-push_grain-clause-kept c = begins_with_the_first _ _ _ (begins_with_the_first _ _ _ c.push_word.ensures.kept c.push_activation.ensures.kept) c.push_grain.ensures.kept
+returns-in_err-push_grain-clause-kept c =
+    begins_with_the_first _ _ _ (begins_with_the_first _ _ _ c.push_word.ensures.kept c.push_activation.ensures.kept)
+    c.push_grain.ensures.kept
 
 pub returns-in_err-push_word-2-clause-kept : goal.returns-in_err-push_word-2-clause-kept
-returns-in_err-push_word-2-clause-kept c = begins_with_the_first _ _ _ (begins_with_the_first _ _ _ (begins_with_the_first _ _ _ c.push_word.ensures.kept c.push_activation.ensures.kept) c.push_grain.ensures.kept) c.push_word-2.ensures.kept
+returns-in_err-push_word-2-clause-kept c =
+    begins_with_the_first _ _ _ (begins_with_the_first _ _ _
+    (begins_with_the_first _ _ _ c.push_word.ensures.kept c.push_activation.ensures.kept) c.push_grain.ensures.kept)
+    c.push_word-2.ensures.kept
 
 pub returns-clause-written : goal.returns-clause-written
 returns-clause-written c =
@@ -21,4 +26,7 @@ returns-clause-written c =
     (c.in_ok-push_word-2.ensures.written ∙ ap (λ word. c.push_grain.new.out.items ++ spaced (word ∷ [])) c.phase_word.ensures)))
 
 pub returns-clause-kept : goal.returns-clause-kept
-returns-clause-kept c = begins_with_the_first _ _ _ (begins_with_the_first _ _ _ (begins_with_the_first _ _ _ c.push_word.ensures.kept c.push_activation.ensures.kept) c.push_grain.ensures.kept) c.push_word-2.ensures.kept
+returns-clause-kept c =
+    begins_with_the_first _ _ _ (begins_with_the_first _ _ _
+    (begins_with_the_first _ _ _ c.push_word.ensures.kept c.push_activation.ensures.kept) c.push_grain.ensures.kept)
+    c.push_word-2.ensures.kept

@@ -6,10 +6,13 @@ pub returns-in_err-push_range-clause-kept : goal.returns-in_err-push_range-claus
 returns-in_err-push_range-clause-kept c = begins_with_the_first _ _ _ c.push_word.ensures.kept c.push_range.ensures.kept
 
 pub returns-in_err-push_silo-clause-kept : goal.returns-in_err-push_silo-clause-kept
-returns-in_err-push_silo-clause-kept c = begins_with_the_first _ _ _ (begins_with_the_first _ _ _ c.push_word.ensures.kept c.push_range.ensures.kept) c.push_silo.ensures.kept
+returns-in_err-push_silo-clause-kept c =
+    begins_with_the_first _ _ _ (begins_with_the_first _ _ _ c.push_word.ensures.kept c.push_range.ensures.kept) c.push_silo.ensures.kept
 
 pub returns-in_err-push_state-clause-kept : goal.returns-in_err-push_state-clause-kept
-returns-in_err-push_state-clause-kept c = begins_with_the_first _ _ _ (begins_with_the_first _ _ _ (begins_with_the_first _ _ _ c.push_word.ensures.kept c.push_range.ensures.kept) c.push_silo.ensures.kept) c.push_state.ensures.kept
+returns-in_err-push_state-clause-kept c =
+    begins_with_the_first _ _ _ (begins_with_the_first _ _ _
+    (begins_with_the_first _ _ _ c.push_word.ensures.kept c.push_range.ensures.kept) c.push_silo.ensures.kept) c.push_state.ensures.kept
 
 pub returns-clause-written : goal.returns-clause-written
 returns-clause-written c =
@@ -19,4 +22,6 @@ returns-clause-written c =
     c.in_ok-push_state.ensures.written))
 
 pub returns-clause-kept : goal.returns-clause-kept
-returns-clause-kept c = begins_with_the_first _ _ _ (begins_with_the_first _ _ _ (begins_with_the_first _ _ _ c.push_word.ensures.kept c.push_range.ensures.kept) c.push_silo.ensures.kept) c.push_state.ensures.kept
+returns-clause-kept c =
+    begins_with_the_first _ _ _ (begins_with_the_first _ _ _
+    (begins_with_the_first _ _ _ c.push_word.ensures.kept c.push_range.ensures.kept) c.push_silo.ensures.kept) c.push_state.ensures.kept

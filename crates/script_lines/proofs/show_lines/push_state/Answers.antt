@@ -8,7 +8,8 @@ use Rattle.script_lines.proofs.show_lines.push_state.Goals as goal
 
 pub returns-in_default-clause-written : goal.returns-in_default-clause-written
 returns-in_default-clause-written c =
-    subst (λ entries. OnOk c.push_word.result (c.push_word.new.out.items ≡ c.args.out.now.items ++ spaced (words_of_state entries))) (sym c.in_default.is) c.push_word.ensures.written
+    subst (λ entries. OnOk c.push_word.result (c.push_word.new.out.items ≡ c.args.out.now.items ++ spaced (words_of_state entries)))
+    (sym c.in_default.is) c.push_word.ensures.written
 
 pub returns-in_err-push_named-clause-kept : goal.returns-in_err-push_named-clause-kept
 returns-in_err-push_named-clause-kept c = begins_with_the_first _ _ _ c.push_word-2.ensures.kept c.push_named.ensures.kept

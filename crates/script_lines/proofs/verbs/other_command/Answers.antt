@@ -44,4 +44,32 @@ returns-in-check c = row_read other_commands c.args.verb.now (codes "check") _ _
 
 -- a `grind arith` for each row of `other_commands`: the verb differs from its name
 pub returns-in_default : goal.returns-in_default
-returns-in_default c = no_row other_commands c.args.verb.now _ (grind arith, (grind arith, (grind arith, (grind arith, (grind arith, (grind arith, (grind arith, (grind arith, (grind arith, (grind arith, (grind arith, (grind arith, (grind arith, (grind arith, tt))))))))))))))
+returns-in_default c =
+    no_row other_commands c.args.verb.now _ (
+      grind arith,
+      (
+        grind arith,
+        (
+          grind arith,
+          (
+            grind arith,
+            (
+              grind arith,
+              (
+                grind arith,
+                (
+                  grind arith,
+                  (
+                    grind arith,
+                    (
+                      grind arith,
+                      (grind arith, (grind arith, (grind arith, (grind arith, (grind arith, tt))))),
+                    ),
+                  ),
+                ),
+              ),
+            ),
+          ),
+        ),
+      ),
+    )

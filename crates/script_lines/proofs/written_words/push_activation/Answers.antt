@@ -3,7 +3,8 @@ use Rattle.script_lines.proofs.Texts.{activation_written}
 use Rattle.script_lines.proofs.written_words.push_activation.Goals as goal
 
 pub returns-in_err-push_marked_number-clause-kept : goal.returns-in_err-push_marked_number-clause-kept
-returns-in_err-push_marked_number-clause-kept c = begins_with_the_first _ _ _ c.push_marked_silo.ensures.kept c.push_marked_number.ensures.kept
+returns-in_err-push_marked_number-clause-kept c =
+    begins_with_the_first _ _ _ c.push_marked_silo.ensures.kept c.push_marked_number.ensures.kept
 
 pub returns-clause-written : goal.returns-clause-written
 returns-clause-written c =

@@ -7,7 +7,8 @@ use Rattle.script_lines.proofs.written_words.push_span.Goals as goal
 
 pub returns-clause-written : goal.returns-clause-written
 returns-clause-written c =
-    span_written _ _ _ _ c.args.span.now c.in_ok-push_marked_number.ensures.written c.in_ok-push.ensures.items c.in_ok-push_marked_number-2.ensures.written
+    span_written _ _ _ _ c.args.span.now c.in_ok-push_marked_number.ensures.written c.in_ok-push.ensures.items
+    c.in_ok-push_marked_number-2.ensures.written
 
 pub returns-clause-kept : goal.returns-clause-kept
 returns-clause-kept c =

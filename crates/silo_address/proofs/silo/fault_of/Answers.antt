@@ -7,11 +7,13 @@ use Rattle.silo_address.proofs.silo.fault_of.Goals as goal
 
 pub returns-then-are_numerals : goal.returns-then-are_numerals
 returns-then-are_numerals c =
-    sym (read_silo_outside c.args.text.now (words_view c.in-Some.words) (sym c.in-Some.ensures) (c.if-are_numerals.ensures.0 refl) c.requires)
+    sym (read_silo_outside c.args.text.now (words_view c.in-Some.words) (sym c.in-Some.ensures) (c.if-are_numerals.ensures.0 refl)
+    c.requires)
 
 pub returns-else-are_numerals : goal.returns-else-are_numerals
 returns-else-are_numerals c =
-    sym (read_silo_other c.args.text.now (words_view c.in-Some.words) (sym c.in-Some.ensures) (not_from_Decides _ c.are_numerals.ensures c.if-are_numerals.false))
+    sym (read_silo_other c.args.text.now (words_view c.in-Some.words) (sym c.in-Some.ensures)
+    (not_from_Decides _ c.are_numerals.ensures c.if-are_numerals.false))
 
 pub returns-in-None : goal.returns-in-None
 returns-in-None c = sym (read_silo_none c.args.text.now (sym c.in-None.ensures))

@@ -12,7 +12,8 @@ returns-in-None-digit_at c =
     let small = digit_within bytes 0 first.0 in
     let also = digit_within bytes 1 second.0 in
     let begins = digit_more bytes 1 _ _ (one_digit bytes _ first.0 first.1) second.0 second.1 in
-    first_found bytes 2 _ 255 begins c.in-None-digit_at.ensures (omega (arith, first.1, second.1)) (omega arith) (λ zero. absurd (some (omega (arith, first.1, zero))))
+    first_found bytes 2 _ 255 begins c.in-None-digit_at.ensures (omega (arith, first.1, second.1)) (omega arith)
+    (λ zero. absurd (some (omega (arith, first.1, zero))))
 
 pub returns-then-value-gt-MOST_BYTE : goal.returns-then-value-gt-MOST_BYTE
 returns-then-value-gt-MOST_BYTE c = λ is.
@@ -42,4 +43,5 @@ returns-in-None-digit_at-2 c =
     let third = c.in-Some-digit_at.ensures in
     let some = c.if-first-eq0.false in
     let begins = digit_more bytes 2 _ _ (digit_more bytes 1 _ _ (one_digit bytes _ first.0 first.1) second.0 second.1) third.0 third.1 in
-    first_found bytes 3 _ 255 begins c.in-None-digit_at-2.ensures c.if-value-gt-MOST_BYTE.false (omega arith) (λ zero. absurd (some (omega (arith, first.1, zero))))
+    first_found bytes 3 _ 255 begins c.in-None-digit_at-2.ensures c.if-value-gt-MOST_BYTE.false (omega arith)
+    (λ zero. absurd (some (omega (arith, first.1, zero))))

@@ -27,4 +27,5 @@ pub returns : goal.returns
 returns c =
     let loop = c.loop-position.invariant in
     let end : c.loop-position.position ≡ length c.args.bytes.now = omega arith in
-    front_found c.args.bytes.now _ _ _ (subst (λ n. BeginsWith c.args.bytes.now n c.loop-position.value) end loop.0) (λ digit. absurd (omega (arith, digit.0))) loop.1
+    front_found c.args.bytes.now _ _ _ (subst (λ n. BeginsWith c.args.bytes.now n c.loop-position.value) end loop.0)
+    (λ digit. absurd (omega (arith, digit.0))) loop.1

@@ -28,14 +28,20 @@ loop-worker-preserved g c =
     let amount = one.amount in let each = whole.ensures.counted in let many = whole.result.1.ok in omega (amount, each, many, arith) in
     let well = sym c.is_err.ensures.value ∙ c.if-is_err.false in
     record {
-      parts = let parts = so_far.parts in let part = one.parts in let single = whole.ensures.part in let fewer = c.in-Some.ensures.cases in omega (parts, part, single, fewer, arith);
+      parts =
+          let parts = so_far.parts in let part = one.parts in let single = whole.ensures.part in let fewer = c.in-Some.ensures.cases in
+          omega (parts, part, single, fewer, arith);
       left = one_joined silos left now silo popped so_far.left;
       seen = prefix_then c.args.all.now.hand.seen before.hand.seen after.hand.seen so_far.seen one.mine;
       receipts = λ none_lost.
           one_more settings silos left now silo popped so_far.left before.hand.seen after.hand.seen hand.seen one.mine one.its
-          c.args.all.now.receipts.items before.receipts.items put after.receipts.items c.args.all.now.hand.share.amount before.hand.share.amount after.hand.share.amount
-          (subst (λ (s : Silo). AreDeliveriesTo settings s hand.seen put) its whole.ensures.delivered) (unless_lost c.take_one.result _ one.receipts well) counted (so_far.receipts none_lost);
+          c.args.all.now.receipts.items before.receipts.items put after.receipts.items c.args.all.now.hand.share.amount
+          before.hand.share.amount after.hand.share.amount
+          (subst (λ (s : Silo). AreDeliveriesTo settings s hand.seen put) its whole.ensures.delivered)
+          (unless_lost c.take_one.result _ one.receipts well) counted (so_far.receipts none_lost);
       endings = λ none_lost.
-          one_ended settings silos left now silo popped so_far.left before.hand.seen after.hand.seen hand.seen one.mine one.its before.endings.items after.endings.items ending
-          (unless_lost c.take_one.result _ one.endings well) (subst (λ (s : Silo). Ends settings s hand.seen ending) its whole.ensures.ended) (so_far.endings none_lost);
+          one_ended settings silos left now silo popped so_far.left before.hand.seen after.hand.seen hand.seen one.mine one.its
+          before.endings.items after.endings.items ending
+          (unless_lost c.take_one.result _ one.endings well)
+          (subst (λ (s : Silo). Ends settings s hand.seen ending) its whole.ensures.ended) (so_far.endings none_lost);
     }

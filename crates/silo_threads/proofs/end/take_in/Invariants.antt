@@ -12,7 +12,8 @@ invariant-loop-worker g l = record {
   left : AreLeft l.initial.workers.items l.workers.items;
   seen : IsPrefix l.initial.all.hand.seen l.all.hand.seen;
   receipts : l.lost ≡ false
-      → HasMore g.L.Charter.settings l.all.hand.seen l.initial.workers.items l.initial.all.receipts.items l.all.receipts.items l.initial.all.hand.share.amount l.all.hand.share.amount;
+      → HasMore g.L.Charter.settings l.all.hand.seen l.initial.workers.items l.initial.all.receipts.items l.all.receipts.items
+      l.initial.all.hand.share.amount l.all.hand.share.amount;
   endings : l.lost ≡ false → EndedSoFar g.L.Charter.settings l.all.hand.seen l.initial.workers.items l.workers.items l.all.endings.items;
 }
 

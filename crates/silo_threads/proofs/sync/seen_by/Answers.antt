@@ -1,6 +1,6 @@
 use Rattle.std.proofs.Common.{ℕ, ◌-◌, max, Option, ap, ◌∙◌}
 use Rattle.std.specs.Option.{unwrap_or}
-use Rattle.directory_rules.specs.Node.{Node}
+use Rattle.directory_rules.specs.State.{Node}
 use Rattle.membership_view.specs.View.{ViewValue}
 use Rattle.membership_view.specs.Views.{ViewsValue, joining_version}
 use Rattle.silo_threads.proofs.Sights.{unseen_are}

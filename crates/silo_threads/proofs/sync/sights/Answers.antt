@@ -4,7 +4,7 @@ use Rattle.silo_address.specs.Silo.{Silo}
 use Rattle.directory_rules.specs.Event as rule
 use Rattle.directory_rules.specs.Event.{See}
 use Rattle.directory_rules.specs.EventModel.{event_of}
-use Rattle.directory_rules.specs.Node.{Node}
+use Rattle.directory_rules.specs.State.{Node}
 use Rattle.script_rules.specs.Output.{unseen_versions}
 use Rattle.silo_threads.proofs.sync.sights.Goals as goal
 
@@ -24,4 +24,5 @@ returns c =
     let world = c.args.world.now in
     let events = λ (e : Silo × Node). map (See e.0) (unseen_versions world e.0 e.1) in
     let listed = map event_of c.loop-silo.events.items in
-    sym (append-nil listed) ∙ (ap (λ (nodes : List (Silo × Node)). listed ++ flat_map events nodes) (sym c.in-None.ensures.steps.0) ∙ c.loop-silo.invariant)
+    sym (append-nil listed) ∙ (ap (λ (nodes : List (Silo × Node)). listed ++ flat_map events nodes) (sym c.in-None.ensures.steps.0)
+    ∙ c.loop-silo.invariant)

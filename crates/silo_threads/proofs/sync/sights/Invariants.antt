@@ -7,4 +7,5 @@ use Rattle.silo_threads.proofs.sync.sights.Given as goal
 
 -- what is listed, with the sights of the silos that are left, is what a sync asks for
 abbrev pub invariant-loop-silo : goal.invariant-loop-silo
-invariant-loop-silo l = map event_of l.events.items ++ flat_map (λ e. map (See e.0) (unseen_versions l.world e.0 e.1)) l.silo-iterator ≡ sync_events l.world
+invariant-loop-silo l =
+    map event_of l.events.items ++ flat_map (λ e. map (See e.0) (unseen_versions l.world e.0 e.1)) l.silo-iterator ≡ sync_events l.world

@@ -1,6 +1,6 @@
 use Rattle.std.proofs.Common.{ap, sym, ◌∙◌, List}
 use Rattle.std.proofs.lemmas.Result.{IfOk-weaker}
-use Rattle.directory_rules.specs.World.{World}
+use Rattle.directory_rules.specs.State.{World}
 use Rattle.script_rules.specs.Output.{sync_events}
 use Rattle.cluster_journal.specs.Entry.{EntryValue}
 use Rattle.cluster_journal.specs.Journal.{world_of}

@@ -1,5 +1,5 @@
 use Rattle.std.proofs.Common.{◌≡◌, Some, sym, subst, ap, ◌∙◌}
-use Rattle.directory_rules.specs.Node.{Node}
+use Rattle.directory_rules.specs.State.{Node}
 use Rattle.directory_rules.specs.Happens.{node_of}
 use Rattle.cluster_board.specs.Board.{BoardValue}
 use Rattle.cluster_board.specs.Due.{IsWorkOf}
@@ -13,5 +13,7 @@ pub returns-clause-lent : goal.returns-clause-lent
 returns-clause-lent g c =
     let world = c.self.inside.world in
     let live : node_of world c.args.silo.now ≡ Some c.in_ok-node.node = sym c.in-Some-shared_node.ensures ∙ ap (λ (n : Node). Some n) (sym c.in_ok-node.ensures) in
-    subst (λ (b : BoardValue). IsWorkOf b.world c.args.silo.now (record { number = c.in-Some.number; letter = c.in_ok-letter.letter; node = c.in_ok-node.node })) c.self.view_is
-    (work_of world c.args.silo.now c.in-Some.number c.in_ok-letter.letter c.in_ok-node.node c.whole.ensures (sym c.in-Some.ensures) live c.in_ok-letter.ensures)
+    subst (λ (b : BoardValue). IsWorkOf b.world c.args.silo.now
+    (record { number = c.in-Some.number; letter = c.in_ok-letter.letter; node = c.in_ok-node.node })) c.self.view_is
+    (work_of world c.args.silo.now c.in-Some.number c.in_ok-letter.letter c.in_ok-node.node c.whole.ensures (sym c.in-Some.ensures) live
+    c.in_ok-letter.ensures)

@@ -15,10 +15,12 @@ returns-clause-told g c = closed_silently g.E.Sink.writes g.E.Sink.contents c.cl
 -- all others are the workers'
 pub returns-clause-beside : goal.returns-clause-beside
 returns-clause-beside g c =
-    IfOk-weaker c.closed.result _ _ (λ board agree. deliveries_beside board.journal g.L.Charter.settings c.in-Ok.ended.hand.seen c.args.self.cluster c.args.self.receipts.items c.in-Ok.ended.receipts.items _ _ c.in-Ok.ensures.receipts agree)
+    IfOk-weaker c.closed.result _ _ (λ board agree. deliveries_beside board.journal g.L.Charter.settings c.in-Ok.ended.hand.seen
+    c.args.self.cluster c.args.self.receipts.items c.in-Ok.ended.receipts.items _ _ c.in-Ok.ensures.receipts agree)
     c.closed.ensures.agree
 
 -- what the driver saw begins what was seen at the end
 pub returns-clause-seen : goal.returns-clause-seen
 returns-clause-seen g c =
-    IfOk-weaker c.closed.result _ _ (λ board begins. prefix_then c.args.self.hand.seen c.in-Ok.ended.hand.seen board.journal c.in-Ok.ensures.seen begins) c.closed.ensures.seen
+    IfOk-weaker c.closed.result _ _ (λ board begins. prefix_then c.args.self.hand.seen c.in-Ok.ended.hand.seen board.journal
+    c.in-Ok.ensures.seen begins) c.closed.ensures.seen

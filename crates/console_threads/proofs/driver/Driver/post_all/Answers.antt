@@ -13,10 +13,13 @@ loop-event-preserved g c = λ all.
     let before = c.args.self.now in
     let now = c.loop-event.self in
     let after = c.post.new.self in
-    one_accepted g.L.Charter.settings (map event_of events) before.hand.seen before.receipts.items (map event_of (drop index events)) (map event_of (drop (index + 1) events)) (event_of event)
+    one_accepted g.L.Charter.settings (map event_of events) before.hand.seen before.receipts.items (map event_of (drop index events))
+    (map event_of (drop (index + 1) events)) (event_of event)
     now.hand.seen after.hand.seen now.receipts.items after.receipts.items
-    (one_left event_of events index event c.loop-event-test.true c.event-item.is) (c.loop-event.invariant (c.in_ok-post.ensures.lacking all))
-    (subst (λ (accepted : Bool). IsPosted g.L.Charter.settings (event_of event) accepted now.hand.seen after.hand.seen now.receipts.items after.receipts.items) c.if-not-branch.false
+    (one_left event_of events index event c.loop-event-test.true c.event-item.is)
+    (c.loop-event.invariant (c.in_ok-post.ensures.lacking all))
+    (subst (λ (accepted : Bool). IsPosted g.L.Charter.settings (event_of event) accepted now.hand.seen after.hand.seen now.receipts.items
+    after.receipts.items) c.if-not-branch.false
     (c.in_ok-post.ensures.posted all))
 
 pub returns-then-not-branch : goal.returns-then-not-branch
@@ -27,10 +30,13 @@ returns-then-not-branch g c = λ all.
     let before = c.args.self.now in
     let now = c.loop-event.self in
     let after = c.post.new.self in
-    one_refused g.L.Charter.settings (map event_of events) before.hand.seen before.receipts.items (map event_of (drop index events)) (map event_of (drop (index + 1) events)) (event_of event)
+    one_refused g.L.Charter.settings (map event_of events) before.hand.seen before.receipts.items (map event_of (drop index events))
+    (map event_of (drop (index + 1) events)) (event_of event)
     now.hand.seen after.hand.seen now.receipts.items after.receipts.items
-    (one_left event_of events index event c.loop-event-test.true c.event-item.is) (c.loop-event.invariant (c.in_ok-post.ensures.lacking all))
-    (subst (λ (accepted : Bool). IsPosted g.L.Charter.settings (event_of event) accepted now.hand.seen after.hand.seen now.receipts.items after.receipts.items) c.if-not-branch.true
+    (one_left event_of events index event c.loop-event-test.true c.event-item.is)
+    (c.loop-event.invariant (c.in_ok-post.ensures.lacking all))
+    (subst (λ (accepted : Bool). IsPosted g.L.Charter.settings (event_of event) accepted now.hand.seen after.hand.seen now.receipts.items
+    after.receipts.items) c.if-not-branch.true
     (c.in_ok-post.ensures.posted all))
 
 pub returns : goal.returns
@@ -39,8 +45,11 @@ returns g c = λ all.
     let index = c.loop-event.event-index in
     let before = c.args.self.now in
     let now = c.loop-event.self in
-    all_accepted g.L.Charter.settings (map event_of events) (map event_of (drop index events)) before.hand.seen now.hand.seen before.receipts.items now.receipts.items
+    all_accepted g.L.Charter.settings (map event_of events) (map event_of (drop index events)) before.hand.seen now.hand.seen
+    before.receipts.items now.receipts.items
     (none_left event_of events index c.loop-event-test.false) (c.loop-event.invariant all)
 
 pub loop-event-init : goal.loop-event-init
-loop-event-init g c = λ all. nothing_yet (Posted g.L.Charter.settings) (map event_of c.args.events.now) c.args.self.now.hand.seen c.args.self.now.receipts.items
+loop-event-init g c =
+    λ all. nothing_yet (Posted g.L.Charter.settings) (map event_of c.args.events.now) c.args.self.now.hand.seen
+    c.args.self.now.receipts.items

@@ -8,4 +8,5 @@ use Rattle.console_threads.proofs.driver.Driver.post_all.Given as goal
 abbrev pub invariant-loop-event : goal.invariant-loop-event
 invariant-loop-event g l =
     l.self.lacks ≡ false
-    → PutsSoFar (Posted g.L.Charter.settings) (map event_of l.events) (map event_of (drop l.event-index l.events)) l.fn.self.hand.seen l.self.hand.seen l.fn.self.receipts.items l.self.receipts.items
+    → PutsSoFar (Posted g.L.Charter.settings) (map event_of l.events) (map event_of (drop l.event-index l.events)) l.fn.self.hand.seen
+    l.self.hand.seen l.fn.self.receipts.items l.self.receipts.items

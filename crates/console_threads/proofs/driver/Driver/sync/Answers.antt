@@ -12,5 +12,7 @@ returns g c =
     let known = c.sights.new.hand.seen in
     let after = c.post_all.new.self in
     where_well c.post_all.result (λ posted lacking.
-    performed g.L.Charter.settings Sync (map event_of c.deref.result.now) before.hand.seen known after.hand.seen before.receipts.items after.receipts.items
-    c.in_ok-sights.ensures.seen (ap (λ (l : List Event). map event_of l) c.deref.ensures.value ∙ c.in_ok-sights.ensures.sights) (posted lacking)) c.post_all.ensures
+    performed g.L.Charter.settings Sync (map event_of c.deref.result.now) before.hand.seen known after.hand.seen before.receipts.items
+    after.receipts.items
+    c.in_ok-sights.ensures.seen (ap (λ (l : List Event). map event_of l) c.deref.ensures.value ∙ c.in_ok-sights.ensures.sights)
+    (posted lacking)) c.post_all.ensures

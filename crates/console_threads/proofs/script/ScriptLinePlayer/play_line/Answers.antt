@@ -39,11 +39,16 @@ returns-in_ok-write_fault-in-Err-Fault-clause-played c =
     let out = c.args.out.now.items in
     let fault = c.in-Err-Fault.fault in
     let read = ap read_line (sym c.without_return.ensures) ∙ rw c.in-Err-Fault.field-0-is at c.in-Err-Fault.ensures.reads in
-    subst (λ (f : ScriptFault). Prints (plays self number c.args.line.now c.args._ended) out c.write_fault.new.out.items (Some (record { line = number; fault = f })) self) (sym c.in-Err-Fault.fault-is)
+    subst (λ (f : ScriptFault). Prints (plays self number c.args.line.now c.args._ended) out c.write_fault.new.out.items
+    (Some (record { line = number; fault = f })) self) (sym c.in-Err-Fault.fault-is)
     (record {
       text = told_fault (record { line = number; fault = fault });
       behind = fault_behind number out c.write_fault.new.out.items (record { line = number; fault = fault }) refl
           (c.in_ok-write_fault-in-Err-Fault.ensures.written ∙ (ap (λ (n : ℕ). out ++ printed (fault_line number n)) c.number.ensures
           ∙ ap (λ (f : ScriptFault). out ++ printed (fault_line number (script_fault_number f))) c.in-Err-Fault.fault-is));
-      plays = (fault_told number c.args.line.now (record { line = number; fault = fault }) refl read, kept_at_fault _ self.commands.items (script_fault_number fault) read);
+      plays = (
+        fault_told number c.args.line.now (record { line = number; fault = fault }) refl read,
+        kept_at_fault _ self.commands.items
+            (script_fault_number fault) read,
+      );
     })

@@ -11,4 +11,5 @@ follow-told-requires c = record { leaves = further c.args.self.now (event_of c.a
 pub returns-clause-plain : goal.returns-clause-plain
 returns-clause-plain c =
     told_plainly event_refusal_number (excused c.args.event.now) c.args.self.now _ (event_of c.args.event.now) c.follow-told.result
-    (moves_by c.args.self.now (event_of c.args.event.now) (plain_of_all c.args.self.now c.whole.ensures) c.in_range.ensures) c.follow-told.ensures.told
+    (moves_by c.args.self.now (event_of c.args.event.now) (plain_of_all c.args.self.now c.whole.ensures) c.in_range.ensures)
+    c.follow-told.ensures.told

@@ -6,7 +6,8 @@ use Rattle.directory_core.proofs.Kept.{kept_made, left_so, refused_so}
 use Rattle.directory_core.proofs.world.World.begin_to_leave.Goals as goal
 
 pub invariant_of-self : goal.invariant_of-self
-invariant_of-self c = subst (λ (m : Membership). IsWhole (record c.self.inside { membership = m })) (sym c.in_err-leave.ensures.unchanged) c.self.invariant
+invariant_of-self c =
+    subst (λ (m : Membership). IsWhole (record c.self.inside { membership = m })) (sym c.in_err-leave.ensures.unchanged) c.self.invariant
 
 pub returns-in_err-leave-clause-made : goal.returns-in_err-leave-clause-made
 returns-in_err-leave-clause-made c =
@@ -16,9 +17,12 @@ returns-in_err-leave-clause-made c =
 pub invariant_of-self-2 : goal.invariant_of-self-2
 invariant_of-self-2 c = record {
   world = kept_made c.args.self.now _ (Leave c.args.silo.now) c.requires.leaves
-      (left_so (world_of c.self.inside) c.args.self.now c.self.view_is c.args.silo.now c.leave.new.self (c.in_ok-leave.ensures.left c.self.inside.settings));
+      (left_so (world_of c.self.inside) c.args.self.now c.self.view_is c.args.silo.now c.leave.new.self
+      (c.in_ok-leave.ensures.left c.self.inside.settings));
   shared = tt;
 }
 
 pub returns-clause-made : goal.returns-clause-made
-returns-clause-made c = left_so (world_of c.self.inside) c.args.self.now c.self.view_is c.args.silo.now c.leave.new.self (c.in_ok-leave.ensures.left c.self.inside.settings)
+returns-clause-made c =
+    left_so (world_of c.self.inside) c.args.self.now c.self.view_is c.args.silo.now c.leave.new.self
+    (c.in_ok-leave.ensures.left c.self.inside.settings)

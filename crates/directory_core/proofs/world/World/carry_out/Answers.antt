@@ -1,5 +1,5 @@
 use Rattle.std.proofs.Common.{◌∙◌, ap}
-use Rattle.directory_rules.specs.World.{World}
+use Rattle.directory_rules.specs.State.{World}
 use Rattle.directory_rules.specs.Happens.{node_of}
 use Rattle.directory_node.specs.Plans.{changed}
 use Rattle.directory_core.specs.WorldModel.{world_of}

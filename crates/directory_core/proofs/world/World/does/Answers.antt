@@ -11,4 +11,5 @@ pub returns-in-Err-clause-told : goal.returns-in-Err-clause-told
 returns-in-Err-clause-told c =
     let step = c.args.step.now in
     subst (λ n. RefusesBy (own_excused step) n (does c.args.self.now c.args.silo.now (Does step))) (sym c.refused.ensures.number)
-    (refused_told c.args.self.now c.args.silo.now step c.in-Some.node.now (step_refusal_number c.in-Err.refusal) (sym c.in-Some.ensures) c.in-Err.ensures.planned)
+    (refused_told c.args.self.now c.args.silo.now step c.in-Some.node.now (step_refusal_number c.in-Err.refusal) (sym c.in-Some.ensures)
+    c.in-Err.ensures.planned)

@@ -1,5 +1,6 @@
 use Rattle.std.proofs.Common.{rules, ◌≤◌, ◌<◌, sym, subst, ap, arith}
-use Rattle.directory_rules.specs.World.{World, accepted_as}
+use Rattle.directory_rules.specs.State.{World}
+use Rattle.directory_rules.specs.World.{accepted_as}
 use Rattle.directory_rules.specs.EventModel.{event_of}
 use Rattle.directory_node.specs.Follows.{Follows}
 use Rattle.directory_core.specs.Applied.{excused}
@@ -20,7 +21,8 @@ returns-clause-told c =
     let accepted_is = ap (λ (w : World). w.accepted) c.self.view_is in
     let events_are = ap (λ (w : World). w.settings.events) c.self.view_is in
     let room : c.args.self.now.accepted < c.args.self.now.settings.events = omega (arith, c.if-self-events.false, accepted_is, c.events.ensures, events_are) in
-    subst (λ h. Follows (accepted_as c.attempt.new.self) event_refusal_number (excused c.args.event.now) h c.attempt.result) (sym (has_room c.args.self.now (event_of c.args.event.now) room)) c.attempt.ensures.told
+    subst (λ h. Follows (accepted_as c.attempt.new.self) event_refusal_number (excused c.args.event.now) h c.attempt.result)
+    (sym (has_room c.args.self.now (event_of c.args.event.now) room)) c.attempt.ensures.told
 
 pub returns-then-self-events-clause-unchanged : goal.returns-then-self-events-clause-unchanged
 returns-then-self-events-clause-unchanged c = search rules

@@ -25,4 +25,5 @@ pub returns-clause-told : goal.returns-clause-told
 returns-clause-told c =
     let events_are = ap (λ (s : Settings). s.events) c.settings.ensures in
     let room : c.args.self.now.accepted < c.args.self.now.settings.events = omega (arith, c.if-accepted-events.false, c.accepted.ensures, c.events.ensures, events_are) in
-    subst (λ h. Follows (accepted_as c.take_with.new.self) undelivered_number IsOk h c.take_with.result) (sym (has_room c.args.self.now (Deliver c.args.number) room)) c.take_with.ensures.told
+    subst (λ h. Follows (accepted_as c.take_with.new.self) undelivered_number IsOk h c.take_with.result)
+    (sym (has_room c.args.self.now (Deliver c.args.number) room)) c.take_with.ensures.told

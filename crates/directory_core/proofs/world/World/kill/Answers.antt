@@ -12,14 +12,17 @@ pub returns-then-is_dead-clause-told : goal.returns-then-is_dead-clause-told
 returns-then-is_dead-clause-told c = dead_refused c.args.self.now (Die c.args.silo.now) (sym c.is_dead.ensures ∙ c.if-is_dead.true)
 
 pub die-requires-clause-leaves : goal.die-requires-clause-leaves
-die-requires-clause-leaves c = leaves_made c.args.self.now (Die c.args.silo.now) (sym c.is_dead.ensures ∙ c.if-is_dead.false) c.requires.leaves
+die-requires-clause-leaves c =
+    leaves_made c.args.self.now (Die c.args.silo.now) (sym c.is_dead.ensures ∙ c.if-is_dead.false) c.requires.leaves
 
 pub returns-in-Ok-clause-told : goal.returns-in-Ok-clause-told
 returns-in-Ok-clause-told c =
-    made_told c.args.self.now (Die c.args.silo.now) (sym c.is_dead.ensures ∙ c.if-is_dead.false) c.die.new.self (Died c.current.result c.args.silo.now) c.in-Ok.ensures.made
+    made_told c.args.self.now (Die c.args.silo.now) (sym c.is_dead.ensures ∙ c.if-is_dead.false) c.die.new.self
+    (Died c.current.result c.args.silo.now) c.in-Ok.ensures.made
     (ap (λ v. Died v c.args.silo.now) c.current.ensures)
 
 pub returns-in-Err-clause-told : goal.returns-in-Err-clause-told
 returns-in-Err-clause-told c =
     subst (λ n. RefusesBy IsNever n (decides c.args.self.now (Die c.args.silo.now))) (sym c.of_change.ensures.number)
-    (made_refused c.args.self.now (Die c.args.silo.now) (sym c.is_dead.ensures ∙ c.if-is_dead.false) IsNever (change_refusal_number c.in-Err.refusal) c.in-Err.ensures.made)
+    (made_refused c.args.self.now (Die c.args.silo.now) (sym c.is_dead.ensures ∙ c.if-is_dead.false) IsNever
+    (change_refusal_number c.in-Err.refusal) c.in-Err.ensures.made)

@@ -1,5 +1,5 @@
 use Rattle.std.proofs.Common.{◌∙◌, ap}
-use Rattle.directory_rules.specs.World.{World}
+use Rattle.directory_rules.specs.State.{World}
 use Rattle.directory_rules.specs.Happens.{node_of}
 use Rattle.directory_rules.specs.Mail.{letter_of}
 use Rattle.directory_node.specs.Plans.{changed}
@@ -14,7 +14,8 @@ invariant_of-self-2 c =
     let is = ap (λ (w : World). letter_of w c.args.number) c.self.view_is ∙ letter.1 in
     record {
       world = kept_receipt (world_of c.self.inside) c.args.self.now c.self.view_is c.args.to.now (changed c.args.change old.0)
-          c.receive_at.new.nodes.entries c.receive_at.new.mail c.args.letters.items c.args.number letter.0 (c.requires.leaves letter.0 old.0 letter.1 old.1)
+          c.receive_at.new.nodes.entries c.receive_at.new.mail c.args.letters.items c.args.number letter.0
+          (c.requires.leaves letter.0 old.0 letter.1 old.1)
           (c.in_ok-receive_at.ensures.made old.0 (ap (λ (w : World). node_of w c.args.to.now) c.self.view_is ∙ old.1))
           (c.in_ok-receive_at.ensures.posted letter.0 is);
       shared = c.self.invariant.shared;

@@ -1,5 +1,5 @@
 use Rattle.std.proofs.Common.{◌≡◌, true, List, sym, ◌∙◌, ap, arith}
-use Rattle.directory_rules.specs.Letter.{Letter}
+use Rattle.directory_rules.specs.State.{Letter}
 use Rattle.directory_rules.specs.Mail.{has_room_for}
 use Rattle.directory_node.specs.Plans.{step_by}
 use Rattle.directory_core.proofs.Happenings.{leaves_taken}

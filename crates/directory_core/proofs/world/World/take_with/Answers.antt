@@ -4,9 +4,8 @@ use Rattle.std.proofs.lemmas.Option.{same_Some}
 use Rattle.silo_address.specs.Silo.{Silo}
 use Rattle.directory_rules.specs.declared.LetterKind.{LetterKind}
 use Rattle.directory_rules.specs.declared.outcome.Happening.TheVariants.{Delivered}
-use Rattle.directory_rules.specs.Letter.{Letter, kind_of}
-use Rattle.directory_rules.specs.Node.{Node}
-use Rattle.directory_rules.specs.World.{World}
+use Rattle.directory_rules.specs.State.{Letter, Node, World}
+use Rattle.directory_rules.specs.Letter.{kind_of}
 use Rattle.directory_rules.specs.Mail.{has_room_for, letter_of, span_of, with_delivered}
 use Rattle.directory_rules.specs.Happens.{node_of}
 use Rattle.directory_node.specs.Plans.{Fits, changed}
@@ -21,7 +20,8 @@ receive-requires-clause-fits c = λ n n_is.
     let its = c.requires.its in
     let found : letter_of world c.args.number ≡ Some c.letter-letter.result.now = sym c.in-Some.ensures ∙ ap (λ (x : Letter). Some x) (sym c.letter-letter.ensures) in
     let to_is : c.to-to.result ≡ its.letter.to = c.to-to.ensures ∙ ap (λ (x : Letter). x.to) (same_Some c.letter-letter.result.now its.letter (sym found ∙ its.mailed)) in
-    subst (λ (x : Node). Fits c.args.plan.change x) (same_Some its.node n (sym its.live ∙ ap (λ (s : Silo). node_of world s) (sym to_is) ∙ n_is)) its.fits
+    subst (λ (x : Node). Fits c.args.plan.change x) (same_Some its.node n
+    (sym its.live ∙ ap (λ (s : Silo). node_of world s) (sym to_is) ∙ n_is)) its.fits
 
 pub receive-requires-clause-leaves : goal.receive-requires-clause-leaves
 receive-requires-clause-leaves c = λ l n l_is n_is.
@@ -34,9 +34,12 @@ receive-requires-clause-leaves c = λ l n l_is n_is.
     let to_is : c.to-to.result ≡ its.letter.to = c.to-to.ensures ∙ ap (λ (x : Letter). x.to) (same_Some c.letter-letter.result.now its.letter (sym found ∙ its.mailed)) in
     subst (λ (x : Node). IsWorld (after_step (with_delivered world c.args.number l) c.to-to.result (changed change x) letters))
     (same_Some its.node n (sym its.live ∙ ap (λ (s : Silo). node_of world s) (sym to_is) ∙ n_is))
-    (subst (λ (x : Letter). IsWorld (after_step (with_delivered world c.args.number x) c.to-to.result (changed change its.node) letters)) (same_Some its.letter l (sym its.mailed ∙ l_is))
-    (subst (λ (s : Silo). IsWorld (after_step (with_delivered world c.args.number its.letter) s (changed change its.node) letters)) (sym to_is)
-    (leaves_delivered world c.args.number its.letter its.node (changed change its.node) letters c.args.plan.effect its.mailed its.live (sym its.its)
+    (subst (λ (x : Letter). IsWorld (after_step (with_delivered world c.args.number x) c.to-to.result (changed change its.node) letters))
+    (same_Some its.letter l (sym its.mailed ∙ l_is))
+    (subst (λ (s : Silo). IsWorld (after_step (with_delivered world c.args.number its.letter) s (changed change its.node) letters))
+    (sym to_is)
+    (leaves_delivered world c.args.number its.letter its.node (changed change its.node) letters c.args.plan.effect its.mailed its.live
+    (sym its.its)
     (ap (λ (x : List Letter). has_room_for world x) (sym c.deref.ensures.value) ∙ room) c.requires.leaves)))
 
 pub returns-in-Err-clause-told : goal.returns-in-Err-clause-told
@@ -45,7 +48,8 @@ returns-in-Err-clause-told c =
     let its = c.requires.its in
     let letters = c.args.plan.letters.items in
     let room : has_room_for world c.deref.result.now ≡ true = grind arith in
-    subst IsOk (sym (delivered_told world c.args.number its.letter its.node (changed c.args.plan.change its.node) letters c.args.plan.effect _ its.mailed its.live (sym its.its)
+    subst IsOk (sym (delivered_told world c.args.number its.letter its.node (changed c.args.plan.change its.node) letters c.args.plan.effect
+    _ its.mailed its.live (sym its.its)
     (ap (λ (x : List Letter). has_room_for world x) (sym c.deref.ensures.value) ∙ room) refl)) refl
 
 pub returns-in-Ok-clause-told : goal.returns-in-Ok-clause-told

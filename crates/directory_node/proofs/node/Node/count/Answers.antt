@@ -3,8 +3,7 @@ use Rattle.std.specs.Map.{lookup}
 use Rattle.std.specs.BTreeMap.{is_at}
 use Rattle.std.specs.Ordering.{nat_cmp}
 use Rattle.ring_range.specs.Range.{Range}
-use Rattle.directory_rules.specs.Recovery.{Recovery}
-use Rattle.directory_rules.specs.Node.{Node}
+use Rattle.directory_rules.specs.State.{Recovery, Node}
 use Rattle.directory_rules.specs.Transfer.{with_settled}
 use Rattle.directory_node.specs.NodeModel.{node_of}
 use Rattle.node_plans.proofs.CountedReports.{Takes, counted, kept_by_taking, left_by_more, left_by_union, takes_by}
@@ -13,15 +12,19 @@ use Rattle.directory_node.proofs.node.Node.count.Goals as goal
 
 pub invariant_of-self-then-branch : goal.invariant_of-self-then-branch
 invariant_of-self-then-branch c =
-    kept_by_taking (node_of c.self.inside) c.args.report.now c.in_ok-take_report.field-0 c.take_report.new.recoveries.entries c.self.invariant
+    kept_by_taking (node_of c.self.inside) c.args.report.now c.in_ok-take_report.field-0 c.take_report.new.recoveries.entries
+    c.self.invariant
     (recovers_in (node_of c.self.inside) _ c.args.report.now.range c.self.view_is c.requires.recovers)
-    (takes_by (node_of c.self.inside) c.args.report.now c.take_report.new.recoveries.entries c.in_ok-take_report.field-0 c.in_ok-take_report.ensures.complete c.in_ok-take_report.ensures.taken)
+    (takes_by (node_of c.self.inside) c.args.report.now c.take_report.new.recoveries.entries c.in_ok-take_report.field-0
+    c.in_ok-take_report.ensures.complete c.in_ok-take_report.ensures.taken)
 
 pub invariant_of-self-else-branch : goal.invariant_of-self-else-branch
 invariant_of-self-else-branch c =
-    kept_by_taking (node_of c.self.inside) c.args.report.now c.in_ok-take_report.field-0 c.take_report.new.recoveries.entries c.self.invariant
+    kept_by_taking (node_of c.self.inside) c.args.report.now c.in_ok-take_report.field-0 c.take_report.new.recoveries.entries
+    c.self.invariant
     (recovers_in (node_of c.self.inside) _ c.args.report.now.range c.self.view_is c.requires.recovers)
-    (takes_by (node_of c.self.inside) c.args.report.now c.take_report.new.recoveries.entries c.in_ok-take_report.field-0 c.in_ok-take_report.ensures.complete c.in_ok-take_report.ensures.taken)
+    (takes_by (node_of c.self.inside) c.args.report.now c.take_report.new.recoveries.entries c.in_ok-take_report.field-0
+    c.in_ok-take_report.ensures.complete c.in_ok-take_report.ensures.taken)
 
 pub returns-then-branch-clause-made : goal.returns-then-branch-clause-made
 returns-then-branch-clause-made c =

@@ -4,8 +4,8 @@ use Rattle.std.specs.Option.{unwrap_or}
 use Rattle.std.specs.Map.{lookup}
 use Rattle.std.specs.BTreeMap.{insert_entry, is_at}
 use Rattle.std.specs.Ordering.{nat_cmp}
-use Rattle.directory_rules.specs.Gatherings.{Gathering, gathered, new_gathering, with_page}
-use Rattle.directory_rules.specs.Node.{Node}
+use Rattle.directory_rules.specs.State.{Gathering, Node}
+use Rattle.directory_rules.specs.Gatherings.{gathered, new_gathering, with_page}
 use Rattle.directory_rules.specs.Table.{rise_by_grain}
 use Rattle.seal_snapshot.specs.Progress.{progress_of}
 use Rattle.node_plans.specs.Plans.{GoesOn}
@@ -18,7 +18,8 @@ gather_among-requires c =
     let goes = subst (λ (n : Node). GoesOn n page) (sym c.self.view_is) c.requires.goes_on in
     record {
       more =
-          ap (λ (v : ℕ). progress_of (gathered (unwrap_or (lookup (is_at (nat_cmp page.range.start)) c.self.inside.gatherings.entries) (new_gathering v page.range)) page)) c.version-version.ensures
+          ap (λ (v : ℕ). progress_of (gathered (unwrap_or (lookup (is_at (nat_cmp page.range.start)) c.self.inside.gatherings.entries)
+          (new_gathering v page.range)) page)) c.version-version.ensures
           ∙ goes.more;
     }
 
@@ -29,7 +30,8 @@ invariant_of-self-2 c =
     let old = c.self.inside.gatherings.entries in
     let goes = subst (λ (n : Node). GoesOn n page) (sym c.self.view_is) c.requires.goes_on in
     let put = c.in_ok-gather_among.ensures.made
-    ∙ ap (λ (v : ℕ). insert_entry nat_cmp old page.range.start (with_page (unwrap_or (lookup (is_at (nat_cmp page.range.start)) old) (new_gathering v page.range)) page)) c.version-version.ensures in
+    ∙ ap (λ (v : ℕ). insert_entry nat_cmp old page.range.start
+    (with_page (unwrap_or (lookup (is_at (nat_cmp page.range.start)) old) (new_gathering v page.range)) page)) c.version-version.ensures in
     record {
       cached = c.self.invariant.cached;
       recovers = c.self.invariant.recovers;

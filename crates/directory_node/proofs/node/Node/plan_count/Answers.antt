@@ -17,5 +17,6 @@ unreachable-requires c =
     let there = (its_recovery node c.args.report.now.range c.self.invariant piece).there in
     let start : c.start.result ≡ c.args.report.now.range.start = c.start.ensures ∙ ap (λ (r : Range). r.start) c.range.ensures in
     let none : lookup (is_at (nat_cmp c.args.report.now.range.start)) c.self.inside.recoveries.entries ≡ None =
-    ap (λ (s : ℕ). lookup (is_at (nat_cmp s)) c.self.inside.recoveries.entries) (sym start) ∙ sym c.get.ensures.value ∙ ap (λ o. option_copied o) c.in_default.is in
+    ap (λ (s : ℕ). lookup (is_at (nat_cmp s)) c.self.inside.recoveries.entries) (sym start) ∙ sym c.get.ensures.value
+    ∙ ap (λ o. option_copied o) c.in_default.is in
     cc (none, there)

@@ -2,7 +2,7 @@ use Rattle.std.proofs.Common.{◌≡◌, sym, subst, ap, ◌∙◌, ◌++◌, �
 use Rattle.std.proofs.lemmas.Result.{IfOk-weaker}
 use Rattle.ring_range.specs.Range.{Range}
 use Rattle.directory_rules.specs.declared.Effect.TheVariants.{Installed}
-use Rattle.directory_rules.specs.Letter.{Done_letter}
+use Rattle.directory_rules.specs.State.{Done_letter}
 use Rattle.directory_rules.specs.Table.{table_of}
 use Rattle.directory_rules.specs.Transfer.{answer_to, gathered_by, with_settled}
 use Rattle.grain_partition.specs.Holdings.{HasPiece}
@@ -36,8 +36,10 @@ returns-clause-fits c =
 
 pub returns-clause-one : goal.returns-clause-one
 returns-clause-one c =
-    ap (λ o. length (gathered_by o c.args.letter.now c.args.page.now.range c.args.self.now).letters) (has_all c.args.gathering.now c.args.page.now c.requires.complete)
+    ap (λ o. length (gathered_by o c.args.letter.now c.args.page.now.range c.args.self.now).letters)
+    (has_all c.args.gathering.now c.args.page.now c.requires.complete)
 
 pub returns-in_err-entries-clause-one : goal.returns-in_err-entries-clause-one
 returns-in_err-entries-clause-one c =
-    ap (λ o. length (gathered_by o c.args.letter.now c.args.page.now.range c.args.self.now).letters) (has_all c.args.gathering.now c.args.page.now c.requires.complete)
+    ap (λ o. length (gathered_by o c.args.letter.now c.args.page.now.range c.args.self.now).letters)
+    (has_all c.args.gathering.now c.args.page.now c.requires.complete)

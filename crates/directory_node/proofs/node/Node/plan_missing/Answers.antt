@@ -1,8 +1,7 @@
 use Rattle.std.proofs.Common.{◌≡◌, true, sym, ap, ◌∙◌}
 use Rattle.std.specs.Prelude.{map}
 use Rattle.directory_rules.specs.declared.Effect.TheVariants.{Recovering}
-use Rattle.directory_rules.specs.Letter.{Query_letter}
-use Rattle.directory_rules.specs.Node.{Node}
+use Rattle.directory_rules.specs.State.{Query_letter, Node}
 use Rattle.directory_rules.specs.Recovery.{new_recovery}
 use Rattle.directory_rules.specs.Sent.{letter_to}
 use Rattle.directory_rules.specs.Transfer.{awaits}

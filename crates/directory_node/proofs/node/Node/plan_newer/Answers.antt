@@ -20,12 +20,15 @@ returns-clause-whatever c = λ places.
     let its = c.in_ok-sight.ensures in
     let moved : sight.transition.arcs ≡ c.args.transition.now.arcs = ap (λ (t : TransitionValue). t.arcs) its.transition in
     let pieces : c.in_ok-pieces.pieces.entries ≡ pieces_seen sight.next node.settings.hashing sight.view node.host.silo node.holding.pieces sight.transition.arcs =
-    c.in_ok-pieces.ensures.exact ∙ (λ i. pieces_seen (sym its.next i) node.settings.hashing (sym its.view i) node.host.silo node.holding.pieces ((c.arcs.ensures ∙ sym moved) i)) in
+    c.in_ok-pieces.ensures.exact ∙ (λ i. pieces_seen (sym its.next i) node.settings.hashing (sym its.view i) node.host.silo
+    node.holding.pieces ((c.arcs.ensures ∙ sym moved) i)) in
     let lent = c.deref.ensures in
-    seen_by_is node sight its.fits c.args.before.now c.args.view.now places c.args.transition.now c.in_ok-letters.letters.items c.seen_effect.result
+    seen_by_is node sight its.fits c.args.before.now c.args.view.now places c.args.transition.now c.in_ok-letters.letters.items
+    c.seen_effect.result
     (its.next ∙ c.is_next-next.ensures) its.view its.transition
     (c.in_ok-letters.ensures
-    ∙ (λ i. wants_of (ahead (lent i) node) (pieces i) ++ flat_map (λ e. request_letters (ahead (lent i) node) e.0 e.1) (outstanding (renewed node.host)))
+    ∙ (λ i. wants_of (ahead (lent i) node) (pieces i) ++ flat_map (λ e. request_letters (ahead (lent i) node) e.0 e.1)
+    (outstanding (renewed node.host)))
     ∙ letters_are node sight its.fits)
     (c.seen_effect.ensures ∙ ap (λ b. cond b Next Skip) c.is_next-next.ensures)
 

@@ -3,7 +3,8 @@ use Rattle.std.specs.Prelude.{Ok, Err}
 use Rattle.std.proofs.lemmas.Result.{IfOk-weaker}
 use Rattle.ring_range.specs.Range.{Range}
 use Rattle.directory_rules.specs.declared.Effect.TheVariants.{Refused}
-use Rattle.directory_rules.specs.Gatherings.{Gathering, gathered, new_gathering}
+use Rattle.directory_rules.specs.State.{Gathering}
+use Rattle.directory_rules.specs.Gatherings.{gathered, new_gathering}
 use Rattle.directory_rules.specs.Sent.{gathering_of}
 use Rattle.directory_rules.specs.Step.{Stepped}
 use Rattle.directory_rules.specs.Table.{rise_by_grain}
@@ -87,8 +88,14 @@ returns-in-Err-WrongDigest-clause-planned c =
     let page = c.args.page.now in
     let letter = c.args.letter.now in
     let wrong : progress_of (gathered c.args.gathering.now page) ≡ Err 701 =
-    subst (λ (fault : GatheringError). IsRefused (progress_of (gathered c.args.gathering.now page)) fault) c.in-Err-WrongDigest.field-0-is c.in-Err-WrongDigest.ensures.refused in
+    subst (λ (fault : GatheringError). IsRefused (progress_of (gathered c.args.gathering.now page)) fault) c.in-Err-WrongDigest.field-0-is
+    c.in-Err-WrongDigest.ensures.refused in
     c.silent.ensures.planned node
-    ∙ ap (λ (r : Range). record { node = with_gathering node (new_gathering (gathering_of node r).version r); letters = []; effect = Refused 701 }) c.range.ensures
+    ∙ ap (λ (r : Range). record {
+      node = with_gathering node (new_gathering (gathering_of node r).version r);
+      letters = [];
+      effect = Refused
+          701;
+    }) c.range.ensures
     ∙ anew_planned node page letter (ap (λ (g : Gathering). progress_of (gathered g page)) (sym c.requires.its) ∙ wrong)
     ∙ sym (paged_is node letter page (sym c.is_page_awaited.ensures ∙ c.if-not-is_page_awaited.false))

@@ -6,4 +6,5 @@ use Rattle.directory_node.proofs.node.Node.plan_page.Goals as goal
 
 pub plan_next_page-requires-clause-rises : goal.plan_next_page-requires-clause-rises
 plan_next_page-requires-clause-rises c =
-    found_rises c.self.inside.gatherings.entries (is_at (nat_cmp c.start.result)) c.in-Some.gathering.now c.self.invariant.rising (sym c.in-Some.ensures.value)
+    found_rises c.self.inside.gatherings.entries (is_at (nat_cmp c.start.result)) c.in-Some.gathering.now c.self.invariant.rising
+    (sym c.in-Some.ensures.value)

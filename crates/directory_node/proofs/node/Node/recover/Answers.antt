@@ -4,8 +4,7 @@ use Rattle.std.specs.BTreeMap.{insert_entry, is_at}
 use Rattle.std.specs.Ordering.{nat_cmp}
 use Rattle.ring_range.specs.Range.{Range}
 use Rattle.directory_rules.specs.Answer.{with_piece}
-use Rattle.directory_rules.specs.Piece.{Piece, Holding}
-use Rattle.directory_rules.specs.Gatherings.{Gathering}
+use Rattle.directory_rules.specs.State.{Piece, Holding, Gathering}
 use Rattle.directory_rules.specs.Table.{rise_by_grain}
 use Rattle.directory_rules.specs.declared.PieceState.TheVariants.{Recovering}
 use Rattle.node_plans.specs.Node.{HaveRecoveries}
@@ -27,8 +26,12 @@ invariant_of-self-2 c =
     record {
       cached = c.self.invariant.cached;
       recovers = subst (λ l. HaveRecoveries l c.insert.new.self.entries) (sym is)
-          (subst (λ l. HaveRecoveries pieces l) (sym put) (recovering_puts piece c.args.recovery inside.holding.pieces inside.recoveries.entries refl c.self.invariant.recovers));
-      rising = subst (λ l. All (λ e. rise_by_grain e.1.entries ≡ true) l) (sym c.remove.ensures.entries) (all_but_one (λ (e : ℕ × Gathering). rise_by_grain e.1.entries ≡ true) (is_at (nat_cmp c.start-2.result)) inside.gatherings.entries c.self.invariant.rising);
+          (subst (λ l. HaveRecoveries pieces l) (sym put)
+          (recovering_puts piece c.args.recovery inside.holding.pieces inside.recoveries.entries refl c.self.invariant.recovers));
+      rising =
+          subst (λ l. All (λ e. rise_by_grain e.1.entries ≡ true) l) (sym c.remove.ensures.entries)
+          (all_but_one (λ (e : ℕ × Gathering). rise_by_grain e.1.entries ≡ true) (is_at (nat_cmp c.start-2.result))
+          inside.gatherings.entries c.self.invariant.rising);
       shelved = c.self.invariant.shelved;
     }
 

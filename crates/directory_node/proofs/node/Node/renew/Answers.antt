@@ -1,6 +1,6 @@
 use Rattle.std.proofs.Common.{length, sym, ap, ◌∙◌}
 use Rattle.directory_rules.specs.Host.{has_numbers, outstanding}
-use Rattle.directory_rules.specs.Node.{Node}
+use Rattle.directory_rules.specs.State.{Node}
 use Rattle.host_activations.specs.Renewal.{renewal_of}
 use Rattle.node_plans.proofs.Numbers.{numbers_fit}
 use Rattle.directory_node.proofs.node.Node.renew.Goals as goal

@@ -1,7 +1,6 @@
 use Rattle.std.proofs.Common.{◌≡◌, length, sym, ap, subst, ◌∙◌, []}
 use Rattle.directory_rules.specs.Host.{has_numbers, outstanding}
-use Rattle.directory_rules.specs.Node.{Node}
-use Rattle.directory_rules.specs.Piece.{Holding}
+use Rattle.directory_rules.specs.State.{Node, Holding}
 use Rattle.directory_rules.specs.Sight.{pieces_after}
 use Rattle.grain_partition.specs.Holdings.{ArePieces}
 use Rattle.host_activations.specs.Renewal.{renewal_of}
@@ -14,7 +13,8 @@ use Rattle.directory_node.proofs.node.Node.see.Goals as goal
 
 pub see_on_shelf-requires-clause-behind : goal.see_on_shelf-requires-clause-behind
 see_on_shelf-requires-clause-behind c =
-    behind (node_of c.self.inside) c.args.sight (subst (λ (n : Node). FitsSight c.args.sight n) (sym c.self.view_is) c.requires.fits) c.self.invariant c.sealed_comes_behind.ensures c.in_order.ensures
+    behind (node_of c.self.inside) c.args.sight (subst (λ (n : Node). FitsSight c.args.sight n) (sym c.self.view_is) c.requires.fits)
+    c.self.invariant c.sealed_comes_behind.ensures c.in_order.ensures
 
 pub renew-requires-clause-own : goal.renew-requires-clause-own
 renew-requires-clause-own c = c.requires.fits.renewal.own ∙ ap (λ (n : Node). renewal_of n.host) (sym c.self.view_is)
@@ -31,7 +31,12 @@ invariant_of-self c =
     let sight = c.args.sight in
     let fits = subst (λ (n : Node). FitsSight sight n) (sym c.self.view_is) c.requires.fits in
     let holding : c.see_in_holding-room.new.holding ≡ (seen_by sight node).holding = c.in-Ok.ensures.seen
-    ∙ (λ i. record { seen = sight.view.version; served = []; pieces = pieces_after sight.next (c.hashing-hashing.ensures i) sight.view (c.silo-silo.ensures i) node.holding.pieces sight.transition.arcs }) in
+    ∙ (λ i. record {
+      seen = sight.view.version;
+      served = [];
+      pieces = pieces_after sight.next (c.hashing-hashing.ensures i) sight.view
+          (c.silo-silo.ensures i) node.holding.pieces sight.transition.arcs;
+    }) in
     subst (λ (n : Node). IsNode n) (λ i. record node {
       view = sight.view;
       ring = sym c.into_ring.ensures i;
@@ -49,7 +54,12 @@ returns-in-Ok-clause-made c =
     let node = node_of c.self.inside in
     let sight = c.args.sight in
     let holding : c.see_in_holding-room.new.holding ≡ (seen_by sight node).holding = c.in-Ok.ensures.seen
-    ∙ (λ i. record { seen = sight.view.version; served = []; pieces = pieces_after sight.next (c.hashing-hashing.ensures i) sight.view (c.silo-silo.ensures i) node.holding.pieces sight.transition.arcs }) in
+    ∙ (λ i. record {
+      seen = sight.view.version;
+      served = [];
+      pieces = pieces_after sight.next (c.hashing-hashing.ensures i) sight.view
+          (c.silo-silo.ensures i) node.holding.pieces sight.transition.arcs;
+    }) in
     (λ i. record node {
       view = sight.view;
       ring = c.into_ring.ensures i;

@@ -11,5 +11,7 @@ invariant_of-self-2 c =
       cached = c.self.invariant.cached;
       shelved = c.self.invariant.shelved;
       rising = c.self.invariant.rising;
-      recovers = subst (λ pieces. HaveRecoveries pieces c.self.inside.recoveries.entries) is (answered_keeps c.self.inside.holding c.args.request.now c.self.inside.recoveries.entries c.self.invariant.recovers);
+      recovers =
+          subst (λ pieces. HaveRecoveries pieces c.self.inside.recoveries.entries) is
+          (answered_keeps c.self.inside.holding c.args.request.now c.self.inside.recoveries.entries c.self.invariant.recovers);
     }

@@ -4,8 +4,7 @@ use Rattle.std.specs.Map.{remove_entry}
 use Rattle.std.specs.BTreeMap.{is_at}
 use Rattle.std.specs.Ordering.{nat_cmp}
 use Rattle.directory_rules.specs.Answer.{with_piece}
-use Rattle.directory_rules.specs.Piece.{Piece, Holding}
-use Rattle.directory_rules.specs.Gatherings.{Gathering}
+use Rattle.directory_rules.specs.State.{Piece, Holding, Gathering}
 use Rattle.directory_rules.specs.Table.{rise_by_grain}
 use Rattle.directory_rules.specs.declared.PieceState.TheVariants.{Settled}
 use Rattle.node_plans.specs.Node.{HaveRecoveries}
@@ -24,7 +23,11 @@ invariant_of-self c =
     record {
       cached = c.self.invariant.cached;
       recovers = subst (λ l. HaveRecoveries l c.remove-2.new.self.entries) (sym is)
-          (subst (λ l. HaveRecoveries pieces l) (ap (λ (s : ℕ). remove_entry (is_at (nat_cmp s)) inside.recoveries.entries) (sym c.start-2.ensures) ∙ sym c.remove-2.ensures.entries) kept);
-      rising = subst (λ l. All (λ e. rise_by_grain e.1.entries ≡ true) l) (sym c.remove.ensures.entries) (all_but_one (λ (e : ℕ × Gathering). rise_by_grain e.1.entries ≡ true) (is_at (nat_cmp c.start.result)) inside.gatherings.entries c.self.invariant.rising);
+          (subst (λ l. HaveRecoveries pieces l) (ap (λ (s : ℕ). remove_entry (is_at (nat_cmp s)) inside.recoveries.entries)
+          (sym c.start-2.ensures) ∙ sym c.remove-2.ensures.entries) kept);
+      rising =
+          subst (λ l. All (λ e. rise_by_grain e.1.entries ≡ true) l) (sym c.remove.ensures.entries)
+          (all_but_one (λ (e : ℕ × Gathering). rise_by_grain e.1.entries ≡ true) (is_at (nat_cmp c.start.result))
+          inside.gatherings.entries c.self.invariant.rising);
       shelved = c.self.invariant.shelved;
     }

@@ -1,12 +1,11 @@
 use Rattle.std.proofs.Common.{◌≡◌, refl, sym, subst, ap, ◌∙◌, ℕ}
 use Rattle.std.specs.Prelude.{All, true}
 use Rattle.std.specs.Map.{remove_entry}
-use Rattle.directory_rules.specs.Gatherings.{Gathering}
+use Rattle.directory_rules.specs.State.{Gathering, Piece, Holding}
 use Rattle.directory_rules.specs.Table.{rise_by_grain}
 use Rattle.std.specs.BTreeMap.{is_at}
 use Rattle.std.specs.Ordering.{nat_cmp}
 use Rattle.directory_rules.specs.Answer.{with_piece}
-use Rattle.directory_rules.specs.Piece.{Piece, Holding}
 use Rattle.directory_rules.specs.declared.PieceState.TheVariants.{Settled}
 use Rattle.node_plans.specs.Node.{HaveRecoveries}
 use Rattle.node_plans.proofs.Kept.{settled_removes}
@@ -24,7 +23,11 @@ invariant_of-self c =
     record {
       cached = c.self.invariant.cached;
       shelved = c.self.invariant.shelved;
-      rising = subst (λ l. All (λ e. rise_by_grain e.1.entries ≡ true) l) (sym c.remove-in-Some.ensures.entries) (all_but_one (λ (e : ℕ × Gathering). rise_by_grain e.1.entries ≡ true) (is_at (nat_cmp c.start-in-Some.result)) inside.gatherings.entries c.self.invariant.rising);
+      rising =
+          subst (λ l. All (λ e. rise_by_grain e.1.entries ≡ true) l) (sym c.remove-in-Some.ensures.entries)
+          (all_but_one (λ (e : ℕ × Gathering). rise_by_grain e.1.entries ≡ true) (is_at (nat_cmp c.start-in-Some.result))
+          inside.gatherings.entries c.self.invariant.rising);
       recovers = subst (λ l. HaveRecoveries l c.remove.new.self.entries) (sym is)
-          (subst (λ l. HaveRecoveries pieces l) (ap (λ (s : ℕ). remove_entry (is_at (nat_cmp s)) inside.recoveries.entries) (sym c.start.ensures) ∙ sym c.remove.ensures.entries) kept);
+          (subst (λ l. HaveRecoveries pieces l) (ap (λ (s : ℕ). remove_entry (is_at (nat_cmp s)) inside.recoveries.entries)
+          (sym c.start.ensures) ∙ sym c.remove.ensures.entries) kept);
     }

@@ -21,8 +21,10 @@ use Rattle.directory_silo.proofs.silo.Silo.leaving.Goals.{in-Ok, in-Err}
 pub invariant_of-self : goal.invariant_of-self
 invariant_of-self c =
     elim c.match-leave.branch [
-      | in-Ok w ↦ change_whole (silo_of c.self.inside) (Leave c.args.silo.now) _ c.self.invariant (w.in-Ok.ensures.left c.self.inside.node.settings)
-      | in-Err w ↦ subst (λ (m : Membership). IsWhole (record (silo_of c.self.inside) { membership = m })) (sym w.in-Err.ensures.unchanged) c.self.invariant
+      | in-Ok w ↦ change_whole (silo_of c.self.inside) (Leave c.args.silo.now) _ c.self.invariant
+          (w.in-Ok.ensures.left c.self.inside.node.settings)
+      | in-Err w ↦ subst (λ (m : Membership). IsWhole (record (silo_of c.self.inside) { membership = m })) (sym w.in-Err.ensures.unchanged)
+          c.self.invariant
     ]
 
 pub returns-clause-told : goal.returns-clause-told
@@ -33,14 +35,22 @@ returns-clause-told c =
     let next = sym c.is_next.ensures ∙ c.if-not-is_next.false in
     elim c.match-leave.branch [
       | in-Ok w ↦
-          subst (λ (r : Result News SiloRefusal). Follows (heard_as (silo_of (record c.self.inside { membership = c.leave.new.self }))) silo_refusal_number IsNever (told c.args.self.now.node.settings c.args.self.now.membership c.args.version (Leave c.args.silo.now)) r)
+          subst (λ (r : Result News SiloRefusal). Follows (heard_as (silo_of (record c.self.inside { membership = c.leave.new.self })))
+          silo_refusal_number IsNever (told c.args.self.now.node.settings c.args.self.now.membership c.args.version
+          (Leave c.args.silo.now)) r)
           (sym w.result-is)
-          (subst (λ (s : SiloValue). told s.node.settings s.membership c.args.version (Leave c.args.silo.now) ≡ Ok (record { membership = c.leave.new.self; news = Made })) c.self.view_is
+          (subst (λ (s : SiloValue). told s.node.settings s.membership c.args.version (Leave c.args.silo.now) ≡ Ok
+          (record { membership = c.leave.new.self; news = Made })) c.self.view_is
           (made_next settings m c.args.version (Leave c.args.silo.now) newer next c.leave.new.self (w.in-Ok.ensures.left settings)))
       | in-Err w ↦
-          subst (λ (r : Result News SiloRefusal). Follows (heard_as (silo_of (record c.self.inside { membership = c.leave.new.self }))) silo_refusal_number IsNever (told c.args.self.now.node.settings c.args.self.now.membership c.args.version (Leave c.args.silo.now)) r)
+          subst (λ (r : Result News SiloRefusal). Follows (heard_as (silo_of (record c.self.inside { membership = c.leave.new.self })))
+          silo_refusal_number IsNever (told c.args.self.now.node.settings c.args.self.now.membership c.args.version
+          (Leave c.args.silo.now)) r)
           (sym w.result-is)
-          (subst (λ (n : Option ℕ). RefusesBy IsNever n (told c.args.self.now.node.settings c.args.self.now.membership c.args.version (Leave c.args.silo.now))) (sym w.of_change.ensures.number)
-          (subst (λ (s : SiloValue). RefusesBy IsNever (change_refusal_number w.in-Err.refusal) (told s.node.settings s.membership c.args.version (Leave c.args.silo.now))) c.self.view_is
-          (refused_next settings m c.args.version (Leave c.args.silo.now) newer next (change_refusal_number w.in-Err.refusal) (w.in-Err.ensures.refused settings))))
+          (subst (λ (n : Option ℕ). RefusesBy IsNever n (told c.args.self.now.node.settings c.args.self.now.membership c.args.version
+          (Leave c.args.silo.now))) (sym w.of_change.ensures.number)
+          (subst (λ (s : SiloValue). RefusesBy IsNever (change_refusal_number w.in-Err.refusal)
+          (told s.node.settings s.membership c.args.version (Leave c.args.silo.now))) c.self.view_is
+          (refused_next settings m c.args.version (Leave c.args.silo.now) newer next (change_refusal_number w.in-Err.refusal)
+          (w.in-Err.ensures.refused settings))))
     ]

@@ -6,4 +6,5 @@ use Rattle.directory_silo.proofs.silo.Silo.takes.Goals as goal
 
 pub take-requires-clause-leaves : goal.take-requires-clause-leaves
 take-requires-clause-leaves c =
-    input_kept (silo_of c.self.inside) c.args.self.now c.self.view_is (input_of c.args.input.now) (λ node. step_by node c.in-Ok.plan) c.self.invariant c.requires c.in-Ok.ensures.planned
+    input_kept (silo_of c.self.inside) c.args.self.now c.self.view_is (input_of c.args.input.now) (λ node. step_by node c.in-Ok.plan)
+    c.self.invariant c.requires c.in-Ok.ensures.planned

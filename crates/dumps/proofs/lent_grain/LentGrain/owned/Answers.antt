@@ -8,7 +8,11 @@ overflow_cast-result c =
     omega arith
 
 pub invariant_of-result : goal.invariant_of-result
-invariant_of-result c = spells c.args.grain.now _ _ c.in_range.ensures (sym (ap length c.kind.ensures)) (sym (c.in_ok-name.ensures.items_if_clones_equal (λ x y is. is) ∙ c.as_bytes.ensures.text))
+invariant_of-result c =
+    spells c.args.grain.now _ _ c.in_range.ensures (sym (ap length c.kind.ensures))
+    (sym (c.in_ok-name.ensures.items_if_clones_equal (λ x y is. is) ∙ c.as_bytes.ensures.text))
 
 pub returns : goal.returns
-returns c = spelled_by c.args.grain.now _ _ (sym (ap length c.kind.ensures)) (sym (c.in_ok-name.ensures.items_if_clones_equal (λ x y is. is) ∙ c.as_bytes.ensures.text))
+returns c =
+    spelled_by c.args.grain.now _ _ (sym (ap length c.kind.ensures))
+    (sym (c.in_ok-name.ensures.items_if_clones_equal (λ x y is. is) ∙ c.as_bytes.ensures.text))

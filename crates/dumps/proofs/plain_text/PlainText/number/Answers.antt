@@ -14,6 +14,7 @@ returns-clause-taken c =
     let end = c.digits_end-end.result in
     let parts = sym (ap (λ back. take end begun ++ back) (rest_from begun end) ∙ take-append-drop end begun) in
     number_told _ _ _ _
-    (sym c.self.view_is ∙ number_if c.self.inside.place c.self.inside.rest.now begun (take end begun) (take (length begun - end) (drop end begun)) c.in-Ok.value
+    (sym c.self.view_is ∙ number_if c.self.inside.place c.self.inside.rest.now begun (take end begun)
+    (take (length begun - end) (drop end begun)) c.in-Ok.value
     c.in-Some.ensures parts found.1 (omega (arith, most)) (sym c.if-not-ends_value.ensures))
     (number_of-decimal c.in-Ok.value (omega (arith, most)))

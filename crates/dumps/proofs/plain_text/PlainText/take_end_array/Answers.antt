@@ -7,4 +7,5 @@ pub returns-clause-taken : goal.returns-clause-taken
 returns-clause-taken c =
     let rest = c.in-Some.rest.now in
     ap after_end_array
-    (sym c.self.view_is ∙ at_blanks c.self.inside.place c.self.inside.rest.now (93 ∷ rest) c.in-Some.ensures ∙ array_closed c.self.inside.place rest)
+    (sym c.self.view_is ∙ at_blanks c.self.inside.place c.self.inside.rest.now (93 ∷ rest) c.in-Some.ensures
+    ∙ array_closed c.self.inside.place rest)

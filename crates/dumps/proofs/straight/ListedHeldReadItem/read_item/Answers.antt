@@ -27,7 +27,10 @@ returns c =
       object r.found,
       r.at,
       held_told r.found _ _ _ (r.so_many ∙ (λ i. filled (value-1 i) + (filled (value-2 i) + (filled (value-3 i) + 0))))
-          (member_tells _ activation_in (λ x. x) (λ value x is. is) Activation _ m _ _ r.found begun-1 (first_same _ _ _ _ names-1) r.stand.0 value-1)
-          (member_tells _ grain_in (λ x. x) (λ value x is. is) Grain _ m.others _ _ r.found begun-2 (first_same _ _ _ _ names-2) r.stand.2.0 value-2)
-          (member_tells _ phase_in phase_of (λ value x is. is) Phase _ m.others.others _ _ r.found begun-3 (first_same _ _ _ _ names-3) r.stand.2.2.0 value-3),
+          (member_tells _ activation_in (λ x. x) (λ value x is. is) Activation _ m _ _ r.found begun-1 (first_same _ _ _ _ names-1)
+          r.stand.0 value-1)
+          (member_tells _ grain_in (λ x. x) (λ value x is. is) Grain _ m.others _ _ r.found begun-2 (first_same _ _ _ _ names-2) r.stand.2.0
+          value-2)
+          (member_tells _ phase_in phase_of (λ value x is. is) Phase _ m.others.others _ _ r.found begun-3 (first_same _ _ _ _ names-3)
+          r.stand.2.2.0 value-3),
     )

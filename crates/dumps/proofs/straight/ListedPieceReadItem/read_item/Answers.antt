@@ -30,9 +30,14 @@ returns c =
     let names-4 = rest_same _ _ _ _ names-3 in (
       object r.found,
       r.at,
-      piece_told r.found _ _ _ _ (r.so_many ∙ (λ i. filled (value-1 i) + (filled (value-2 i) + (filled (value-3 i) + (filled (value-4 i) + 0)))))
-          (member_tells _ (list_in entry_in) (λ list. list.items) (λ value x is. is) Entries _ m _ _ r.found begun-1 (first_same _ _ _ _ names-1) r.stand.0 value-1)
-          (member_tells _ from_in (λ x. x) (λ value x is. is) From _ m.others _ _ r.found begun-2 (first_same _ _ _ _ names-2) r.stand.2.0 value-2)
-          (member_tells _ range_in (λ x. x) (λ value x is. is) Range _ m.others.others _ _ r.found begun-3 (first_same _ _ _ _ names-3) r.stand.2.2.0 value-3)
-          (member_tells _ state_in state_of (λ value x is. is) State _ m.others.others.others _ _ r.found begun-4 (first_same _ _ _ _ names-4) r.stand.2.2.2.0 value-4),
+      piece_told r.found _ _ _ _ (r.so_many ∙ (λ i. filled (value-1 i) +
+          (filled (value-2 i) + (filled (value-3 i) + (filled (value-4 i) + 0)))))
+          (member_tells _ (list_in entry_in) (λ list. list.items) (λ value x is. is) Entries _ m _ _ r.found begun-1
+          (first_same _ _ _ _ names-1) r.stand.0 value-1)
+          (member_tells _ from_in (λ x. x) (λ value x is. is) From _ m.others _ _ r.found begun-2 (first_same _ _ _ _ names-2) r.stand.2.0
+          value-2)
+          (member_tells _ range_in (λ x. x) (λ value x is. is) Range _ m.others.others _ _ r.found begun-3 (first_same _ _ _ _ names-3)
+          r.stand.2.2.0 value-3)
+          (member_tells _ state_in state_of (λ value x is. is) State _ m.others.others.others _ _ r.found begun-4
+          (first_same _ _ _ _ names-4) r.stand.2.2.2.0 value-4),
     )

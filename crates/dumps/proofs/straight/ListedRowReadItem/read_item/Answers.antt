@@ -32,10 +32,15 @@ returns c =
     let names-5 = rest_same _ _ _ _ names-4 in (
       object r.found,
       r.at,
-      row_told r.found _ _ _ _ _ (r.so_many ∙ (λ i. filled (value-1 i) + (filled (value-2 i) + (filled (value-3 i) + (filled (value-4 i) + (filled (value-5 i) + 0))))))
+      row_told r.found _ _ _ _ _ (r.so_many ∙ (λ i. filled (value-1 i) +
+          (filled (value-2 i) + (filled (value-3 i) + (filled (value-4 i) + (filled (value-5 i) + 0))))))
           (member_tells _ number_in (λ x. x) (λ value x is. is) Dead _ m _ _ r.found begun-1 (first_same _ _ _ _ names-1) r.stand.0 value-1)
-          (member_tells _ number_in (λ x. x) (λ value x is. is) Joined _ m.others _ _ r.found begun-2 (first_same _ _ _ _ names-2) r.stand.2.0 value-2)
-          (member_tells _ number_in (λ x. x) (λ value x is. is) Left _ m.others.others _ _ r.found begun-3 (first_same _ _ _ _ names-3) r.stand.2.2.0 value-3)
-          (member_tells _ (list_in number_in) (λ list. list.items) (λ value x is. is) Places _ m.others.others.others _ _ r.found begun-4 (first_same _ _ _ _ names-4) r.stand.2.2.2.0 value-4)
-          (member_tells _ silo_in (λ x. x) (λ value x is. is) Silo _ m.others.others.others.others _ _ r.found begun-5 (first_same _ _ _ _ names-5) r.stand.2.2.2.2.0 value-5),
+          (member_tells _ number_in (λ x. x) (λ value x is. is) Joined _ m.others _ _ r.found begun-2 (first_same _ _ _ _ names-2)
+          r.stand.2.0 value-2)
+          (member_tells _ number_in (λ x. x) (λ value x is. is) Left _ m.others.others _ _ r.found begun-3 (first_same _ _ _ _ names-3)
+          r.stand.2.2.0 value-3)
+          (member_tells _ (list_in number_in) (λ list. list.items) (λ value x is. is) Places _ m.others.others.others _ _ r.found begun-4
+          (first_same _ _ _ _ names-4) r.stand.2.2.2.0 value-4)
+          (member_tells _ silo_in (λ x. x) (λ value x is. is) Silo _ m.others.others.others.others _ _ r.found begun-5
+          (first_same _ _ _ _ names-5) r.stand.2.2.2.2.0 value-5),
     )

@@ -8,4 +8,5 @@ use Rattle.grain_names.proofs.grain_map.GrainMap.apart.Goals as goal
 
 pub returns : goal.returns
 returns g c =
-    subst (λ l. IsDistinct grain_eq (keys_of l)) c.self.view_is (named_apart boxed_str_bytes c.self.inside.map.entries c.self.invariant c.len-len.ensures.unique)
+    subst (λ l. IsDistinct grain_eq (keys_of l)) c.self.view_is
+    (named_apart boxed_str_bytes c.self.inside.map.entries c.self.invariant c.len-len.ensures.unique)

@@ -11,9 +11,11 @@ grain_of-requires g c = name_at boxed_str_bytes c.self.inside.map.entries c.self
 pub returns-in-Some : goal.returns-in-Some
 returns-in-Some g c =
     ap (λ (grain : Grain). Some (grain, c.in-Some.value.now)) c.grain_of.ensures
-    ∙ sym (stands_named boxed_str_bytes c.self.inside.map.entries c.args.index (Some (c.in-Some.name.now, c.in-Some.value.now)) (sym c.in-Some.ensures.entry))
+    ∙ sym (stands_named boxed_str_bytes c.self.inside.map.entries c.args.index (Some (c.in-Some.name.now, c.in-Some.value.now))
+    (sym c.in-Some.ensures.entry))
     ∙ ap (λ l. slice_get l c.args.index) c.self.view_is
 
 pub returns-in-None : goal.returns-in-None
 returns-in-None g c =
-    sym (stands_named boxed_str_bytes c.self.inside.map.entries c.args.index None (sym c.in-None.ensures.entry)) ∙ ap (λ l. slice_get l c.args.index) c.self.view_is
+    sym (stands_named boxed_str_bytes c.self.inside.map.entries c.args.index None (sym c.in-None.ensures.entry))
+    ∙ ap (λ l. slice_get l c.args.index) c.self.view_is

@@ -6,7 +6,9 @@ use Rattle.grain_names.proofs.Changed.{copied_named, copied_names}
 use Rattle.grain_names.proofs.grain_map.GrainMap.copy.Goals as goal
 
 pub invariant_of-result : goal.invariant_of-result
-invariant_of-result g c = copied_names boxed_str_bytes g.V.Clone.is_clone c.self.inside.map.entries c.in_ok-map.map.entries c.in_ok-map.ensures.cases c.self.invariant
+invariant_of-result g c =
+    copied_names boxed_str_bytes g.V.Clone.is_clone c.self.inside.map.entries c.in_ok-map.map.entries c.in_ok-map.ensures.cases
+    c.self.invariant
 
 pub returns : goal.returns
 returns g c =

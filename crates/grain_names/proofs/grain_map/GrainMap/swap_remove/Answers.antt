@@ -10,5 +10,6 @@ pub returns : goal.returns
 returns g c =
     let new = named boxed_str_bytes c.swap_remove_index.new.self.entries in
     subst (λ l. MatchOption (slice_get l c.args.index) (new ≡ l) (λ e. new ≡ swap_remove l c.args.index e)) c.self.view_is
-    (swapped_named boxed_str_bytes c.self.inside.map.entries c.swap_remove_index.new.self.entries c.args.index c.swap_remove_index.result c.swap_remove_index.ensures.entry c.swap_remove_index.ensures.entries
+    (swapped_named boxed_str_bytes c.self.inside.map.entries c.swap_remove_index.new.self.entries c.args.index c.swap_remove_index.result
+    c.swap_remove_index.ensures.entry c.swap_remove_index.ensures.entries
     c.swap_remove_index.ensures.unchanged)

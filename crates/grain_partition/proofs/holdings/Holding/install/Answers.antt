@@ -1,5 +1,5 @@
 use Rattle.std.proofs.Common.{sym, ap, subst}
-use Rattle.directory_rules.specs.Piece.{Piece, Holding}
+use Rattle.directory_rules.specs.State.{Piece, Holding}
 use Rattle.grain_partition.specs.Holdings.{ArePieces, HasPiece}
 use Rattle.grain_partition.proofs.Kept.{pieces-with}
 use Rattle.grain_partition.proofs.holdings.Holding.install.Goals as goal

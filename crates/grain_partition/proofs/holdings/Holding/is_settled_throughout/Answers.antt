@@ -1,6 +1,6 @@
 use Rattle.std.proofs.Common.{subst, sym}
 use Rattle.std.specs.Bool.{Decides}
-use Rattle.directory_rules.specs.Piece.{Holding}
+use Rattle.directory_rules.specs.State.{Holding}
 use Rattle.grain_partition.specs.Settled.{LiesSettled}
 use Rattle.grain_partition.proofs.SettledParts.{Decides-was_settled}
 use Rattle.grain_partition.proofs.holdings.Holding.is_settled_throughout.Goals as goal

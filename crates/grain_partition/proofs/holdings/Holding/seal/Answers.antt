@@ -1,5 +1,5 @@
 use Rattle.std.proofs.Common.{◌∙◌, ap}
-use Rattle.directory_rules.specs.Piece.{Holding}
+use Rattle.directory_rules.specs.State.{Holding}
 use Rattle.directory_rules.specs.Sight.{sealed}
 use Rattle.grain_table.proofs.Within.{if_ok}
 use Rattle.grain_partition.proofs.BySilo.{own_sealed}

@@ -5,7 +5,7 @@ use Rattle.std.specs.Ordering.{nat_cmp}
 use Rattle.ring_range.specs.Range.{Range}
 use Rattle.directory_rules.specs.declared.act.Request.{Request}
 use Rattle.directory_rules.specs.Answer.{is_numbered, serving_piece}
-use Rattle.directory_rules.specs.Piece.{Piece}
+use Rattle.directory_rules.specs.State.{Piece}
 use Rattle.grain_partition.proofs.ServedFrom.{serving_found, answer_after}
 use Rattle.grain_partition.proofs.holdings.Holding.serve.Goals as goal
 

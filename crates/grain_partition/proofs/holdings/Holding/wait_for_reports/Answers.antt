@@ -1,5 +1,5 @@
 use Rattle.std.proofs.Common.{rules, sym, subst, []}
-use Rattle.directory_rules.specs.Piece.{Holding}
+use Rattle.directory_rules.specs.State.{Holding}
 use Rattle.directory_rules.specs.declared.PieceState.TheVariants.{Recovering}
 use Rattle.grain_partition.specs.Holdings.{ArePieces, HasPiece}
 use Rattle.grain_partition.proofs.Kept.{pieces-with}

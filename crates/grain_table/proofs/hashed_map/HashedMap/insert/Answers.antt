@@ -10,7 +10,8 @@ pub invariant_of-self-2 : goal.invariant_of-self-2
 invariant_of-self-2 c =
     let spelled = c.in_ok-kept.ensures.ok ∙ c.as_slice.ensures ∙ c.of-bytes.ensures.bytes in
     let is = subst IsKeyBytes (sym spelled) c.of-bytes.ensures.are in
-    subst (AreKeyBytes boxed_slice_items) (sym c.in_ok-insert.ensures.entries) (put_are boxed_slice_items c.in_ok-kept.kept c.args.activation is c.self.inside.map.entries c.self.invariant)
+    subst (AreKeyBytes boxed_slice_items) (sym c.in_ok-insert.ensures.entries)
+    (put_are boxed_slice_items c.in_ok-kept.kept c.args.activation is c.self.inside.map.entries c.self.invariant)
 
 pub returns-clause-entries : goal.returns-clause-entries
 returns-clause-entries c =

@@ -5,4 +5,5 @@ use Rattle.grain_table.proofs.Stretches.{all_stand}
 use Rattle.grain_table.proofs.hashed_map.HashedMap.iter.Goals as goal
 
 pub returns : goal.returns
-returns c = ap (hashed_in boxed_slice_items) (c.range.ensures.between tt ∙ all_stand boxed_slice_items c.self.inside.map.entries) ∙ c.self.view_is
+returns c =
+    ap (hashed_in boxed_slice_items) (c.range.ensures.between tt ∙ all_stand boxed_slice_items c.self.inside.map.entries) ∙ c.self.view_is

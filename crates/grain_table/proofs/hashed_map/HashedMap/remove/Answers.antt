@@ -8,7 +8,9 @@ use Rattle.grain_table.proofs.KeysRead.{removed_are, removed_read}
 use Rattle.grain_table.proofs.hashed_map.HashedMap.remove.Goals as goal
 
 pub invariant_of-self : goal.invariant_of-self
-invariant_of-self c = subst (AreKeyBytes boxed_slice_items) (sym c.remove.ensures.entries) (removed_are boxed_slice_items _ c.self.inside.map.entries c.self.invariant)
+invariant_of-self c =
+    subst (AreKeyBytes boxed_slice_items) (sym c.remove.ensures.entries)
+    (removed_are boxed_slice_items _ c.self.inside.map.entries c.self.invariant)
 
 pub returns : goal.returns
 returns c =

@@ -11,12 +11,15 @@ use Rattle.grain_table.proofs.hashed_map.HashedMap.remove_dead.Goals as goal
 pub invariant_of-self : goal.invariant_of-self
 invariant_of-self c =
     let left = filter_same_pairs _ (λ e. not (is_dead_in c.args.view.now e.1.silo)) _ (λ k v b w f' t. search rules) c.self.inside.map.entries c.retain.new.self.entries c.retain.ensures.filtered in
-    subst (AreKeyBytes boxed_slice_items) (sym left) (passed_are boxed_slice_items (λ e. not (is_dead_in c.args.view.now e.1.silo)) c.self.inside.map.entries c.self.invariant)
+    subst (AreKeyBytes boxed_slice_items) (sym left)
+    (passed_are boxed_slice_items (λ e. not (is_dead_in c.args.view.now e.1.silo)) c.self.inside.map.entries c.self.invariant)
 
 pub returns : goal.returns
 returns c =
     let left = filter_same_pairs _ (λ e. not (is_dead_in c.args.view.now e.1.silo)) _ (λ k v b w f' t. search rules) c.self.inside.map.entries c.retain.new.self.entries c.retain.ensures.filtered in
     ap (hashed_in boxed_slice_items) left
-    ∙ passed_read boxed_slice_items (λ e. not (is_dead_in c.args.view.now e.1.silo)) (λ e. not (is_dead_in c.args.view.now e.1.silo)) c.self.inside.map.entries
-    (each_key boxed_slice_items (λ e. not (is_dead_in c.args.view.now e.1.silo) ≡ not (is_dead_in c.args.view.now e.1.silo)) (λ e is. refl) c.self.inside.map.entries c.self.invariant)
+    ∙ passed_read boxed_slice_items (λ e. not (is_dead_in c.args.view.now e.1.silo)) (λ e. not (is_dead_in c.args.view.now e.1.silo))
+    c.self.inside.map.entries
+    (each_key boxed_slice_items (λ e. not (is_dead_in c.args.view.now e.1.silo) ≡ not (is_dead_in c.args.view.now e.1.silo)) (λ e is. refl)
+    c.self.inside.map.entries c.self.invariant)
     ∙ ap (λ (es : Hashed). filter (λ e. not (is_dead_in c.args.view.now e.1.silo)) es) c.self.view_is

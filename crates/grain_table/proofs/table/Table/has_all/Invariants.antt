@@ -7,4 +7,5 @@ use Rattle.grain_table.proofs.table.Table.has_all.Given as goal
 -- all are there exactly where the rest are
 abbrev pub invariant-entries : goal.invariant-entries
 invariant-entries l =
-    AllByRecursion (λ e. entry_at e.0.grain l.self.entries ≡ Some (entry_under e)) l.map ↔ AllByRecursion (λ e. entry_at e.0.grain l.self.entries ≡ Some (entry_under e)) l.key-iterator
+    AllByRecursion (λ e. entry_at e.0.grain l.self.entries ≡ Some (entry_under e)) l.map ↔ AllByRecursion
+    (λ e. entry_at e.0.grain l.self.entries ≡ Some (entry_under e)) l.key-iterator

@@ -11,10 +11,14 @@ use Rattle.grain_table.proofs.table.Table.keep_hashed_into.Goals as goal
 pub invariant_of-self : goal.invariant_of-self
 invariant_of-self c =
     subst (λ (es : Hashed). AreKept c.self.inside.hashing c.self.inside.silos.keys es) (sym c.keep_hashed_into.ensures)
-    (kept_some c.self.inside.hashing c.self.inside.silos.keys (λ e. holds c.args.range.now (hash_grain c.args.hashing e.0.grain)) c.self.inside.map c.self.invariant)
+    (kept_some c.self.inside.hashing c.self.inside.silos.keys (λ e. holds c.args.range.now (hash_grain c.args.hashing e.0.grain))
+    c.self.inside.map c.self.invariant)
 
 pub returns : goal.returns
 returns c =
     ap (λ (es : Hashed). record { hashing = c.self.inside.hashing; entries = by_grain es }) c.keep_hashed_into.ensures
-    ∙ ap (λ table. record { hashing = c.self.inside.hashing; entries = table }) (grains_by_grain c.self.inside.hashing (λ g. holds c.args.range.now (hash_grain c.args.hashing g)) c.self.inside.map c.self.invariant.are)
-    ∙ ap (λ (v : TableValue). record v { entries = filter (λ e. holds c.args.range.now (hash_grain c.args.hashing e.0)) v.entries }) c.self.view_is
+    ∙ ap (λ table. record { hashing = c.self.inside.hashing; entries = table })
+    (grains_by_grain c.self.inside.hashing (λ g. holds c.args.range.now (hash_grain c.args.hashing g)) c.self.inside.map
+    c.self.invariant.are)
+    ∙ ap (λ (v : TableValue). record v { entries = filter (λ e. holds c.args.range.now (hash_grain c.args.hashing e.0)) v.entries })
+    c.self.view_is

@@ -16,5 +16,7 @@ invariant_of-self c =
 pub returns : goal.returns
 returns c =
     ap (λ (es : Hashed). record { hashing = c.self.inside.hashing; entries = by_grain es }) c.keep_in.ensures
-    ∙ ap (λ table. record { hashing = c.self.inside.hashing; entries = table }) (passed_by_grain c.self.inside.hashing (holds c.args.range.now) c.self.inside.map c.self.invariant.are)
-    ∙ ap (λ (v : TableValue). record v { entries = filter (λ e. holds c.args.range.now (hash_grain v.hashing e.0)) v.entries }) c.self.view_is
+    ∙ ap (λ table. record { hashing = c.self.inside.hashing; entries = table })
+    (passed_by_grain c.self.inside.hashing (holds c.args.range.now) c.self.inside.map c.self.invariant.are)
+    ∙ ap (λ (v : TableValue). record v { entries = filter (λ e. holds c.args.range.now (hash_grain v.hashing e.0)) v.entries })
+    c.self.view_is

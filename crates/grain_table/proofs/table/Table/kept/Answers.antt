@@ -16,10 +16,14 @@ returns c =
     c.remove_dead.ensures
     ∙ ap (λ (t : TableValue). record t { entries = filter (λ e. not (is_dead_in c.args.view.now e.1.activation.silo)) t.entries })
     (c.in_ok-table.ensures
-    ∙ ap (λ (t : TableValue). record t { entries = put_in t.entries (filter (λ e. holds c.args.range.now (hash_grain t.hashing e.grain)) (entries_of c.args.self.now.entries)) }) c.new.ensures)
+    ∙ ap (λ (t : TableValue). record t {
+      entries = put_in t.entries
+          (filter (λ e. holds c.args.range.now (hash_grain t.hashing e.grain)) (entries_of c.args.self.now.entries));
+    }) c.new.ensures)
     ∙ ap (λ (v : TableValue). record {
       hashing = v.hashing;
       entries = filter (λ e. not (is_dead_in c.args.view.now e.1.activation.silo))
           (put_in [] (filter (λ e. holds c.args.range.now (hash_grain v.hashing e.grain)) (entries_of c.args.self.now.entries)));
     }) c.self.view_is
-    ∙ ap (λ entries. record c.args.self.now { entries = entries }) (kept_from c.args.self.now.hashing c.args.view.now c.args.range.now c.args.self.now.entries is)
+    ∙ ap (λ entries. record c.args.self.now { entries = entries })
+    (kept_from c.args.self.now.hashing c.args.view.now c.args.range.now c.args.self.now.entries is)

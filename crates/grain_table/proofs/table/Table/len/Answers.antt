@@ -5,4 +5,5 @@ use Rattle.grain_table.proofs.table.Table.len.Goals as goal
 
 pub returns : goal.returns
 returns c =
-    c.len.ensures ∙ length_by_grain c.self.inside.hashing c.self.inside.map c.self.invariant.are ∙ ap (λ (v : TableValue). length v.entries) c.self.view_is
+    c.len.ensures ∙ length_by_grain c.self.inside.hashing c.self.inside.map c.self.invariant.are
+    ∙ ap (λ (v : TableValue). length v.entries) c.self.view_is

@@ -9,10 +9,12 @@ use Rattle.grain_table.proofs.table.Table.lies_in.Goals as goal
 pub returns-then-same : goal.returns-then-same
 returns-then-same c =
     c.lies_under_hashes.ensures
-    ∙ ap (λ hashing. lie_in hashing c.args.range.now (entries_of c.args.self.now.entries)) (sym (ap (λ (v : TableValue). v.hashing) c.self.view_is) ∙ c.same.ensures.0 c.if-same.true)
+    ∙ ap (λ hashing. lie_in hashing c.args.range.now (entries_of c.args.self.now.entries))
+    (sym (ap (λ (v : TableValue). v.hashing) c.self.view_is) ∙ c.same.ensures.0 c.if-same.true)
 
 pub returns : goal.returns
 returns c =
     c.are_hashed_into.ensures
-    ∙ sym (each_grain c.self.inside.hashing (λ grain. holds c.args.range.now (hash_grain c.args.hashing grain)) c.self.inside.map c.self.invariant.are)
+    ∙ sym (each_grain c.self.inside.hashing (λ grain. holds c.args.range.now (hash_grain c.args.hashing grain)) c.self.inside.map
+    c.self.invariant.are)
     ∙ ap (λ (v : TableValue). lie_in c.args.hashing c.args.range.now (entries_of v.entries)) c.self.view_is

@@ -15,5 +15,7 @@ pub returns : goal.returns
 returns c =
     if_ok c.list_range.result c.list_range.ensures
     (λ listed is.
-    subst (λ (v : TableValue). IsPermutation (c.args.entries.items ++ filter (is_kept v.hashing c.args.view.now c.args.range.now) (entries_of v.entries)) listed.items) c.self.view_is
-    (listed_kept c.args.view.now c.self.inside.hashing c.args.range.now c.self.inside.map c.self.invariant.are c.args.entries.items listed.items is))
+    subst (λ (v : TableValue). IsPermutation (c.args.entries.items ++ filter (is_kept v.hashing c.args.view.now c.args.range.now)
+    (entries_of v.entries)) listed.items) c.self.view_is
+    (listed_kept c.args.view.now c.self.inside.hashing c.args.range.now c.self.inside.map c.self.invariant.are c.args.entries.items
+    listed.items is))

@@ -6,4 +6,6 @@ use Rattle.grain_table.proofs.Put.{put_in, put_in_nothing}
 use Rattle.grain_table.proofs.table.Table.made_again.Goals as goal
 
 pub returns : goal.returns
-returns c = subst (λ (v : TableValue). put_in [] (entries_of v.entries) ≡ v.entries) c.self.view_is (put_in_nothing _ (by_grain_is_table c.self.inside.map))
+returns c =
+    subst (λ (v : TableValue). put_in [] (entries_of v.entries) ≡ v.entries) c.self.view_is
+    (put_in_nothing _ (by_grain_is_table c.self.inside.map))

@@ -1,7 +1,7 @@
 use Rattle.std.proofs.Common.{◌≡◌, sym, ◌∙◌, ap, []}
 use Rattle.directory_rules.specs.declared.act.Request.{Request}
 use Rattle.directory_rules.specs.Answer.{registered_over, turned}
-use Rattle.directory_rules.specs.Sent.{grain_of}
+use Rattle.directory_rules.specs.Host.{grain_of}
 use Rattle.directory_rules.specs.Table.{entry_at}
 use Rattle.grain_table.specs.declared.hashed_grain.HashedGrain.{HashedGrain}
 use Rattle.grain_table.proofs.Registers.{registered_reply}

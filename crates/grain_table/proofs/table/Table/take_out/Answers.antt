@@ -16,5 +16,6 @@ pub returns : goal.returns
 returns c =
     let is = subst (λ (v : TableValue). IsKeyOf v.hashing c.args.key.now) (sym c.self.view_is) c.requires in
     ap (λ (es : Hashed). record { hashing = c.self.inside.hashing; entries = by_grain es }) c.remove.ensures
-    ∙ ap (λ table. record { hashing = c.self.inside.hashing; entries = table }) (taken_at c.self.inside.hashing c.args.key.now c.self.inside.map is c.self.invariant.are)
+    ∙ ap (λ table. record { hashing = c.self.inside.hashing; entries = table })
+    (taken_at c.self.inside.hashing c.args.key.now c.self.inside.map is c.self.invariant.are)
     ∙ ap (λ (v : TableValue). record v { entries = without_grain c.args.key.now.grain v.entries }) c.self.view_is

@@ -7,4 +7,6 @@ use Rattle.grain_table.proofs.ByGrain.{by_grain_is_table}
 use Rattle.grain_table.proofs.table.Table.whole.Goals as goal
 
 pub returns : goal.returns
-returns c = subst (λ (v : TableValue). IsStrictlySortedBy grain_cmp (keys_of v.entries)) c.self.view_is (by_grain_is_table c.self.inside.map).in_order
+returns c =
+    subst (λ (v : TableValue). IsStrictlySortedBy grain_cmp (keys_of v.entries)) c.self.view_is
+    (by_grain_is_table c.self.inside.map).in_order

@@ -17,5 +17,8 @@ returns c =
     ∙ put_in_nothing c.args.other.now.entries is in
     subst
     (λ entries. IfOk c.with_own_within-2.result
-    (λ table. table ≡ record c.args.self { entries = put_in c.args.self.entries (filter (λ e. holds c.args.range.now (hash_grain c.args.self.hashing e.grain)) (entries_of entries)) }))
+    (λ table. table ≡ record c.args.self {
+      entries = put_in c.args.self.entries
+          (filter (λ e. holds c.args.range.now (hash_grain c.args.self.hashing e.grain)) (entries_of entries));
+    }))
     hashed c.with_own_within-2.ensures

@@ -11,6 +11,8 @@ use Rattle.grain_table.proofs.table.count.count_hashed_into.Goals as goal
 pub entries-init : goal.entries-init
 entries-init c =
     c.len-count.ensures
-    ∙ sym (length-filter_both (λ (e : HashedGrain × ActivationId). holds c.args.range.now (hash_grain c.args.hashing e.0.grain)) (λ e. not (holds c.args.range.now (hash_grain c.args.hashing e.0.grain))) (λ e. refl) c.args.map.now)
-    ∙ ap (λ (rest : Hashed). length (filter (λ e. holds c.args.range.now (hash_grain c.args.hashing e.0.grain)) c.args.map.now) + length (filter (λ e. not (holds c.args.range.now (hash_grain c.args.hashing e.0.grain))) rest))
+    ∙ sym (length-filter_both (λ (e : HashedGrain × ActivationId). holds c.args.range.now (hash_grain c.args.hashing e.0.grain))
+    (λ e. not (holds c.args.range.now (hash_grain c.args.hashing e.0.grain))) (λ e. refl) c.args.map.now)
+    ∙ ap (λ (rest : Hashed). length (filter (λ e. holds c.args.range.now (hash_grain c.args.hashing e.0.grain)) c.args.map.now) + length
+    (filter (λ e. not (holds c.args.range.now (hash_grain c.args.hashing e.0.grain))) rest))
     (sym (c.into_iter-key-iterator.ensures.into_iter_gives ∙ c.iter-key-items.ensures))

@@ -8,4 +8,5 @@ use Rattle.grain_table.proofs.table.count.count_hashed_into.Given as goal
 abbrev pub invariant-entries : goal.invariant-entries
 invariant-entries l =
     l.count
-    ≡ length (filter (λ e. holds l.range (hash_grain l.hashing e.0.grain)) l.map) + length (filter (λ e. not (holds l.range (hash_grain l.hashing e.0.grain))) l.key-iterator)
+    ≡ length (filter (λ e. holds l.range (hash_grain l.hashing e.0.grain)) l.map) + length
+    (filter (λ e. not (holds l.range (hash_grain l.hashing e.0.grain))) l.key-iterator)

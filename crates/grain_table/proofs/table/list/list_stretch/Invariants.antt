@@ -6,4 +6,6 @@ use Rattle.grain_table.proofs.table.list.list_stretch.Given as goal
 
 -- the rest of the stretch listed gives the whole
 abbrev pub invariant-entries : goal.invariant-entries
-invariant-entries l = with_living l.view l.entries.items l.key-iterator ≡ with_living l.view l.initial.entries.items (passed (is_between l.first l.end) l.from)
+invariant-entries l =
+    with_living l.view l.entries.items l.key-iterator ≡ with_living l.view l.initial.entries.items
+    (passed (is_between l.first l.end) l.from)

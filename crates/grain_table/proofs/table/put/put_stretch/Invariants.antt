@@ -11,6 +11,7 @@ use Rattle.grain_table.proofs.table.put.put_stretch.Given as goal
 abbrev pub invariant-entries : goal.invariant-entries
 invariant-entries l = record {
   hashing_is : l.table.hashing ≡ l.initial.table.hashing;
-  whole : put_in l.table.entries (entries_under l.key-iterator) ≡ put_in l.initial.table.entries (entries_under (passed (is_between l.first l.end) l.from));
+  whole : put_in l.table.entries (entries_under l.key-iterator) ≡ put_in l.initial.table.entries
+      (entries_under (passed (is_between l.first l.end) l.from));
   keys : AllByRecursion (IsKeyOf l.initial.table.hashing) (keys_of l.key-iterator);
 }

@@ -12,16 +12,19 @@ abbrev ring_with : ℕ → List Point → RingValue
 ring_with version points = record { version = version; points = points }
 
 -- the points alone tell which silos are new
-same_new : (ring : RingValue) (points : List Point) (view : ViewValue) → points ≡ ring.points → new_silos (record { version = 0; points = points }) view ≡ new_silos ring view
+same_new : (ring : RingValue) (points : List Point) (view : ViewValue) → points ≡ ring.points
+    → new_silos (record { version = 0; points = points }) view ≡ new_silos ring view
 same_new ring points view same = ap (λ l. new_silos (record { version = 0; points = l }) view) same
 
 pub returns-then-not-has_active_of-clause-succeeds : goal.returns-then-not-has_active_of-clause-succeeds
 returns-then-not-has_active_of-clause-succeeds c = λ next none.
-    sym (sym c.has_active_of.ensures ∙ c.if-not-has_active_of.true) ∙ added_where_none_is_new c.args.self.now c.args.places.now c.requires c.args.view.now c.in_order.ensures none
+    sym (sym c.has_active_of.ensures ∙ c.if-not-has_active_of.true)
+    ∙ added_where_none_is_new c.args.self.now c.args.places.now c.requires c.args.view.now c.in_order.ensures none
 
 pub change-requires : goal.change-requires
 change-requires c =
-    subst (λ (l : List Point). HasWholeSilos c.args.places.now l) (sym (ap (λ (r : RingValue). r.points) c.self.view_is ∙ c.requires.1)) (ring_has_whole c.requires.0 c.args.places.now)
+    subst (λ (l : List Point). HasWholeSilos c.args.places.now l) (sym (ap (λ (r : RingValue). r.points) c.self.view_is ∙ c.requires.1))
+    (ring_has_whole c.requires.0 c.args.places.now)
 
 pub invariant_of-self : goal.invariant_of-self
 invariant_of-self c =
@@ -40,4 +43,5 @@ returns-in-Ok-clause-advanced c =
 
 pub returns-in-Err-clause-succeeds : goal.returns-in-Err-clause-succeeds
 returns-in-Err-clause-succeeds c = λ next none.
-    c.in-Err.ensures.succeeds (same_new c.args.self.now c.self.inside.points.items c.args.view.now (ap (λ (r : RingValue). r.points) c.self.view_is) ∙ none)
+    c.in-Err.ensures.succeeds (same_new c.args.self.now c.self.inside.points.items c.args.view.now
+    (ap (λ (r : RingValue). r.points) c.self.view_is) ∙ none)

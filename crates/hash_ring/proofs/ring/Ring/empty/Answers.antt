@@ -8,4 +8,6 @@ use Rattle.hash_ring.proofs.ring.Ring.empty.Goals as goal
 -- no point stands out of order or off the circle
 pub invariant_of-result : goal.invariant_of-result
 unfolding IsStrictlySortedBy
-invariant_of-result c = subst (λ points. IsRing (record { version = 0; points = points })) (sym c.new.ensures.items) (record { in_order = tt; on_circle = All-nil IsOnCircle })
+invariant_of-result c =
+    subst (λ points. IsRing (record { version = 0; points = points })) (sym c.new.ensures.items)
+    (record { in_order = tt; on_circle = All-nil IsOnCircle })

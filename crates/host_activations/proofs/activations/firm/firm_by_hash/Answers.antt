@@ -17,7 +17,8 @@ list_stretch-requires c =
     ∙ (λ i. entries_between hashed_count_cmp (Included (c.first_at.ensures i)) (c.end_at.ensures i) c.args.by_hash.now.entries)
     ∙ between_are c.start-start.result (c.from.result + c.size.result) c.args.by_hash.now.entries in
     subst (λ l. AllByRecursion (IsUnder c.args.hashing c.args.held.now) l) (sym is)
-    (all_under c.args.hashing c.args.held.now (λ x. is_between c.start-start.result (c.from.result + c.size.result) x.0.hash) c.args.by_hash.now.entries c.requires.by_hash c.range-only.ensures.ordered)
+    (all_under c.args.hashing c.args.held.now (λ x. is_between c.start-start.result (c.from.result + c.size.result) x.0.hash)
+    c.args.by_hash.now.entries c.requires.by_hash c.range-only.ensures.ordered)
 
 pub returns-then-end-le-CIRCLE : goal.returns-then-end-le-CIRCLE
 returns-then-end-le-CIRCLE c =
@@ -31,7 +32,8 @@ returns-then-end-le-CIRCLE c =
     (listed
     ∙ ap (λ l. l ++ firm_counts c.args.hashing c.args.range.now (standing_at c.args.held.now c.range-only.result)) c.new-firm.ensures.items
     ∙ ap (λ l. firm_counts c.args.hashing c.args.range.now (standing_at c.args.held.now l)) is))
-    (by_one_stretch c.args.hashing c.args.range.now c.in_range.ensures c.args.held.now c.requires.apart c.args.by_hash.now.entries c.requires.by_hash c.range-only.ensures.ordered c.start-start.result (c.from.result + c.size.result) c.start-start.ensures
+    (by_one_stretch c.args.hashing c.args.range.now c.in_range.ensures c.args.held.now c.requires.apart c.args.by_hash.now.entries
+    c.requires.by_hash c.range-only.ensures.ordered c.start-start.result (c.from.result + c.size.result) c.start-start.ensures
     (omega (arith, c.from.ensures, c.start-start.ensures, c.size.ensures.value)) (omega arith)))
     c.list_stretch.ensures
 
@@ -42,7 +44,8 @@ list_stretch-requires-2 c =
     ∙ (λ i. entries_between hashed_count_cmp (Included (c.first_at-2.ensures i)) (c.end_at-2.ensures i) c.args.by_hash.now.entries)
     ∙ between_are 0 (c.from.result + c.size.result - circle) c.args.by_hash.now.entries in
     subst (λ l. AllByRecursion (IsUnder c.args.hashing c.args.held.now) l) (sym is)
-    (all_under c.args.hashing c.args.held.now (λ x. is_between 0 (c.from.result + c.size.result - circle) x.0.hash) c.args.by_hash.now.entries c.requires.by_hash c.range-first.ensures.ordered)
+    (all_under c.args.hashing c.args.held.now (λ x. is_between 0 (c.from.result + c.size.result - circle) x.0.hash)
+    c.args.by_hash.now.entries c.requires.by_hash c.range-first.ensures.ordered)
 
 pub list_stretch-requires-3 : goal.list_stretch-requires-3
 list_stretch-requires-3 c =
@@ -51,7 +54,8 @@ list_stretch-requires-3 c =
     ∙ (λ i. entries_between hashed_count_cmp (Included (c.first_at-3.ensures i)) (c.end_at-3.ensures i) c.args.by_hash.now.entries)
     ∙ between_are c.start-start.result circle c.args.by_hash.now.entries in
     subst (λ l. AllByRecursion (IsUnder c.args.hashing c.args.held.now) l) (sym is)
-    (all_under c.args.hashing c.args.held.now (λ x. is_between c.start-start.result circle x.0.hash) c.args.by_hash.now.entries c.requires.by_hash c.range-second.ensures.ordered)
+    (all_under c.args.hashing c.args.held.now (λ x. is_between c.start-start.result circle x.0.hash) c.args.by_hash.now.entries
+    c.requires.by_hash c.range-second.ensures.ordered)
 
 pub returns : goal.returns
 returns c =
@@ -68,8 +72,11 @@ returns c =
     (sym
     (listed
     ∙ ap (λ l. l ++ firm_counts c.args.hashing c.args.range.now (standing_at c.args.held.now c.range-second.result))
-    (c.in_ok-firm.ensures ∙ ap (λ l. l ++ firm_counts c.args.hashing c.args.range.now (standing_at c.args.held.now c.range-first.result)) c.new-firm.ensures.items)
-    ∙ (λ i. firm_counts c.args.hashing c.args.range.now (standing_at c.args.held.now (low i)) ++ firm_counts c.args.hashing c.args.range.now (standing_at c.args.held.now (high i)))))
-    (by_two_stretches c.args.hashing c.args.range.now c.in_range.ensures c.args.held.now c.requires.apart c.args.by_hash.now.entries c.requires.by_hash c.range-first.ensures.ordered c.start-start.result (c.from.result + c.size.result - circle) c.start-start.ensures
+    (c.in_ok-firm.ensures ∙ ap (λ l. l ++ firm_counts c.args.hashing c.args.range.now (standing_at c.args.held.now c.range-first.result))
+    c.new-firm.ensures.items)
+    ∙ (λ i. firm_counts c.args.hashing c.args.range.now (standing_at c.args.held.now (low i)) ++ firm_counts c.args.hashing c.args.range.now
+    (standing_at c.args.held.now (high i)))))
+    (by_two_stretches c.args.hashing c.args.range.now c.in_range.ensures c.args.held.now c.requires.apart c.args.by_hash.now.entries
+    c.requires.by_hash c.range-first.ensures.ordered c.start-start.result (c.from.result + c.size.result - circle) c.start-start.ensures
     (omega (arith, c.from.ensures, c.start-start.ensures, c.size.ensures.value))))
     c.list_stretch-3.ensures

@@ -8,6 +8,7 @@ use Rattle.host_activations.proofs.activations.firm.list_stretch.Given as goal
 -- with those that are left, all of the stretch are listed
 abbrev pub invariant-stretch : goal.invariant-stretch
 invariant-stretch l = record {
-  whole : l.firm.items ++ firm_counts l.fn.hashing l.range (standing_at l.held l.key-iterator) ≡ l.fn.firm.items ++ firm_counts l.fn.hashing l.range (standing_at l.held l.fn.stretch);
+  whole : l.firm.items ++ firm_counts l.fn.hashing l.range (standing_at l.held l.key-iterator) ≡ l.fn.firm.items ++ firm_counts l.fn.hashing
+      l.range (standing_at l.held l.fn.stretch);
   under : AllByRecursion (IsUnder l.fn.hashing l.held) l.key-iterator;
 }

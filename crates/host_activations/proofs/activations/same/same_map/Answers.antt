@@ -7,6 +7,8 @@ use Rattle.host_activations.proofs.activations.same.same_map.Goals as goal
 pub returns : goal.returns
 returns c =
     Decides-like c.same.result
-    (λ agree grain. (Decides-option _ Decides-kept (lookup (grain_eq grain) c.args.one.now) (lookup (grain_eq grain) c.args.other.now)).0 (agree grain))
-    (λ same grain. (Decides-option _ Decides-kept (lookup (grain_eq grain) c.args.one.now) (lookup (grain_eq grain) c.args.other.now)).1 (same grain))
+    (λ agree grain. (Decides-option _ Decides-kept (lookup (grain_eq grain) c.args.one.now) (lookup (grain_eq grain) c.args.other.now)).0
+    (agree grain))
+    (λ same grain. (Decides-option _ Decides-kept (lookup (grain_eq grain) c.args.one.now) (lookup (grain_eq grain) c.args.other.now)).1
+    (same grain))
     c.same.ensures

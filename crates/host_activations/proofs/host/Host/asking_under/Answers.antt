@@ -5,7 +5,8 @@ use Rattle.host_activations.proofs.Replies.{asking_if, found_if}
 use Rattle.host_activations.proofs.host.Host.asking_under.Goals as goal
 
 pub returns-in_err-found : goal.returns-in_err-found
-returns-in_err-found c = c.from_residual.ensures ∙ sym (c.in_err-found.ensures.found (is_asking_under c.args.number) (asking_has c.args.number))
+returns-in_err-found c =
+    c.from_residual.ensures ∙ sym (c.in_err-found.ensures.found (is_asking_under c.args.number) (asking_has c.args.number))
 
 pub returns-in-Asking : goal.returns-in-Asking
 returns-in-Asking c =
@@ -15,10 +16,12 @@ returns-in-Asking c =
 
 pub returns-in-Firm : goal.returns-in-Firm
 returns-in-Firm c =
-    found_if (is_asking_under c.args.number) c.args.self.now.held c.in_ok-found.found false (ap (is_asking_under c.args.number) c.in-Firm.is)
+    found_if (is_asking_under c.args.number) c.args.self.now.held c.in_ok-found.found false
+    (ap (is_asking_under c.args.number) c.in-Firm.is)
     (c.in_ok-found.ensures.found (is_asking_under c.args.number) (asking_has c.args.number))
 
 pub returns-in-Closing : goal.returns-in-Closing
 returns-in-Closing c =
-    found_if (is_asking_under c.args.number) c.args.self.now.held c.in_ok-found.found false (ap (is_asking_under c.args.number) c.in-Closing.is)
+    found_if (is_asking_under c.args.number) c.args.self.now.held c.in_ok-found.found false
+    (ap (is_asking_under c.args.number) c.in-Closing.is)
     (c.in_ok-found.ensures.found (is_asking_under c.args.number) (asking_has c.args.number))

@@ -5,7 +5,8 @@ use Rattle.host_activations.proofs.Replies.{closing_if, found_if}
 use Rattle.host_activations.proofs.host.Host.closing_under.Goals as goal
 
 pub returns-in_err-found : goal.returns-in_err-found
-returns-in_err-found c = c.from_residual.ensures ∙ sym (c.in_err-found.ensures.found (is_closing_under c.args.number) (closing_has c.args.number))
+returns-in_err-found c =
+    c.from_residual.ensures ∙ sym (c.in_err-found.ensures.found (is_closing_under c.args.number) (closing_has c.args.number))
 
 pub returns-in-Closing : goal.returns-in-Closing
 returns-in-Closing c =
@@ -15,10 +16,12 @@ returns-in-Closing c =
 
 pub returns-in-Firm : goal.returns-in-Firm
 returns-in-Firm c =
-    found_if (is_closing_under c.args.number) c.args.self.now.held c.in_ok-found.found false (ap (is_closing_under c.args.number) c.in-Firm.is)
+    found_if (is_closing_under c.args.number) c.args.self.now.held c.in_ok-found.found false
+    (ap (is_closing_under c.args.number) c.in-Firm.is)
     (c.in_ok-found.ensures.found (is_closing_under c.args.number) (closing_has c.args.number))
 
 pub returns-in-Asking : goal.returns-in-Asking
 returns-in-Asking c =
-    found_if (is_closing_under c.args.number) c.args.self.now.held c.in_ok-found.found false (ap (is_closing_under c.args.number) c.in-Asking.is)
+    found_if (is_closing_under c.args.number) c.args.self.now.held c.in_ok-found.found false
+    (ap (is_closing_under c.args.number) c.in-Asking.is)
     (c.in_ok-found.ensures.found (is_closing_under c.args.number) (closing_has c.args.number))

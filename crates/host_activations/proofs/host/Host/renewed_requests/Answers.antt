@@ -7,6 +7,7 @@ use Rattle.host_activations.proofs.host.Host.renewed_requests.Goals as goal
 pub returns : goal.returns
 returns c =
     subst (λ l. IfOk c.acts_in.result (λ requests. requests.items ≡ l))
-    (ap (λ l. acts_in c.self.inside.silo c.self.inside.held.entries l) (c.renewal.view_is ∙ c.requires ∙ renewal_is c.self.inside c.self.invariant c.args.self.now c.self.view_is)
+    (ap (λ l. acts_in c.self.inside.silo c.self.inside.held.entries l)
+    (c.by_number.ensures ∙ c.renewal.view_is ∙ c.requires ∙ renewal_is c.self.inside c.self.invariant c.args.self.now c.self.view_is)
     ∙ requests_are c.self.inside c.self.invariant c.args.self.now c.self.view_is)
     c.acts_in.ensures

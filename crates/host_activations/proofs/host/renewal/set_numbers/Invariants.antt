@@ -1,5 +1,5 @@
 use Rattle.std.proofs.Common.{◌≡◌}
-use Rattle.host_activations.proofs.NewNumbers.{with_numbers}
+use Rattle.host_activations.specs.Renewal.{with_numbers}
 use Rattle.host_activations.proofs.host.renewal.set_numbers.Given as goal
 
 -- with the requests that are left, the activations are those with all numbers

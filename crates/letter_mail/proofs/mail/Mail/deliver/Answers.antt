@@ -9,11 +9,13 @@ use Rattle.letter_mail.proofs.mail.Mail.deliver.Goals as goal
 
 pub deliver_in-requires-clause-sent : goal.deliver_in-requires-clause-sent
 deliver_in-requires-clause-sent c =
-    (was_sent (keys_of c.self.inside.grains) c.self.inside.slots.items c.args.number (subst (λ (m : MailValue). IsSome (letter_in m c.args.number)) (sym c.self.view_is) c.requires.there)).0
+    (was_sent (keys_of c.self.inside.grains) c.self.inside.slots.items c.args.number
+    (subst (λ (m : MailValue). IsSome (letter_in m c.args.number)) (sym c.self.view_is) c.requires.there)).0
 
 pub deliver_in-requires-clause-within : goal.deliver_in-requires-clause-within
 deliver_in-requires-clause-within c =
-    (was_sent (keys_of c.self.inside.grains) c.self.inside.slots.items c.args.number (subst (λ (m : MailValue). IsSome (letter_in m c.args.number)) (sym c.self.view_is) c.requires.there)).1
+    (was_sent (keys_of c.self.inside.grains) c.self.inside.slots.items c.args.number
+    (subst (λ (m : MailValue). IsSome (letter_in m c.args.number)) (sym c.self.view_is) c.requires.there)).1
 
 pub invariant_of-self : goal.invariant_of-self
 invariant_of-self c =
@@ -24,7 +26,9 @@ invariant_of-self c =
     let d : Slot = some_slot slots (omega (arith, sent.0, sent.1)) in
     record {
       numbered = subst (λ (l : List Slot). AreKept (length grains) l) (sym (c.deliver_in.ensures.delivered d))
-          (are_set (length grains) slots (c.args.number - 1) _ (still_slot (length grains) _ (is_at_index (length grains) slots (c.args.number - 1) d below c.self.invariant.numbered)) c.self.invariant.numbered);
+          (are_set (length grains) slots (c.args.number - 1) _
+          (still_slot (length grains) _ (is_at_index (length grains) slots (c.args.number - 1) d below c.self.invariant.numbered))
+          c.self.invariant.numbered);
       queued = c.deliver_in.ensures.queued;
     }
 

@@ -9,11 +9,13 @@ use Rattle.letter_mail.proofs.mail.Mail.lose.Goals as goal
 
 pub lose_in-requires-clause-sent : goal.lose_in-requires-clause-sent
 lose_in-requires-clause-sent c =
-    (was_sent (keys_of c.self.inside.grains) c.self.inside.slots.items c.args.number (subst (λ (m : MailValue). IsSome (letter_in m c.args.number)) (sym c.self.view_is) c.requires.there)).0
+    (was_sent (keys_of c.self.inside.grains) c.self.inside.slots.items c.args.number
+    (subst (λ (m : MailValue). IsSome (letter_in m c.args.number)) (sym c.self.view_is) c.requires.there)).0
 
 pub lose_in-requires-clause-within : goal.lose_in-requires-clause-within
 lose_in-requires-clause-within c =
-    (was_sent (keys_of c.self.inside.grains) c.self.inside.slots.items c.args.number (subst (λ (m : MailValue). IsSome (letter_in m c.args.number)) (sym c.self.view_is) c.requires.there)).1
+    (was_sent (keys_of c.self.inside.grains) c.self.inside.slots.items c.args.number
+    (subst (λ (m : MailValue). IsSome (letter_in m c.args.number)) (sym c.self.view_is) c.requires.there)).1
 
 pub invariant_of-self : goal.invariant_of-self
 invariant_of-self c =

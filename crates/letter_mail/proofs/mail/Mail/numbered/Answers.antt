@@ -5,4 +5,5 @@ use Rattle.letter_mail.proofs.Least.{numbers_rise}
 use Rattle.letter_mail.proofs.mail.Mail.numbered.Goals as goal
 
 pub returns : goal.returns
-returns c = subst (λ (m : MailValue). HasRisingNumbers m) c.self.view_is (numbers_rise (keys_of c.self.inside.grains) c.self.inside.slots.items)
+returns c =
+    subst (λ (m : MailValue). HasRisingNumbers m) c.self.view_is (numbers_rise (keys_of c.self.inside.grains) c.self.inside.slots.items)

@@ -13,7 +13,8 @@ invariant_of-self-clause-one_piece g c =
     let rest = c.read_chunk.new.chunk ++ post_of self.end (self.end + 65536 - self.end) bytes in
     let fits : self.end ≤ length bytes = omega (arith, self.within, self.bytes.ok.0, ap length c.deref_mut.ensures.value) in
     subst IsOnePiece
-    (sym (ap (λ (xs : List ℕ). take (self.searched - self.start) (drop self.start xs)) (with_items_is self.bytes (take self.end bytes ++ rest) (search rules))
+    (sym (ap (λ (xs : List ℕ). take (self.searched - self.start) (drop self.start xs))
+    (with_items_is self.bytes (take self.end bytes ++ rest) (search rules))
     ∙ (held_still bytes rest self.start self.searched self.end self.begun self.searched_within fits
     ∙ ap (λ (xs : List ℕ). take (self.searched - self.start) (drop self.start xs)) c.deref_mut.ensures.value)))
     self.one_piece
@@ -32,8 +33,10 @@ returns-in-Ok-read_chunk-clause-fills g c =
     let held = ap (λ (xs : List ℕ). take (self.end - self.start) (drop self.start xs)) items
     ∙ (held_still bytes rest self.start self.end self.end begun (omega arith) fits
     ∙ ap (λ (xs : List ℕ). take (self.end - self.start) (drop self.start xs)) c.deref_mut.ensures.value) in
-    filled g.R.Source.reads c.args.reader.now c.read_chunk.new.self (progress c.args.self.now) _ (progress c.take_in.new.self) (take count chunk) _ c.take_in.result c.take_in.ensures.takes
+    filled g.R.Source.reads c.args.reader.now c.read_chunk.new.self (progress c.args.self.now) _ (progress c.take_in.new.self)
+    (take count chunk) _ c.take_in.result c.take_in.ensures.takes
     (ap (λ (h : List ℕ). let p : Progress = record (progress self) { held = h } in p) held ∙ c.in-Ok.ensures.same)
-    (ap (λ (xs : List ℕ). take count (drop self.end xs)) items ∙ read_there bytes chunk (post_of self.end (self.end + 65536 - self.end) bytes) self.end count fits c.in-Ok-read_chunk.ensures.bound.0)
+    (ap (λ (xs : List ℕ). take count (drop self.end xs)) items
+    ∙ read_there bytes chunk (post_of self.end (self.end + 65536 - self.end) bytes) self.end count fits c.in-Ok-read_chunk.ensures.bound.0)
     c.in-Ok-read_chunk.ensures.once
     (omega (arith, room, length-take-le count chunk c.in-Ok-read_chunk.ensures.bound.0, c.in-Ok-read_chunk.ensures.bound.0))

@@ -1,5 +1,5 @@
 use Rattle.std.proofs.Common.{◌∙◌, ap}
-use Rattle.directory_rules.specs.Cache.{Cache}
+use Rattle.directory_rules.specs.State.{Cache}
 use Rattle.lookup_cache.specs.Used.{used}
 use Rattle.lookup_cache.proofs.Caches.{seen, seen_used}
 use Rattle.lookup_cache.proofs.cache.Cache.find.Goals as goal

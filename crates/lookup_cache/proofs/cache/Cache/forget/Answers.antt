@@ -1,5 +1,6 @@
 use Rattle.std.proofs.Common.{◌≡◌, ◌∙◌, ap, sym, Some}
-use Rattle.directory_rules.specs.Cache.{Cache, hint_of, without_pair}
+use Rattle.directory_rules.specs.State.{Cache}
+use Rattle.directory_rules.specs.Cache.{hint_of, without_pair}
 use Rattle.lookup_cache.proofs.Caches.{seen, seen_forgot, seen_kept}
 use Rattle.lookup_cache.proofs.cache.Cache.forget.Goals as goal
 
@@ -14,5 +15,6 @@ pub returns-else-names : goal.returns-else-names
 returns-else-names c =
     sym c.self.view_is
     ∙ seen_kept c.self.inside.hints c.args.grain.now c.args.activation.now c.len-len.ensures.valid
-    (λ named. let so = c.names.ensures.1 (sym (ap (λ (v : Cache). hint_of v c.args.grain.now) c.self.view_is) ∙ named) in let not = c.if-names.false in cc)
+    (λ named. let so = c.names.ensures.1 (sym (ap (λ (v : Cache). hint_of v c.args.grain.now) c.self.view_is) ∙ named) in
+    let not = c.if-names.false in cc)
     ∙ ap (λ (v : Cache). without_pair v c.args.grain.now c.args.activation.now) c.self.view_is

@@ -1,5 +1,6 @@
 use Rattle.std.proofs.Common.{◌∙◌, ap}
-use Rattle.directory_rules.specs.Cache.{Cache, learnt}
+use Rattle.directory_rules.specs.State.{Cache}
+use Rattle.directory_rules.specs.Cache.{learnt}
 use Rattle.lookup_cache.proofs.Caches.{seen, seen_put}
 use Rattle.lookup_cache.proofs.cache.Cache.learn.Goals as goal
 

@@ -14,4 +14,5 @@ invariant_of-result c =
     let shown = c.loop-silo.shown.items in
     let all : shown ≡ rows_in c.args.version c.args.rows.now.entries =
     sym (append-nil shown) ∙ ap (λ l. shown ++ rows_in c.args.version l) (sym c.in-None.ensures.steps.0) ∙ c.loop-silo.invariant in
-    subst (λ l. IsStrictlySortedBy silo_cmp (keys_of l)) (sym all) (sorted-picked silo_cmp_total (status_in c.args.version) c.args.rows.now.entries c.len.ensures.ordered)
+    subst (λ l. IsStrictlySortedBy silo_cmp (keys_of l)) (sym all)
+    (sorted-picked silo_cmp_total (status_in c.args.version) c.args.rows.now.entries c.len.ensures.ordered)

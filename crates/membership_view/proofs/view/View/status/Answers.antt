@@ -8,9 +8,11 @@ returns-in-Ok c =
     let at = c.in-Ok.ensures.position (λ y. y.0) (answers_always _ _ _ (λ f a r g called. search rules)) in
     let inside : c.in-Ok.index < length c.self.inside.rows.items = subst (λ l. c.in-Ok.index < length l) c.deref.ensures.value c.in-Ok.ensures.bound in
     rw (← c.self.view_is)
-    (sym (lookup_hit c.self.inside.rows.items c.self.invariant c.args.silo.now c.in-Ok.index c.index.result.now inside (rw c.deref.ensures.value at at) c.index.ensures))
+    (sym (lookup_hit c.self.inside.rows.items c.self.invariant c.args.silo.now c.in-Ok.index c.index.result.now inside
+    (rw c.deref.ensures.value at at) c.index.ensures))
 
 pub returns-in-Err : goal.returns-in-Err
 returns-in-Err c =
     let at = c.in-Err.ensures.position (λ y. y.0) (answers_always _ _ _ (λ f a r g called. search rules)) in
-    rw (← c.self.view_is) (sym (lookup_miss c.self.inside.rows.items c.self.invariant c.args.silo.now c.in-Err.field-0 (rw c.deref.ensures.value at at)))
+    rw (← c.self.view_is) (sym (lookup_miss c.self.inside.rows.items c.self.invariant c.args.silo.now c.in-Err.field-0
+    (rw c.deref.ensures.value at at)))

@@ -10,4 +10,5 @@ pub invariant_of-self : goal.invariant_of-self
 invariant_of-self c =
     let views : ViewsValue = record { limit = c.self.inside.limit; version = c.self.inside.version; rows = c.self.inside.rows.entries } in
     let same = ap (λ v. status_at v v.version c.args.silo.now) c.self.view_is in
-    rw c.set_dead.ensures (whole-dying views c.self.invariant c.args.silo.now (subst (λ o. IsSome o) (sym same) c.requires.there) (λ dead. c.requires.not_dead (sym same ∙ dead)))
+    rw c.set_dead.ensures (whole-dying views c.self.invariant c.args.silo.now (subst (λ o. IsSome o) (sym same) c.requires.there)
+    (λ dead. c.requires.not_dead (sym same ∙ dead)))

@@ -8,4 +8,5 @@ pub returns : goal.returns
 returns c =
     let node = sending c.args.self.now in
     c.in_ok-send_wants.ensures
-    ∙ (λ i. (c.in_ok-send_requests.ensures ∙ ap (λ l. l ++ flat_map (λ e. request_letters node e.0 e.1) c.args.requests.now) c.new-letters.ensures.items) i ++ wants_of node (c.pieces.ensures.rest i))
+    ∙ (λ i. (c.in_ok-send_requests.ensures ∙ ap (λ l. l ++ flat_map (λ e. request_letters node e.0 e.1) c.args.requests.now)
+    c.new-letters.ensures.items) i ++ wants_of node (c.pieces.ensures.rest i))

@@ -4,4 +4,5 @@ use Rattle.node_plans.proofs.senders.Sender.send_wants.Given as goal
 
 -- what was sent, and what the pieces still to come want, is what all want
 abbrev pub invariant-loop-piece : goal.invariant-loop-piece
-invariant-loop-piece l = l.letters.items ++ wants_of (sending l.self) l.piece-iterator ≡ l.fn.letters.items ++ wants_of (sending l.self) l.fn.pieces
+invariant-loop-piece l =
+    l.letters.items ++ wants_of (sending l.self) l.piece-iterator ≡ l.fn.letters.items ++ wants_of (sending l.self) l.fn.pieces

@@ -12,5 +12,6 @@ compare_exchange-requires c =
       sym book,
       is.1 ∙ sym book,
       step.0,
-      rw (ap (λ (h : Named). h.key) is.0, step.2) (extends c.self.inside.seen.log c.self.inside.pen.nib c.announce-step.result.ask is.2 is.3),
+      rw (ap (λ (h : Named). h.key) is.0, step.2) (extends c.self.inside.seen.log c.self.inside.pen.nib c.announce-step.result.ask is.2
+          is.3),
     )

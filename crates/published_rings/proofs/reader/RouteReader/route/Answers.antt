@@ -15,4 +15,5 @@ returns-in-Some-clause-kept c =
     let now : Known = view c.replace_with.new.dest.place in
     let begins : Begins c.self.inside.front.all now.seen = begins_then c.self.inside.front.all known.seen now.seen c.self.invariant.2 looked.1.begins in
     let all : now.seen ≡ c.in-Some.front.all = looked.1.all ∙ sym (ap (λ (f : FrontValue). f.all) looked.2.front) in
-    subst (λ (l : List RingValue). Begins l c.in-Some.front.all) (ap (λ (r : ReaderValue). r.seen) c.self.view_is) (subst (λ (l : List RingValue). Begins c.self.inside.front.all l) all begins)
+    subst (λ (l : List RingValue). Begins l c.in-Some.front.all) (ap (λ (r : ReaderValue). r.seen) c.self.view_is)
+    (subst (λ (l : List RingValue). Begins c.self.inside.front.all l) all begins)

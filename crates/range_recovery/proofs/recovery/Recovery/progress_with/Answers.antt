@@ -1,7 +1,7 @@
 use Rattle.std.proofs.Common.{◌≡◌, ◌∙◌, ap, sym, subst, false, Some, Ok}
 use Rattle.std.specs.List.Sorted.{IsStrictlySortedBy}
 use Rattle.silo_address.specs.Silo.{silo_cmp}
-use Rattle.directory_rules.specs.Recovery.{Recovery}
+use Rattle.directory_rules.specs.State.{Recovery}
 use Rattle.range_recovery.specs.Silos.{has_reported}
 use Rattle.range_recovery.proofs.Reports.{progress-awaited, silos_in}
 use Rattle.range_recovery.proofs.recovery.Recovery.progress_with.Goals as goal

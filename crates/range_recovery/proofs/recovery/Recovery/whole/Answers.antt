@@ -1,5 +1,5 @@
 use Rattle.std.proofs.Common.{subst}
-use Rattle.directory_rules.specs.Recovery.{Recovery}
+use Rattle.directory_rules.specs.State.{Recovery}
 use Rattle.range_recovery.specs.Kept.{IsRecovery}
 use Rattle.range_recovery.proofs.recovery.Recovery.whole.Goals as goal
 

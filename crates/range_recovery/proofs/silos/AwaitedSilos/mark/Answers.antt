@@ -26,5 +26,6 @@ pub returns-in_default : goal.returns-in_default
 returns-in_default c =
     let absent = rw c.deref.ensures.value at c.in_default.ensures.absent in
     let never : None ≡ Some false =
-    sym (has_reported-stranger c.self.inside.silos.items c.args.silo.now absent) ∙ ap (λ (v : AwaitedValue). has_reported v c.args.silo.now) c.self.view_is ∙ c.requires in
+    sym (has_reported-stranger c.self.inside.silos.items c.args.silo.now absent)
+    ∙ ap (λ (v : AwaitedValue). has_reported v c.args.silo.now) c.self.view_is ∙ c.requires in
     cc

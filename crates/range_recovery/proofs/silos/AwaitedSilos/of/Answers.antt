@@ -12,14 +12,18 @@ pub invariant_of-result : goal.invariant_of-result
 invariant_of-result c =
     let silos : List Awaited = map unreported (filter (λ row. not (is_dead_status row.1)) c.args.view.now.rows) in
     let is : c.in_ok-silos.silos.items ≡ silos =
-    c.in_ok-silos.ensures ∙ ap (λ (rows : List (Silo × Status)). map unreported (filter (λ row. not (is_dead_status row.1)) rows)) c.rows.ensures in
+    c.in_ok-silos.ensures ∙ ap (λ (rows : List (Silo × Status)). map unreported (filter (λ row. not (is_dead_status row.1)) rows))
+    c.rows.ensures in
     subst (λ (l : List Awaited). IsCounted l (length c.as_slice-missing.result.now)) (sym is)
     (record {
       by_address = by_address-unreported (λ row. not (is_dead_status row.1)) c.args.view.now.rows c.in_order.ensures;
-      counted = ap (λ (l : List Awaited). length l) (c.as_slice-missing.ensures.value ∙ is) ∙ counted-unreported (filter (λ row. not (is_dead_status row.1)) c.args.view.now.rows);
+      counted =
+          ap (λ (l : List Awaited). length l) (c.as_slice-missing.ensures.value ∙ is)
+          ∙ counted-unreported (filter (λ row. not (is_dead_status row.1)) c.args.view.now.rows);
     })
 
 pub returns : goal.returns
 returns c =
-    ap told (c.in_ok-silos.ensures ∙ ap (λ (rows : List (Silo × Status)). map unreported (filter (λ row. not (is_dead_status row.1)) rows)) c.rows.ensures)
+    ap told (c.in_ok-silos.ensures ∙ ap (λ (rows : List (Silo × Status)). map unreported (filter (λ row. not (is_dead_status row.1)) rows))
+    c.rows.ensures)
     ∙ told-unreported (filter (λ row. not (is_dead_status row.1)) c.args.view.now.rows)

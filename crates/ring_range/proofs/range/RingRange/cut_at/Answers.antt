@@ -13,7 +13,9 @@ loop-step-init c =
     let some : 0 < c.args.self.now.size = omega arith in
     record {
       whole = rw (c.new-parts.ensures.items, steps) refl;
-      rising = subst (λ (steps : List ℕ). Rises 0 steps c.args.self.now.size) (sym steps) (Rises-cut_steps c.args.self.now c.args.places.now some);
+      rising =
+          subst (λ (steps : List ℕ). Rises 0 steps c.args.self.now.size) (sym steps)
+          (Rises-cut_steps c.args.self.now c.args.places.now some);
     }
 
 pub part-requires : goal.part-requires
@@ -30,4 +32,5 @@ pub returns-clause-cut : goal.returns-clause-cut
 unfolding cut_parts
 returns-clause-cut c =
     let exact : c.push-2.new.self.items ≡ cut_parts c.args.self.now c.args.places.now = search rules in
-    subst (λ (parts : List Range). IsCut c.args.self.now c.args.places.now parts) (sym exact) (is_cut _ _ (subst IsRange c.self.view_is c.self.invariant) (places_below c.args.places.now c.type_inv.places))
+    subst (λ (parts : List Range). IsCut c.args.self.now c.args.places.now parts) (sym exact)
+    (is_cut _ _ (subst IsRange c.self.view_is c.self.invariant) (places_below c.args.places.now c.type_inv.places))

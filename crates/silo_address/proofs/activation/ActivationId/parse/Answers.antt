@@ -13,7 +13,8 @@ returns-then-end-text c =
     let end = c.first_position-end.ensures.first in
     let inside : position_or_len is_exclamation_mark text < length text = omega arith in
     let reads = c.from_parts.ensures
-    ∙ ap (λ bytes. activation_of (read_silo (take c.first_position-end.result text)) (read_number 18446744073709551615 bytes)) (rest_from text (c.first_position-end.result + 1))
+    ∙ ap (λ bytes. activation_of (read_silo (take c.first_position-end.result text)) (read_number 18446744073709551615 bytes))
+    (rest_from text (c.first_position-end.result + 1))
     ∙ ap (λ n. activation_of (read_silo (take n text)) (read_number 18446744073709551615 (drop (n + 1) text))) end
     ∙ sym (read_activation-cut text inside) in
     let all = activation_clauses text _ reads in

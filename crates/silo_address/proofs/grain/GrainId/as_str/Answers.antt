@@ -5,7 +5,8 @@ use Rattle.std.proofs.lemmas.Str.{IsUtf8-from_ascii}
 use Rattle.std.proofs.lemmas.Str.Ascii.{IsAscii-from_all}
 use Rattle.silo_address.proofs.grain.GrainId.as_str.Goals as goal
 
-ok_where : {T E U : Type 0} (P : T → Type 0) (Q : E → Type 0) (result : Result T E) → MatchResult result P (λ e. (¬ U) × Q e) → U → IsOk result
+ok_where : {T E U : Type 0} (P : T → Type 0) (Q : E → Type 0) (result : Result T E) → MatchResult result P (λ e. (¬ U) × Q e) → U
+    → IsOk result
 ok_where P Q (Ok value) cases holds = refl
 ok_where P Q (Err fault) cases holds = absurd (cases.0 holds)
 

@@ -17,7 +17,9 @@ is_stored c =
       cut = c.requires.is_cut;
       kind = c.requires.kind_len;
       kind_within = omega (arith, c.requires.kind_len);
-      short = short_sides _ c.args.text.now c.requires.is_cut c.requires.kind_len c.if-kind_len-gt-MOST_KIND.false c.if-key_len-gt-MOST_KEY.false;
+      short =
+          short_sides _ c.args.text.now c.requires.is_cut c.requires.kind_len c.if-kind_len-gt-MOST_KIND.false
+          c.if-key_len-gt-MOST_KEY.false;
       visible = c.if-not-are_visible.ensures.0 refl;
       array = c.padded.ensures;
     }

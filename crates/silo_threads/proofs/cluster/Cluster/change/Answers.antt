@@ -6,6 +6,7 @@ pub returns-clause-followed : goal.returns-clause-followed
 returns-clause-followed g c =
     let posted = c.in_ok-posted in
     let publish = c.publish in
-    changed g.L.Charter.settings c.args.hand.now.seen c.post_change.new.hand.seen (event_of c.args.event.now) posted.posted.receipt posted.ensures.receipt posted.ensures.last
+    changed g.L.Charter.settings c.args.hand.now.seen c.post_change.new.hand.seen (event_of c.args.event.now) posted.posted.receipt
+    posted.ensures.receipt posted.ensures.last
     posted.posted.newest posted.ensures.left c.args.self.now publish.new.self publish.result c.err-lack.result c.err-lack.ensures.value
     publish.ensures.workers publish.ensures.published publish.ensures.unchanged publish.ensures.lack

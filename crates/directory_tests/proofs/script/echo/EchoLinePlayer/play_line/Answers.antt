@@ -18,6 +18,7 @@ pub returns-clause-played : goal.returns-clause-played
 returns-clause-played c = record {
   text = stripped c.args.line.now ++ 10 ∷ [];
   behind = c.in_ok-extend_from_slice.ensures.items ∙ ap (λ (bs : List ℕ). c.args.out.now.items ++ bs)
-      (c.deref.ensures.value ∙ (c.in_ok-push.ensures.items ∙ ap (λ (bs : List ℕ). bs ++ 10 ∷ []) (c.in_ok-text.ensures.items ∙ c.without_return-line.ensures)));
+      (c.deref.ensures.value ∙ (c.in_ok-push.ensures.items
+      ∙ ap (λ (bs : List ℕ). bs ++ 10 ∷ []) (c.in_ok-text.ensures.items ∙ c.without_return-line.ensures)));
   plays = echoes c.args.number c.args.line.now (omega (arith, ap length c.without_return-line.ensures));
 }

@@ -1,0 +1,22 @@
+use Rattle.script_lines.proofs.Fronts.{begins_with_the_first}
+use Rattle.script_lines.proofs.SpacedWords.{then_spaced}
+use Rattle.process_answers.proofs.figures.push_waiting.Goals as goal
+
+pub returns-in_err-push_named-2-clause-kept : goal.returns-in_err-push_named-2-clause-kept
+returns-in_err-push_named-2-clause-kept c = begins_with_the_first _ _ _ c.push_named.ensures.kept c.push_named-2.ensures.kept
+
+pub returns-in_err-push_named-3-clause-kept : goal.returns-in_err-push_named-3-clause-kept
+returns-in_err-push_named-3-clause-kept c =
+    begins_with_the_first _ _ _ (begins_with_the_first _ _ _ c.push_named.ensures.kept c.push_named-2.ensures.kept)
+    c.push_named-3.ensures.kept
+
+pub returns-clause-written : goal.returns-clause-written
+returns-clause-written c =
+    then_spaced _ _ _ _ _ c.in_ok-push_named.ensures.written
+    (then_spaced _ _ _ _ _ c.in_ok-push_named-2.ensures.written
+    c.in_ok-push_named-3.ensures.written)
+
+pub returns-clause-kept : goal.returns-clause-kept
+returns-clause-kept c =
+    begins_with_the_first _ _ _ (begins_with_the_first _ _ _ c.push_named.ensures.kept c.push_named-2.ensures.kept)
+    c.push_named-3.ensures.kept

@@ -1,0 +1,2 @@
+mod Opening
+mod Ends
