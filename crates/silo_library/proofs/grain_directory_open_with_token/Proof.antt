@@ -1,7 +1,7 @@
 -- `grain_directory_open_with_token` meets its contract: a walk of its MIR, by hand. It is the walk of `grain_directory_open`, with one
 -- more slice, and so one more lifetime.
 use Rattle.std.proofs.Common.{◌≡◌, ℕ, List, [], ◌∷◌, ◌++◌, refl, ap, ◌∙◌, subst}
-use mir.Syntax.{Ty, Tyss, ty_enum, ty_unit, ttnil, impl, tcons, tnil, dnil}
+use mir.Syntax.{Callee, Dict, Ty, Tyss, ty_enum, ty_unit, ttnil, a_type, impl, tcons, tnil, dcons, dnil}
 use mir.Val.{Val, vunit, vptr, vstruct, vcons, vnil}
 use base.Fraction.{full_share}
 use base.Logic.{ent, id⊢, emp}
@@ -14,21 +14,22 @@ use types.Run.{enter, of_opd, stop, fld, no_more, and_then, assigns, first, exec
 use types.ByLocal.{alloc_all, pass_all, free_all, look_at, get, get_in, through, sets, sets_last, lands_as, env}
 use contract.Monad.{fact, fact_i}
 use contract.BorrowLft.{◌⊑◌}
-use contract.Running.{tables}
+use contract.Running.{Running, tables}
 use contract.Lifetimes.{Lfts}
 use denote.Exit.{yes, no}
 use denote.Laws.{Is, shows}
 use denote.Struct.Laws.{tells}
 use mir.Raw.{raw as bare}
-use denote.Param.{arg, layout}
+use denote.Param.{arg, bounded, layout}
 use denote.Param.Laws.{arg_laws}
 use denote.Param.NoDrop.{glues}
 use denote.RawPtr.{Ptr, RawPtr, InBlock, block_ptr, ptr_val}
 use denote.Signature.{plain}
 use denote.Steps.{nothing, heard, peeks, only}
 use denote.Triple.Call.{calls_at}
-use denote.Triple.Clauses.{Lasts, lasts}
+use denote.Triple.Clauses.{Ended, Lasts, lasts}
 use denote.Triple.Spec.{triple_of}
+use denote.Triple.Statement.{Contract, Triple}
 use denote.Triple.Walked.{Stays, walk_of, stay_dropped, Goes-dropped, ends_at}
 use denote.Triple.Table.{framed}
 use Rattle.std.proofs.raw_atomic.Walks.{proved}
@@ -40,6 +41,7 @@ use Rattle.std.proofs.BoxSteps.Form as box
 use Rattle.std.proofs.BoxSteps.Steps.{box_out, box_in}
 use Rattle.std.specs.contracts.boxed.Box.into_raw as h
 use Rattle.std.proofs.boxed.Box.into_raw.Met as h_met
+use Rattle.std.proofs.boxed.Box.into_raw.Symbol as h_symbol
 use Rattle.silo_library.specs.contracts.open_silo.OpenSilo.{the_row as R}
 use Rattle.silo_library.proofs.open_silo.OpenSilo.TheLaws.{the_row_laws, the_within}
 use Rattle.silo_library.specs.Handle.{lent_for}
@@ -90,6 +92,8 @@ use types.Match.{live, vrt, in_variant}
 use types.Run.{lit, store, switches_on}
 use types.ByLocal.{get_tag}
 use types.Tokens.{bor_new}
+use prog.Model.{Model}
+use prog.Wired.{Wired}
 use prog.Wp.{Wp, after_seq, at_return}
 use types.Kit.{any_q}
 use seplogic.Ra.Ura.{Ura}
@@ -161,14 +165,31 @@ refused 𝓛 address token hashing points cache (suc number) old told =
     qed 𝓛 [] ∵ feq_i ! Ptr old old refl $ fpack ! (TellsTokenRefusal address token hashing points cache (suc number)) (λ _. feq Ptr old old)
     told $ done !
 
-pub grain_directory_open_with_token_spec : {M : Type 1} → statement M
+-- what drops an open silo
+abbrev silo_drop : Dict
+silo_drop = impl ("silo_library::silo_library++open_silo++OpenSilo+Destruct::drop" ∷ []) tnil dnil
+
+-- ---- `Box::into_raw` of the box of an open silo
+abbrev into_raw_called : Callee
+into_raw_called =
+    h_symbol.name (bounded (a_type ∷ a_type ∷ []) (silo_box.row, (silo_box.al.row, tt))
+    (dcons dict (dcons silo_box.al.drops (dcons silo_drop dnil))))
+
+abbrev into_raw_ended : Ended
+into_raw_ended = h.ended silo_box.row silo_box.al.row ghosts dict silo_box.al.drops silo_drop
+
+abbrev into_raw_asks : {M : Type 1} {𝓤 : Ura M} (𝓛 : Logic 𝓤) (𝓜 : Model 𝓤 𝓛.H) → Running 𝓤 𝓛.H 𝓜 → Contract 𝓤
+into_raw_asks 𝓛 𝓜 𝓡 =
+    triple_of 𝓛 (h.signature silo_box.row silo_box.al.row ghosts dict silo_box.al.drops silo_drop)
+    (h.spec silo_box.row silo_box.al.row ghosts dict silo_box.al.drops silo_drop 𝓛 𝓜.mem 𝓡.returns)
+
+-- it meets its contract there; stated by itself, since the walk below would else pass the limit of steps of one proof
+into_raw_known : {M : Type 1} (𝓤 : Ura M) (𝓛 : Logic 𝓤) (𝓜 : Model 𝓤 𝓛.H) (𝓡 : Running 𝓤 𝓛.H 𝓜) → Wired 𝓡.env code.code
+    → Triple 𝓤 (𝓡.run (𝓡.env into_raw_called)) (into_raw_asks 𝓛 𝓜 𝓡)
 unfolding Rattle.silo_library.proofs.Destruct++none.drop.Code.code
-grain_directory_open_with_token_spec {M} 𝓤 𝓛 𝓜 𝓡 wired =
-    let H = 𝓛.H in let c = f.clauses 𝓛 𝓜.mem 𝓡.returns in let W = walk_of 𝓛 f.ended stayed c in let 𝓣 = tables 𝓤 𝓛.H 𝓜 𝓡 𝓡.env in
-    let B = box.B silo_box in let Z = silo_box.al.row in let LZ = silo_box.al.laws in let X = silo_box.row in let LX = silo_box.laws in
-    let dd = silo_box.al.drops in let dx = impl ("silo_library::silo_library++open_silo++OpenSilo+Destruct::drop" ∷ []) tnil dnil in
-    let N = triple_of 𝓛 g.signature (g.spec 𝓛 𝓜.mem 𝓡.returns) in
-    let G = triple_of 𝓛 (h.signature X Z ghosts dict dd dx) (h.spec X Z ghosts dict dd dx 𝓛 𝓜.mem 𝓡.returns) in
+into_raw_known {M} 𝓤 𝓛 𝓜 𝓡 wired =
+    let Z = silo_box.al.row in let LZ = silo_box.al.laws in let X = silo_box.row in let LX = silo_box.laws in
+    let dd = silo_box.al.drops in let dx = silo_drop in
     let En = ended_of 0 drop_kinds.ps drop_kinds.r in
     let world : World = record { M = M; 𝓤 = 𝓤; 𝓛 = 𝓛; 𝓜 = 𝓜; 𝓡 = 𝓡 } in
     let glue = glue_by X LX world dx 𝓡.env (λ κs a. Lasts En tt a) (λ κs a. lasts En tt a)
@@ -184,11 +205,17 @@ grain_directory_open_with_token_spec {M} 𝓤 𝓛 𝓜 𝓡 wired =
     (code.calls-silo_library::silo_library++open_silo++OpenSilo+Destruct::drop 𝓡.env wired) (method dx 0 (layouts [] tt)) refl)
     (drop_met.met 𝓤 𝓛 𝓜 𝓡 (code.calls-silo_library::silo_library++open_silo++OpenSilo+Destruct::drop 𝓡.env wired))
     ((tt, qs, tt, a, vss), tt))) in
-    let known = h_met.met 𝓤 𝓛 𝓜 𝓡 (code.calls-std_alloc::boxed::Box::into_raw 𝓡.env wired) X Z LX LZ ghosts dict dd dx
+    h_met.met 𝓤 𝓛 𝓜 𝓡 (code.calls-std_alloc::boxed::Box::into_raw 𝓡.env wired) X Z LX LZ ghosts dict dd dx
     (passed 𝓡.env (code.calls-std_heap::GlobalAllocator::allocate 𝓡.env wired)
     (code.calls-std_heap::GlobalAllocator::deallocate 𝓡.env wired) (code.calls-std_heap::GlobalAllocator::grow 𝓡.env wired)
     (code.calls-std_heap::GlobalAllocator::shrink 𝓡.env wired) M 𝓤 𝓛 𝓜 𝓡)
-    (glues "silo_library::Destruct++none::drop" 𝓡.env (code.calls-silo_library::Destruct++none::drop 𝓡.env wired) Z LZ M 𝓤 𝓛 𝓜 𝓡) glue in
+    (glues "silo_library::Destruct++none::drop" 𝓡.env (code.calls-silo_library::Destruct++none::drop 𝓡.env wired) Z LZ M 𝓤 𝓛 𝓜 𝓡) glue
+
+pub grain_directory_open_with_token_spec : {M : Type 1} → statement M
+grain_directory_open_with_token_spec {M} 𝓤 𝓛 𝓜 𝓡 wired =
+    let H = 𝓛.H in let c = f.clauses 𝓛 𝓜.mem 𝓡.returns in let W = walk_of 𝓛 f.ended stayed c in let 𝓣 = tables 𝓤 𝓛.H 𝓜 𝓡 𝓡.env in
+    let Z = silo_box.al.row in let X = silo_box.row in
+    let N = triple_of 𝓛 g.signature (g.spec 𝓛 𝓜.mem 𝓡.returns) in let G = into_raw_asks 𝓛 𝓜 𝓡 in
     proved 𝓛 f.ended stayed c 𝓜 𝓡 (
       Goes-dropped 𝓛 3 (plain (λ _. heap.the_row)) yes (λ κs x w. refl),
       (
@@ -287,10 +314,10 @@ grain_directory_open_with_token_spec {M} 𝓤 𝓛 𝓜 𝓡 wired =
     use0 𝓛 (raw (fact 𝓤 ((β ∷ []) ⊑ X.lives))) (fact_i 𝓤 _ (emp 𝓤) (the_within (β ∷ []))) $ join ! $
     nothing ! $ move ! (4 ∷ 0 ∷ []) $ fjoin ! $ nothing ! $ move ! (3 ∷ 0 ∷ []) $ join ! $ move ! (3 ∷ 0 ∷ []) $ join ! $ join ! $ use2 𝓛
     (raw (G.pre yg)) (id⊢ 𝓤 _) $
-    calls_at ! (framed 𝓤 𝓛.H 𝓜 𝓣) G known yg (and_then ! (get ! refl) (no_more !)) (λ m.
+    calls_at ! (framed 𝓤 𝓛.H 𝓜 𝓣) G (into_raw_known 𝓤 𝓛 𝓜 𝓡 wired) yg (and_then ! (get ! refl) (no_more !)) (λ m.
     use1 𝓛 (later (some (λ (π : Ptr). ((‵ (flft (β ∷ []) full_share) ⊛ ‵ (flft (δ ∷ []) full_share) ⊛ ‵ ftrue) ⊛ ‵
     (RawPtr.own_val π (m ∷ []))) ⊛
-    some (λ (ls : Lasts (h.ended X Z ghosts dict dd dx) κs' yg.0.3). ‵ (lasts (h.ended X Z ghosts dict dd dx) κs' yg.0.3 ls) ⊛ ‵
+    some (λ (ls : Lasts into_raw_ended κs' yg.0.3). ‵ (lasts into_raw_ended κs' yg.0.3 ls) ⊛ ‵
     (box_owns (ghosts.dealloc_token x.alloc) (box.R silo_box) π it))))) (id⊢ 𝓤 _) $
     await ! tt $ pick ! (λ π. split ! $ split ! $ split3 ! $ move ! (4 ∷ []) $ pick ! (λ ls. split ! $ drop ! $
     in_a_block ! π (λ q. box_owns (ghosts.dealloc_token x.alloc) (box.R silo_box) q it)
