@@ -80,9 +80,10 @@ void grain_directory_close(grain_directory *silo);
 
 /* What the caller owes besides:
  *
- * - A handle is one that grain_directory_open or grain_directory_open_with_token gave, and that isn't closed. One call at a time has it. It may go from thread to
- *   thread, if a lock, a thread's start or end, or a sequentially consistent atomic orders their calls; handles have nothing in
- *   common, so two threads may call with two handles at once. What is behind a handle is neither read nor written.
+ * - A handle is one that grain_directory_open or grain_directory_open_with_token gave, and that isn't closed. One call at a time has
+ *   it. It may go from thread to thread, if a lock, a thread's start or end, or a sequentially consistent atomic orders their calls;
+ *   handles have nothing in common, so two threads may call with two handles at once. What is behind a handle is neither read nor
+ *   written.
  * - Lengths are those of the bytes, and nobody writes these meanwhile. No two pointers of one call lead to the same memory.
  * - malloc, realloc and free are the C library's, or others that belong together and align as they do; all may be called from any
  *   thread that calls these functions. None of these is called from a signal handler, or in the child of a fork of a process with
