@@ -31,6 +31,9 @@ func (m *late) Wake(grain string, answer func(silo.Answer)) error { return m.sil
 func (m *late) Close(grain string, answer func(silo.Answer)) error {
 	return m.silo.Close(grain, answer)
 }
+func (m *late) Cancel(grain string, answer func(silo.Answer)) error {
+	return m.silo.Cancel(grain, answer)
+}
 func (m *late) Offer(grain string, to directory.Silo, answer func(silo.Answer)) error {
 	return m.silo.Offer(grain, to, answer)
 }
@@ -43,5 +46,7 @@ func (m *late) Place(grain string, answer func(directory.Silo)) error {
 // TransportChanged says that the transport was lost, or is back: silence until now says nothing of the others, and letters may come again.
 func (m *Member) TransportChanged() {
 	m.silence.Forget()
-	m.patience.Hurry()
+	if process := m.process(); process != nil {
+		process.Hurry()
+	}
 }

@@ -24,7 +24,6 @@ import (
 	"agent/metrics"
 	"agent/operation"
 	"agent/peers"
-	"agent/settling"
 	"agent/silo"
 	"agent/transport"
 )
@@ -58,7 +57,6 @@ type Member struct {
 	silo     *silo.Silo
 	post     *transport.Post
 	silence  *peers.Silence
-	patience *settling.Patience
 	service  *applications.Service
 	listener *net.UnixListener
 	ctx      context.Context // ends with this generation
@@ -91,7 +89,7 @@ func Join(ctx context.Context, options Options) (*Member, error) {
 	if _, err := rand.Read(token); err != nil {
 		return nil, err
 	}
-	m := &Member{options: options, silence: peers.New(options.Now), patience: settling.New(options.Now),
+	m := &Member{options: options, silence: peers.New(options.Now),
 		names: map[directory.Silo]string{}, took: map[string]*metrics.Histogram{"activate": {}, "deactivate": {}, "find": {}}}
 	m.ctx, m.stop = context.WithCancel(context.Background())
 	var err error
@@ -296,7 +294,7 @@ func (m *Member) settle() {
 			swept = now
 			m.service.Sweep()
 		}
-		sleep(m.ctx, settling.Look(status))
+		sleep(m.ctx, m.silo.Look())
 	}
 }
 
@@ -329,7 +327,7 @@ func (m *Member) await(statuses chan silo.Status) (silo.Status, bool) {
 func (m *Member) look(status silo.Status) {
 	m.mu.Lock()
 	m.status = status
-	isSettled := status.Unsettled == 0 && status.Seen > 0 && status.Seen == m.told && status.Seen > m.settled
+	isSettled := status.Unsettled == 0 && status.Seen == status.Known && status.Seen > m.settled
 	isFirst := isSettled && m.settled == 0
 	if isSettled {
 		m.settled = status.Seen
@@ -342,8 +340,8 @@ func (m *Member) look(status silo.Status) {
 	if isFirst && m.options.Ready != nil {
 		m.options.Ready(m.me)
 	}
-	if m.fence.May() && m.patience.Nudge(status, m.silo.Pending()) {
-		m.silo.Nudge(func() {})
+	if m.fence.May() {
+		m.silo.Nudge(status)
 	}
 }
 
@@ -446,10 +444,7 @@ func (m *Member) vote(members []directory.Silo, reports map[directory.Silo]peers
 	}
 }
 
-func (m *Member) noteTook(what string, took time.Duration) {
-	m.took[what].Took(took)
-	m.patience.Took(took)
-}
+func (m *Member) noteTook(what string, took time.Duration) { m.took[what].Took(took) }
 
 func sleep(ctx context.Context, wait time.Duration) {
 	timer := time.NewTimer(wait)

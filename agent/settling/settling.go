@@ -1,6 +1,7 @@
-// Package settling says when a silo is nudged. A nudge gives each request that is outstanding a new number, and an answer under an old one counts
-// no more: a silo that is nudged faster than its letters go round is never done. So it is nudged when a pause has passed in which nothing came
-// that it waits for; each pause is twice as long as the one before, until something comes; and none is shorter than a few round trips.
+// Package settling says what of a silo is nudged, and when. A nudge of a grain gives each request about it a new number, and an answer under an
+// old one counts no more: a grain that is nudged faster than its letters go round is never done. So each grain is nudged by itself, once no answer
+// has come for a pause of a few round trips; and each pause is twice as long as the one before. What the silo's unsettled ranges want is nudged in
+// the same way, and nothing is undone by that. So what is under way for one never ends by a nudge for another, and nobody nudges all at once.
 package settling
 
 import (
@@ -8,7 +9,6 @@ import (
 	"time"
 
 	"agent/clock"
-	"agent/silo"
 )
 
 // Bounds of a pause.
@@ -20,33 +20,128 @@ const (
 // trips is how many round trips a pause has at least.
 const trips = 4
 
-// busy is how many bytes may wait for the silo's process when it is nudged: with more, letters under way haven't been read yet.
-const busy = 1 << 20
-
-// Patience decides when to nudge.
+// Patience is with what one silo waits for.
 type Patience struct {
 	now clock.Clock
 
-	mu    sync.Mutex
-	moved uint64
-	since clock.Time // of the last progress, or of the last nudge
-	nudge clock.Time // the last nudge
-	pause time.Duration
-	trip  time.Duration // smoothed
-	waits bool
+	mu     sync.Mutex
+	trip   time.Duration // a longer one counts at once, so that a backlog isn't taken for a loss; a shorter one by and by
+	grains map[string]*wait
+	ranges *wait // nil: all are settled
+}
+
+// wait is for the answers about a grain, or to what ranges want.
+type wait struct {
+	requests int           // about the grain
+	sent     clock.Time    // when, for the last time
+	factor   time.Duration // of the pause
 }
 
 // New has patience with a silo that waits for nothing yet.
-func New(now clock.Clock) *Patience { return &Patience{now: now, since: now(), pause: Shortest} }
+func New(now clock.Clock) *Patience { return &Patience{now: now, grains: map[string]*wait{}} }
 
-// Took notes how long something took that came, from its asking: a round trip. What was nudged meanwhile waited for something else, such as a
-// death, and says nothing of that.
-func (p *Patience) Took(took time.Duration) {
+// Asked says that the silo has asked for something about a grain. What is asked beside it already keeps its time: else who asks again and again
+// would hold its nudge up.
+func (p *Patience) Asked(grain string) {
 	p.mu.Lock()
 	defer p.mu.Unlock()
-	if p.nudge == 0 || p.now().Add(-took) > p.nudge {
+	w := p.grains[grain]
+	if w == nil {
+		w = &wait{}
+		w.begin(p.now())
+		p.grains[grain] = w
+	}
+	w.requests++
+}
+
+// AskedOtherwise says that the silo asks for something else about a grain, in place of what it asked for.
+func (p *Patience) AskedOtherwise(grain string) {
+	p.mu.Lock()
+	defer p.mu.Unlock()
+	if w := p.grains[grain]; w != nil {
+		w.begin(p.now())
+	}
+}
+
+// Answered says that an answer came about a grain. It was to what was sent last, since one to an old number is none: so it tells of a round trip.
+func (p *Patience) Answered(grain string) {
+	p.mu.Lock()
+	defer p.mu.Unlock()
+	w := p.grains[grain]
+	if w == nil {
+		return
+	}
+	now := p.now()
+	if w.requests--; w.requests > 0 {
+		w.begin(now)
+		return
+	}
+	delete(p.grains, grain)
+	if took := now.Sub(w.sent); took > p.trip {
+		p.trip = took
+	} else {
 		p.trip += (took - p.trip) / 8
 	}
+}
+
+// GotOn says that something came that a range wants, so that it wants less, or something else.
+func (p *Patience) GotOn() {
+	p.mu.Lock()
+	defer p.mu.Unlock()
+	if p.ranges != nil {
+		p.ranges.begin(p.now())
+	}
+}
+
+// Anew begins with the shortest pause for all: where the silo has sent all again, as when it sees a view; or letters may come again that were lost.
+func (p *Patience) Anew() {
+	p.mu.Lock()
+	defer p.mu.Unlock()
+	p.anew()
+}
+
+func (p *Patience) anew() {
+	now := p.now()
+	for _, w := range p.grains {
+		w.begin(now)
+	}
+	if p.ranges != nil {
+		p.ranges.begin(now)
+	}
+}
+
+// Late tells which grains are to be nudged now, and whether the ranges are, by whether any is unsettled. Who is told so nudges. Once this silo's
+// ranges are settled those of others may be, too, and serve what they refused; so all pauses begin anew.
+func (p *Patience) Late(areUnsettled bool) (grains []string, ranges bool) {
+	p.mu.Lock()
+	defer p.mu.Unlock()
+	now, shortest := p.now(), p.shortest()
+	switch {
+	case areUnsettled && p.ranges == nil:
+		p.ranges = &wait{}
+		p.ranges.begin(now)
+	case areUnsettled:
+		ranges = p.ranges.isLate(now, shortest)
+	case p.ranges != nil:
+		p.ranges = nil
+		p.anew()
+	}
+	for grain, w := range p.grains {
+		if w.isLate(now, shortest) {
+			grains = append(grains, grain)
+		}
+	}
+	return grains, ranges
+}
+
+// Look is how long to wait until the silo is looked at again.
+func (p *Patience) Look() time.Duration {
+	p.mu.Lock()
+	defer p.mu.Unlock()
+	if look := p.shortest() / 5; look < Shortest && (p.ranges != nil || len(p.grains) > 0) {
+		return look
+	}
+	return Shortest
 }
 
 func (p *Patience) shortest() time.Duration {
@@ -60,40 +155,19 @@ func (p *Patience) shortest() time.Duration {
 	}
 }
 
-// Nudge says whether a silo is to be nudged now, by its status and how many bytes wait for it. Who is told so nudges.
-func (p *Patience) Nudge(status silo.Status, pending int) bool {
-	p.mu.Lock()
-	defer p.mu.Unlock()
-	if !status.Outstanding() {
-		p.waits = false
+func (w *wait) begin(now clock.Time) { w.sent, w.factor = now, 1 }
+
+// isLate says whether a pause is over, and begins the next one.
+func (w *wait) isLate(now clock.Time, shortest time.Duration) bool {
+	pause := w.factor * shortest
+	if pause > Longest {
+		pause = Longest
+	}
+	if now.Sub(w.sent) < pause {
 		return false
 	}
-	now := p.now()
-	if !p.waits || status.Moved != p.moved {
-		p.waits, p.moved, p.since, p.pause = true, status.Moved, now, p.shortest()
-		return false
-	}
-	if now.Sub(p.since) < p.pause || pending > busy {
-		return false
-	}
-	p.since, p.nudge = now, now
-	if p.pause *= 2; p.pause > Longest {
-		p.pause = Longest
+	if w.sent = now; pause < Longest {
+		w.factor *= 2
 	}
 	return true
-}
-
-// Hurry begins with the shortest pause again: the transport is back, so that letters may come that were lost.
-func (p *Patience) Hurry() {
-	p.mu.Lock()
-	defer p.mu.Unlock()
-	p.since, p.pause = p.now(), p.shortest()
-}
-
-// Look is how long to wait until the silo's status is looked at again.
-func Look(status silo.Status) time.Duration {
-	if status.Outstanding() {
-		return Shortest / 5
-	}
-	return Shortest
 }

@@ -1,101 +1,163 @@
 package settling
 
 import (
+	"fmt"
+	"reflect"
 	"testing"
 	"time"
 
 	"agent/clock"
-	"agent/silo"
 )
 
-// nudged gives the times, in milliseconds, at which a silo is nudged that is looked at each millisecond.
-func nudged(p *Patience, at *clock.Time, status func(ms int64) silo.Status, long int64) (times []int64) {
-	for ms := int64(0); ms < long; ms++ {
-		*at = clock.Time(time.Duration(ms) * time.Millisecond)
-		if p.Nudge(status(ms), 0) {
-			times = append(times, ms)
-		}
-	}
-	return times
+// trial is a patience that is asked each millisecond, of a silo to which things happen at their times.
+type trial struct {
+	*Patience
+	at clock.Time
+	ms int64
 }
 
-func same(t *testing.T, got []int64, expected ...int64) {
+func newTrial() *trial {
+	t := &trial{}
+	t.Patience = New(func() clock.Time { return t.at })
+	return t
+}
+
+// late gives the milliseconds at which each grain is to be nudged, and the ranges under their own name; happens is what happens at which.
+func (t *trial) late(until int64, areUnsettled bool, happens map[int64]func()) map[string][]int64 {
+	late := map[string][]int64{}
+	for ; t.ms < until; t.ms++ {
+		t.at = clock.Time(time.Duration(t.ms) * time.Millisecond)
+		if what := happens[t.ms]; what != nil {
+			what()
+		}
+		grains, ranges := t.Late(areUnsettled)
+		for _, grain := range grains {
+			late[grain] = append(late[grain], t.ms)
+		}
+		if ranges {
+			late["ranges"] = append(late["ranges"], t.ms)
+		}
+	}
+	return late
+}
+
+func expect(t *testing.T, got, expected map[string][]int64) {
 	t.Helper()
-	if len(got) != len(expected) {
-		t.Fatalf("nudged at %v, not %v", got, expected)
-	}
-	for i := range got {
-		if got[i] != expected[i] {
-			t.Fatalf("nudged at %v, not %v", got, expected)
-		}
+	if !reflect.DeepEqual(got, expected) {
+		t.Errorf("nudged at %v, not %v", got, expected)
 	}
 }
 
+// Each grain has pauses of its own, which double; none is nudged since another is late.
 func TestPausesDouble(t *testing.T) {
-	var at clock.Time
-	p := New(func() clock.Time { return at })
-	same(t, nudged(p, &at, func(int64) silo.Status { return silo.Status{Unsettled: 1} }, 1600), 50, 150, 350, 750, 1550)
+	p := newTrial()
+	expect(t, p.late(1600, false, map[int64]func(){0: func() { p.Asked("user/ann") }, 120: func() { p.Asked("user/bob") }}),
+		map[string][]int64{"user/ann": {50, 150, 350, 750, 1550}, "user/bob": {170, 270, 470, 870}})
 }
 
-func TestProgressBeginsAnew(t *testing.T) {
-	var at clock.Time
-	p := New(func() clock.Time { return at })
-	same(t, nudged(p, &at, func(ms int64) silo.Status { return silo.Status{Asking: 3, Moved: uint64(ms / 400)} }, 900), 50, 150, 350, 450, 550, 750, 850)
+func TestWhoIsAnsweredIsLeftAlone(t *testing.T) {
+	p := newTrial()
+	expect(t, p.late(500, false, map[int64]func(){0: func() { p.Asked("user/ann") }, 1: func() { p.Answered("user/ann"); p.Answered("user/bob") }}),
+		map[string][]int64{})
 }
 
-func TestWhoWaitsForNothingIsLeftAlone(t *testing.T) {
-	var at clock.Time
-	p := New(func() clock.Time { return at })
-	same(t, nudged(p, &at, func(ms int64) silo.Status {
-		if ms >= 1000 && ms < 1060 || ms >= 2000 && ms < 2049 {
-			return silo.Status{Finding: 1}
-		}
-		return silo.Status{Held: 7}
-	}, 3000), 1050)
+// What is asked beside something doesn't hold its nudge up; what is left once that is answered has the shortest pause again.
+func TestTwoRequestsOfAGrain(t *testing.T) {
+	p := newTrial()
+	expect(t, p.late(300, false, map[int64]func(){0: func() { p.Asked("user/ann") }, 40: func() { p.Asked("user/ann") }, 60: func() { p.Answered("user/ann") }}),
+		map[string][]int64{"user/ann": {50, 110, 210}})
+	p.Answered("user/ann")
+	expect(t, p.late(900, false, nil), map[string][]int64{})
 }
 
-// A nudge never comes faster than letters go round, and none while the silo has much to read.
+// Where the silo sends something else, or all again, its pauses begin anew.
+func TestSentAgain(t *testing.T) {
+	for _, again := range []func(p *Patience){func(p *Patience) { p.AskedOtherwise("user/ann") }, (*Patience).Anew} {
+		p := newTrial()
+		expect(t, p.late(400, false, map[int64]func(){0: func() { p.Asked("user/ann") }, 200: func() { again(p.Patience) }}),
+			map[string][]int64{"user/ann": {50, 150, 250, 350}})
+	}
+	p := newTrial()
+	p.AskedOtherwise("user/ann") // nothing was asked
+	expect(t, p.late(100, false, nil), map[string][]int64{})
+}
+
+// A pause has four round trips at least. A longer one counts at once, and a shorter one for an eighth.
 func TestRoundTrips(t *testing.T) {
-	var at clock.Time
-	p := New(func() clock.Time { return at })
-	for i := 0; i < 200; i++ {
-		p.Took(100 * time.Millisecond)
-	}
-	times := nudged(p, &at, func(int64) silo.Status { return silo.Status{Closing: 1} }, 1500)
-	if len(times) != 2 || times[0] < 390 || times[0] > 401 {
-		t.Errorf("nudged at %v", times)
-	}
-	at += clock.Time(time.Hour)
-	if p.Nudge(silo.Status{Closing: 1}, busy+1) {
-		t.Error("nudged, though it has much to read")
-	}
-	if !p.Nudge(silo.Status{Closing: 1}, busy) {
-		t.Error("not nudged")
-	}
+	p := newTrial()
+	expect(t, p.late(400, false, map[int64]func(){0: func() { p.Asked("a/a") }, 32: func() { p.Answered("a/a"); p.Asked("b/b") },
+		200: func() { p.Answered("b/b") }, // sent at 160, so it took 40
+		201: func() { p.Asked("c/c"); p.Answered("c/c"); p.Asked("d/d") }}),
+		map[string][]int64{"b/b": {160}, "d/d": {341}}) // 40 - 40/8 = 35, and four times that
 }
 
-// What took long since it was nudged, as while a silo's death was waited for, isn't taken for a round trip.
-func TestWaitingIsNoRoundTrip(t *testing.T) {
-	var at clock.Time
-	p := New(func() clock.Time { return at })
-	nudged(p, &at, func(int64) silo.Status { return silo.Status{Asking: 9} }, 5500)
+// Of many asked at once, whose answers come one by one, none is taken for lost; one that is lost is nudged in its time.
+func TestBacklog(t *testing.T) {
+	p := newTrial()
+	happens := map[int64]func(){0: func() {
+		for i := 0; i < 101; i++ {
+			p.Asked(fmt.Sprintf("user/%d", i))
+		}
+	}}
 	for i := 0; i < 100; i++ {
-		p.Took(5400 * time.Millisecond)
+		grain := fmt.Sprintf("user/%d", i)
+		happens[int64(i+1)] = func() { p.Answered(grain) }
 	}
-	p.Nudge(silo.Status{Asking: 9, Moved: 1}, 0)
-	begin := at
-	for ; !p.Nudge(silo.Status{Asking: 9, Moved: 1}, 0); at += clock.Time(time.Millisecond) {
-	}
-	if wait := at.Sub(begin); wait != Shortest {
-		t.Errorf("it is nudged after %v", wait)
-	}
+	expect(t, p.late(1000, false, happens), map[string][]int64{"user/100": {400}})
+}
+
+// The ranges have pauses of their own, which begin anew where they got on. Once they are settled those of grains do, too.
+func TestRanges(t *testing.T) {
+	p := newTrial()
+	expect(t, p.late(500, true, map[int64]func(){0: func() { p.Asked("user/ann") }, 400: p.GotOn}),
+		map[string][]int64{"ranges": {50, 150, 350, 450}, "user/ann": {50, 150, 350}})
+	expect(t, p.late(700, false, map[int64]func(){600: p.GotOn}), map[string][]int64{"user/ann": {550, 650}})
+	expect(t, p.late(800, true, nil), map[string][]int64{"ranges": {750}})
 }
 
 func TestPausesEnd(t *testing.T) {
-	var at clock.Time
-	p := New(func() clock.Time { return at })
-	times := nudged(p, &at, func(int64) silo.Status { return silo.Status{Unsettled: 1} }, 120000)
-	if last := times[len(times)-1] - times[len(times)-2]; last != Longest.Milliseconds() {
-		t.Errorf("nudged at %v", times)
+	p := newTrial()
+	late := p.late(120000, false, map[int64]func(){0: func() { p.Asked("user/ann") }})["user/ann"]
+	if last := late[len(late)-1] - late[len(late)-2]; last != Longest.Milliseconds() {
+		t.Errorf("nudged at %v", late)
 	}
+	for i := 0; i < 2; i++ { // however long a round trip is, the first pause is a small part of the longest
+		p.Answered("user/ann")
+		p.Asked("user/ann")
+		p.at += clock.Time(time.Hour)
+	}
+	p.Answered("user/ann")
+	p.Asked("user/ann")
+	p.at += clock.Time(2*time.Second - 1)
+	if late, _ := p.Late(false); len(late) != 0 {
+		t.Error("nudged before 2 s")
+	}
+	p.at++
+	if late, _ := p.Late(false); len(late) != 1 {
+		t.Error("not nudged after 2 s")
+	}
+}
+
+func TestLook(t *testing.T) {
+	p := newTrial()
+	looks := func(expected time.Duration) {
+		t.Helper()
+		if look := p.Look(); look != expected {
+			t.Errorf("looked at after %v, not %v", look, expected)
+		}
+	}
+	looks(50 * time.Millisecond)
+	p.Asked("user/ann")
+	looks(10 * time.Millisecond)
+	p.at = clock.Time(50 * time.Millisecond)
+	p.Answered("user/ann")
+	looks(50 * time.Millisecond)
+	p.Late(true)
+	looks(40 * time.Millisecond)
+	p.Late(false)
+	p.Asked("user/ann")
+	p.at = clock.Time(time.Second)
+	p.Answered("user/ann")
+	p.Asked("user/ann")
+	looks(50 * time.Millisecond)
 }

@@ -4,7 +4,6 @@ import (
 	"fmt"
 	"strconv"
 	"strings"
-	"sync/atomic"
 
 	"agent/directory"
 )
@@ -19,8 +18,6 @@ func (s *Silo) Tell(change directory.Change, answer func(error)) error {
 		var err error
 		if !strings.HasPrefix(said, "view ") && !strings.HasPrefix(said, "known ") {
 			err = fmt.Errorf("the silo doesn't take the change %q: %s", line, short(said))
-		} else {
-			s.knows(change.Version)
 		}
 		if answer != nil {
 			answer(err)
@@ -48,6 +45,11 @@ func (s *Silo) Wake(grain string, answer func(Answer)) error { return s.ask("wak
 // Close gives an activation up, whose work has ended.
 func (s *Silo) Close(grain string, answer func(Answer)) error {
 	return s.ask("close", grain, answer)
+}
+
+// Cancel gives an activation up that still asks. It is refused by 808 where that became firm just before, and by 802 where it was taken.
+func (s *Silo) Cancel(grain string, answer func(Answer)) error {
+	return s.ask("cancel", grain, answer)
 }
 
 // Offer gives an activation, whose work has ended, to another silo.
@@ -85,49 +87,28 @@ func readAnswer(said string) Answer {
 		return Answer{Refused: words[1]}
 	case words[0] == "cached" && len(words) == 3:
 		return Answer{Activation: words[1], Cached: true}
-	case (words[0] == "started" || words[0] == "closing" || words[0] == "offered") && len(words) > 2:
+	case (begins[words[0]] == 2 || words[0] == "cancelled") && len(words) > 2:
 		return Answer{Activation: words[1]}
 	}
 	return Answer{}
 }
 
-// Nudge has the silo send again all that is outstanding, under new numbers: answers to the old ones count no more. So it is for whoever has
-// waited for longer than a round trip.
-func (s *Silo) Nudge(answer func()) error {
-	atomic.AddInt64(&s.counts.Nudges, 1)
-	return s.send("nudge", func(string) { answer() })
-}
-
-// Ping asks for an answer of any kind.
-func (s *Silo) Ping(answer func()) error { return s.send("ping agent", func(string) { answer() }) }
-
 // Dump gives the silo's object among the nodes of a dump, in JSON.
 func (s *Silo) Dump(answer func(string)) error { return s.send("dump", answer) }
 
-// Show gives the lines of `show`: all that the silo holds and has.
-func (s *Silo) Show(answer func([]string)) error {
-	var rows []string
-	if err := s.give("show", func(row string) { rows = append(rows, row) }, true); err != nil {
-		return err
-	}
-	if err := s.send("ping shown", func(string) { answer(rows) }); err != nil {
-		return err // and `show` has no end: the silo is so slow that it is given up
-	}
-	return nil
+// Status tells what the silo has and waits for. It costs the silo no more where that is much.
+func (s *Silo) Status(answer func(Status)) error {
+	return s.send("status", func(said string) {
+		if status, isStatus := readStatus(said); isStatus {
+			answer(status)
+		} else {
+			s.listener.Broken("the silo's process answers `status` by: " + short(said))
+		}
+	})
 }
 
-// Status tells what the silo has and waits for. It costs a ping, but once a view a `show`, which lists all activations.
-func (s *Silo) Status(answer func(Status)) error {
-	s.mu.Lock()
-	isSure := len(s.tracked.unsettled) > 0 || s.tracked.settled == s.tracked.seen
-	s.mu.Unlock()
-	if isSure {
-		return s.Ping(func() { answer(s.status()) })
-	}
-	return s.Show(func(rows []string) {
-		s.mu.Lock()
-		s.tracked.shown(rows)
-		s.mu.Unlock()
-		answer(s.status())
-	})
+func readStatus(said string) (status Status, isStatus bool) {
+	_, err := fmt.Sscanf(said, "status %d known %d held %d asking %d closing %d finding %d unsettled %d kept %d", &status.Seen, &status.Known,
+		&status.Held, &status.Asking, &status.Closing, &status.Finding, &status.Unsettled, &status.Kept)
+	return status, err == nil
 }

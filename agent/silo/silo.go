@@ -1,9 +1,5 @@
 // Package silo runs a silo's process and speaks its lines (docs/RULES.md, "Lines of a silo's process"). Nothing else in the agent writes or
-// reads such a line, so what the process may learn to say later is taken up here:
-//
-//	status           Status is counted here from the lines that pass, and confirmed once a view by `show`
-//	nudge GRAIN      Nudge renews all requests; so whoever nudges waits for longer each time (package settling)
-//	cancel           an asking that nobody wants is closed once it is firm
+// reads such a line.
 package silo
 
 import (
@@ -24,6 +20,7 @@ import (
 	"agent/clock"
 	"agent/directory"
 	"agent/queue"
+	"agent/settling"
 )
 
 // Bounds of what waits for the process to read it. Letters have less room than commands, so a silo that is slow loses letters, which are sent
@@ -97,14 +94,11 @@ type Answer struct {
 // Status is what a silo has, and what it waits for.
 type Status struct {
 	Seen, Known              uint64
-	Held                     int
+	Held                     int // activations: of these some ask, and some close
 	Asking, Closing, Finding int
-	Unsettled                int
-	Moved                    uint64 // rises whenever something came that was waited for
+	Unsettled                int // ranges
+	Kept                     int // snapshots
 }
-
-// Outstanding says whether the silo waits for anything.
-func (s Status) Outstanding() bool { return s.Asking+s.Closing+s.Finding+s.Unsettled > 0 }
 
 // Counts are what a silo has said and read so far.
 type Counts struct{ LettersIn, LettersOut, LettersLost, Nudges, Faults int64 }
@@ -118,18 +112,11 @@ type Silo struct {
 	ended    chan struct{}
 	wrote    int64 // atomic: when it wrote its last line, by clock.Boot
 	counts   Counts
+	patience *settling.Patience
 
 	mu      sync.Mutex
-	waiting []waiting
+	waiting []func(string) // of each line that isn't answered yet, what takes its answer: one line. nil: it is a letter
 	head    int
-	tracked tracked
-}
-
-// waiting is a line that was given to the process and isn't answered yet. Each is answered by one line; only `show` has many, up to a pong.
-type waiting struct {
-	answer func(line string) // nil: a letter
-	rows   bool
-	settle string // of a page or a report: its range
 }
 
 // Start starts a silo's process.
@@ -166,15 +153,19 @@ func Check(program string, silo directory.Silo, settings directory.Settings) err
 		return err
 	}
 	defer s.Kill()
-	answered := make(chan struct{})
-	s.Ping(func() { close(answered) })
+	answered := make(chan string, 1)
+	s.send("status", func(said string) { answered <- said })
+	said := "nothing"
 	select {
-	case <-answered:
-		return nil
+	case said = <-answered:
+		if _, isStatus := readStatus(said); isStatus {
+			return nil
+		}
 	case <-s.Ended():
 	case <-time.After(patience):
 	}
-	return fmt.Errorf("%s isn't a silo's process: `%s silo %s` doesn't answer; --program is the path of grain-directory, built by ./build", program, program, silo)
+	return fmt.Errorf("%s isn't a silo's process: `%s silo %s` answers `status` by %s; --program is the path of grain-directory, built by ./build",
+		program, program, silo, short(said))
 }
 
 // deaf hears nothing.
@@ -191,7 +182,7 @@ func over(options Options, listener Listener, in io.WriteCloser, out io.Reader) 
 		options.May = func() bool { return true }
 	}
 	s := &Silo{options: options, listener: listener, in: queue.New(mostPending), ended: make(chan struct{}), wrote: int64(clock.Boot()),
-		tracked: newTracked()}
+		patience: settling.New(clock.Boot)}
 	go func() {
 		s.in.Run(in, options.May)
 		in.Close()
@@ -230,15 +221,13 @@ func (s *Silo) Kill() {
 }
 
 // send gives the process a line.
-func (s *Silo) send(line string, answer func(string)) error { return s.give(line, answer, false) }
-
-func (s *Silo) give(line string, answer func(string), rows bool) error {
+func (s *Silo) send(line string, answer func(string)) error {
 	s.mu.Lock()
 	defer s.mu.Unlock()
 	if !s.in.Add([]byte(line), mostPending) {
 		return ErrBusy
 	}
-	s.waiting = append(s.waiting, waiting{answer: answer, rows: rows})
+	s.waiting = append(s.waiting, answer)
 	return nil
 }
 
@@ -250,14 +239,10 @@ func (s *Silo) Receive(line []byte) {
 		atomic.AddInt64(&s.counts.Faults, 1)
 		return
 	}
-	s.receive(head, line)
+	s.receive(line)
 }
 
-func (s *Silo) receive(head head, line []byte) {
-	w := waiting{}
-	if head.kind == "page" || head.kind == "report" {
-		w.settle = head.first
-	}
+func (s *Silo) receive(line []byte) {
 	s.mu.Lock()
 	defer s.mu.Unlock()
 	if !s.in.Add(line, mostLetters) {
@@ -265,14 +250,14 @@ func (s *Silo) receive(head head, line []byte) {
 		return
 	}
 	atomic.AddInt64(&s.counts.LettersIn, 1)
-	s.waiting = append(s.waiting, w)
+	s.waiting = append(s.waiting, nil)
 }
 
-// head is the beginning of a letter's line: letter FROM TO VERSION KIND and the word behind it.
-type head struct{ from, to, kind, first string }
+// head is the beginning of a letter's line: letter FROM TO VERSION KIND.
+type head struct{ to, kind string }
 
 func readHead(line []byte) (head, bool) {
-	var words [6][]byte
+	var words [5][]byte
 	rest := line
 	count := 0
 	for count < len(words) && len(rest) > 0 {
@@ -289,10 +274,10 @@ func readHead(line []byte) (head, bool) {
 		}
 		rest = rest[end+1:]
 	}
-	if count < 5 || string(words[0]) != "letter" {
+	if count < len(words) || string(words[0]) != "letter" {
 		return head{}, false
 	}
-	return head{string(words[1]), string(words[2]), string(words[4]), string(words[5])}, true
+	return head{string(words[2]), string(words[4])}, true
 }
 
 // complaints are what the process says beside its lines.
@@ -344,13 +329,8 @@ func readLine(reader *bufio.Reader) ([]byte, error) {
 
 func (s *Silo) wroteLetter(head head, line []byte) {
 	atomic.AddInt64(&s.counts.LettersOut, 1)
-	if head.kind == "ask" || head.kind == "query" {
-		s.mu.Lock()
-		s.tracked.unsettled[head.first] = true
-		s.mu.Unlock()
-	}
 	if head.to == string(s.options.Silo) {
-		s.receive(head, line) // it comes back as any other
+		s.receive(line) // it comes back as any other
 		return
 	}
 	s.listener.Letter(directory.Silo(head.to), head.kind, line)
@@ -358,41 +338,36 @@ func (s *Silo) wroteLetter(head head, line []byte) {
 
 // answered gives a line to whoever waits for it; whether anybody does.
 func (s *Silo) answered(line []byte) bool {
-	s.mu.Lock()
-	if s.head < len(s.waiting) && s.waiting[s.head].rows {
-		if !bytes.HasPrefix(line, []byte("pong ")) {
-			answer := s.waiting[s.head].answer
-			s.mu.Unlock()
-			answer(string(line))
-			return true
-		}
-		s.head++ // the pong is the next one's
-	}
-	if s.head == len(s.waiting) {
-		s.mu.Unlock()
-		return false
-	}
-	w := s.waiting[s.head]
-	s.waiting[s.head] = waiting{}
-	s.head++
-	if s.head > 4096 && 2*s.head > len(s.waiting) {
-		s.waiting = append([]waiting(nil), s.waiting[s.head:]...)
-		s.head = 0
-	}
 	text := string(line)
 	words := strings.Fields(text)
-	if len(words) == 0 {
-		s.mu.Unlock()
+	answer, isWaiting := s.next()
+	if !isWaiting || len(words) == 0 {
 		return false
 	}
-	s.tracked.note(words, w.settle)
-	s.mu.Unlock()
-	if w.answer != nil {
-		w.answer(text)
+	note(s.patience, words)
+	if answer != nil {
+		answer(text)
 	} else {
 		s.said(words)
 	}
 	return true
+}
+
+// next takes the first of those who wait for an answer.
+func (s *Silo) next() (answer func(string), isThere bool) {
+	s.mu.Lock()
+	defer s.mu.Unlock()
+	if s.head == len(s.waiting) {
+		return nil, false
+	}
+	answer = s.waiting[s.head]
+	s.waiting[s.head] = nil
+	s.head++
+	if s.head > 4096 && 2*s.head > len(s.waiting) {
+		s.waiting = append([]func(string){}, s.waiting[s.head:]...)
+		s.head = 0
+	}
+	return answer, true
 }
 
 // said tells what came of a letter.

@@ -8,10 +8,13 @@ import (
 	"reflect"
 	"strings"
 	"sync"
+	"sync/atomic"
 	"testing"
 	"time"
 
+	"agent/clock"
 	"agent/directory"
+	"agent/settling"
 )
 
 const me = directory.Silo("10.0.0.1:1000@1")
@@ -120,17 +123,11 @@ func TestActivation(t *testing.T) {
 		t.Fatalf("%+v", a)
 	}
 	h.expects(t, "letter to 10.0.0.2:1000@1 register: letter 10.0.0.1:1000@1 10.0.0.2:1000@1 4 register 1 user/ann 10.0.0.1:1000@1!1")
-	if status := s.status(); status.Asking != 1 || status.Held != 1 || !status.Outstanding() {
-		t.Fatalf("%+v", status)
-	}
 	reply := "letter 10.0.0.2:1000@1 " + string(me) + " 4 registered 1 user/ann " + string(me) + "!1"
 	s.Receive([]byte(reply))
 	f.expects(reply)
 	f.writes("firm " + string(me) + "!1 user/ann at 3")
 	h.expects(t, fmt.Sprintf("%+v", Said{What: Firm, Activation: string(me) + "!1", Grain: "user/ann", Token: 3}))
-	if status := s.status(); status.Asking != 0 || status.Held != 1 || status.Seen != 4 || status.Outstanding() {
-		t.Fatalf("%+v", status)
-	}
 	told, answer = answers()
 	s.Wake("user/ann", told)
 	f.expects("wake user/ann")
@@ -192,58 +189,125 @@ func TestOwnLetters(t *testing.T) {
 	f.expects("letter " + string(me) + " " + string(me) + " 1 nothing 1")
 	f.writes("nothing user/ann")
 	h.expects(t, fmt.Sprintf("%+v", Said{Kind: "find", Effect: "nothing"}), fmt.Sprintf("%+v", Said{What: Nothing, Grain: "user/ann"}))
-	if counts := s.Counts(); counts.LettersIn != 2 || counts.LettersOut != 2 || s.status().Outstanding() {
+	if counts := s.Counts(); counts.LettersIn != 2 || counts.LettersOut != 2 {
 		t.Errorf("%+v", counts)
 	}
 }
 
-// Ranges are tracked by the letters that ask for them; that all are settled is confirmed by `show` once a view, and then no more.
 func TestStatus(t *testing.T) {
 	h := newHeard()
 	f, s := newFake(t, h)
-	s.See(1, func(bool, error) {})
-	f.expects("see 1")
-	query := "letter " + string(me) + " " + string(me) + " 1 query 0+4294967296"
-	f.writes(string(me)+" sees 1 next", query)
-	f.expects(query)
-	statuses := make(chan Status, 1)
-	ask := func() {
-		if err := s.Status(func(status Status) { statuses <- status }); err != nil {
-			t.Fatal(err)
-		}
+	for said, heard := range map[string]string{
+		"status 3 known 4 held 7 asking 1 closing 2 finding 5 unsettled 6 kept 8": fmt.Sprintf("%+v",
+			Status{Seen: 3, Known: 4, Held: 7, Asking: 1, Closing: 2, Finding: 5, Unsettled: 6, Kept: 8}),
+		"fault 921":               "broken: the silo's process answers `status` by: fault 921",
+		"status 3 known 4 held 7": "broken: the silo's process answers `status` by: status 3 known 4 held 7",
+	} {
+		s.Status(func(status Status) { h.add("%+v", status) })
+		f.expects("status")
+		f.writes(said)
+		h.expects(t, heard)
 	}
-	report := "letter " + string(me) + " " + string(me) + " 1 report 0+4294967296"
-	f.writes("delivered query report", report)
-	f.expects(report)
-	h.expects(t, fmt.Sprintf("%+v", Said{Kind: "query", Effect: "report"}))
-	ask()
-	f.expects("ping agent")
-	f.writes("delivered report complete", "pong agent")
-	h.expects(t, fmt.Sprintf("%+v", Said{Kind: "report", Effect: "complete"}))
-	<-statuses
-	ask()
-	f.expects("show")
-	f.expects("ping shown")
-	f.writes("version 1", "silo "+string(me)+" active seen 1 held 0", "range 0+4294967296 settled entries 0", "pong shown")
-	if status := <-statuses; status.Unsettled != 0 || status.Seen != 1 {
-		t.Errorf("%+v", status)
-	}
-	ask()
-	f.expects("ping agent")
-	f.writes("pong agent")
-	<-statuses
 }
 
-func TestShownUnsettled(t *testing.T) {
-	tracked := newTracked()
-	tracked.shown([]string{"version 2", "silo " + string(me) + " active seen 2 held 0", "range 0+10 awaiting 10.0.0.2:1000@1", "range 20+5 settled entries 1"})
-	if tracked.settled != 0 || len(tracked.unsettled) != 1 {
-		t.Errorf("%+v", tracked)
+// An activation that asks is given up; the refusals are told as they are.
+func TestCancel(t *testing.T) {
+	h := newHeard()
+	f, s := newFake(t, h)
+	for _, one := range []struct {
+		said   string
+		answer Answer
+	}{{"cancelled " + string(me) + "!1 user/ann", Answer{Activation: string(me) + "!1"}}, {"refused 808", Answer{Refused: "808"}},
+		{"refused 802", Answer{Refused: "802"}}} {
+		told, answer := answers()
+		s.Cancel("user/ann", told)
+		f.expects("cancel user/ann")
+		f.writes(one.said)
+		if a := answer(); a != one.answer {
+			t.Errorf("%q: %+v", one.said, a)
+		}
 	}
-	tracked.note(strings.Fields("delivered page gathering"), "0+10")
-	tracked.note(strings.Fields("delivered page installed"), "0+10")
-	if tracked.moved != 2 || len(tracked.unsettled) != 0 {
-		t.Errorf("%+v", tracked)
+}
+
+// What the silo waits for about a grain ends by its answer alone.
+func TestWaits(t *testing.T) {
+	for _, one := range []struct{ lines, waits string }{
+		{"started S!1 user/ann", "user/ann"},
+		{"started S!1 user/ann; delivered retry noted user/ann 602; delivered registered ignored", "user/ann"},
+		{"started S!1 user/ann; firm S!1 user/ann at 4", ""},
+		{"started S!1 user/ann; taken user/ann by T!1", ""},
+		{"started S!1 user/ann; cancelled S!1 user/ann", "user/ann"},
+		{"started S!1 user/ann; cancelled S!1 user/ann; ended S!1 user/ann absent", ""},
+		{"closing S!1 user/ann", "user/ann"},
+		{"closing S!1 user/ann; ended S!1 user/ann removed", ""},
+		{"offered S!1 user/ann to 10.0.0.2:1000@1", "user/ann"},
+		{"finding user/ann; nothing cached user/ann", "user/ann"},
+		{"finding user/ann; nothing user/ann", ""},
+		{"finding user/ann; found T!1 user/ann", ""},
+		{"started S!1 user/ann; finding user/ann; found T!1 user/ann", "user/ann"},
+		{"cached T!1 user/ann; refused 801; fault 111; pong", ""},
+	} {
+		at := clock.Time(0)
+		patience := settling.New(func() clock.Time { return at })
+		for _, line := range strings.Split(one.lines, "; ") {
+			note(patience, strings.Fields(line))
+		}
+		at += clock.Time(time.Hour)
+		if grains, _ := patience.Late(false); strings.Join(grains, " ") != one.waits {
+			t.Errorf("%s: it waits for %q", one.lines, grains)
+		}
+	}
+}
+
+// By these lines the pause of the ranges begins anew.
+func TestRangesGetOn(t *testing.T) {
+	for line, getsOn := range map[string]bool{"delivered page gathering": true, "delivered page installed": true, "delivered missing recovering": true,
+		"delivered report more": true, "delivered report complete": true, string(me) + " sees 4 next": true, "delivered page ignored": false,
+		"delivered page refused 702": false, "delivered report ignored": false, "delivered ask page": false, "delivered query report": false} {
+		at := clock.Time(0)
+		patience := settling.New(func() clock.Time { return at })
+		patience.Late(true)
+		at += clock.Time(time.Hour)
+		note(patience, strings.Fields(line))
+		if _, isLate := patience.Late(true); isLate == getsOn {
+			t.Errorf("%s: %v", line, isLate)
+		}
+	}
+}
+
+// A silo that waits is nudged of each grain by itself, and of its ranges; not while it has much to read.
+func TestNudge(t *testing.T) {
+	h := newHeard()
+	f, s := newFake(t, h)
+	var at int64
+	s.patience = settling.New(func() clock.Time { return clock.Time(atomic.LoadInt64(&at)) })
+	told, answer := answers()
+	s.Wake("user/ann", told)
+	f.expects("wake user/ann")
+	f.writes("started " + string(me) + "!1 user/ann")
+	answer()
+	s.Nudge(Status{Asking: 1, Unsettled: 2})
+	atomic.AddInt64(&at, int64(settling.Shortest))
+	s.Nudge(Status{Asking: 1, Unsettled: 2})
+	f.expects("nudge user/ann")
+	f.expects("nudge ranges")
+	f.writes("nudged "+string(me), "letter "+string(me)+" 10.0.0.2:1000@1 4 register 2 user/ann "+string(me)+"!1", "nudged "+string(me))
+	h.expects(t, "letter to 10.0.0.2:1000@1 register: letter 10.0.0.1:1000@1 10.0.0.2:1000@1 4 register 2 user/ann 10.0.0.1:1000@1!1")
+	atomic.AddInt64(&at, int64(time.Hour))
+	s.send("ping x", func(string) {})
+	for s.Pending() > 0 { // until it is being written
+		time.Sleep(time.Millisecond)
+	}
+	long := "ping " + strings.Repeat("y", busy)
+	s.send(long, func(string) {})
+	s.Nudge(Status{Asking: 1, Unsettled: 2})
+	f.expects("ping x")
+	f.expects(long)
+	s.Nudge(Status{Asking: 1, Unsettled: 2})
+	f.expects("nudge user/ann")
+	f.expects("nudge ranges")
+	if nudges := s.Counts().Nudges; nudges != 4 {
+		t.Errorf("%d nudges are counted", nudges)
 	}
 }
 
@@ -255,8 +319,8 @@ func TestLettersToOthers(t *testing.T) {
 		"letter 10.0.0.2:1000@1 " + string(me) + " 1 nothing 1\nwake user/eve", ""} {
 		s.Receive([]byte(line))
 	}
-	s.Ping(func() {})
-	f.expects("ping agent")
+	s.Status(func(Status) {})
+	f.expects("status")
 	if counts := s.Counts(); counts.LettersIn != 0 || counts.Faults != 5 {
 		t.Errorf("%+v", counts)
 	}
