@@ -42,6 +42,9 @@ func (f *fake) Wake(grain string, answer func(silo.Answer)) error {
 func (f *fake) Close(grain string, answer func(silo.Answer)) error {
 	return f.add("close "+grain, answer)
 }
+func (f *fake) Cancel(grain string, answer func(silo.Answer)) error {
+	return f.add("cancel "+grain, answer)
+}
 func (f *fake) Offer(grain string, to directory.Silo, answer func(silo.Answer)) error {
 	return f.add("offer "+grain+" "+string(to), answer)
 }
@@ -73,6 +76,12 @@ func (f *fake) answers(t *testing.T, line string, answer silo.Answer) {
 			t.Fatalf("the silo isn't told %q", line)
 		}
 	}
+}
+
+func (f *fake) isBusy(is bool) {
+	f.mu.Lock()
+	defer f.mu.Unlock()
+	f.busy = is
 }
 
 func (f *fake) pending() int {
@@ -196,41 +205,145 @@ func TestOneLife(t *testing.T) {
 	}
 }
 
-// Two ask at once: the first has it, the other hears where it is.
-func TestTwoAsk(t *testing.T) {
+// Some ask at once: the first has it, the others hear where it is, but for one that gives up.
+func TestSomeAsk(t *testing.T) {
+	x := start(t)
+	a, b, c := x.dial(), x.dial(), x.dial()
+	a.says("1 activate user/ann")
+	x.silo.answers(t, "wake user/ann", silo.Answer{Activation: "S!1"})
+	b.says("2 activate user/ann")
+	b.says("3 activate user/ann")
+	b.says("4 status")
+	b.hears("4 status S version 1 held 1")
+	c.says("5 deactivate user/ann")
+	c.hears("5 refused 803 ")
+	c.says("6 activate user/ann")
+	c.says("7 deactivate user/ann")
+	c.hears("6 refused given ")
+	c.hears("7 ended user/ann absent")
+	x.service.Said(silo.Said{What: silo.Firm, Activation: "S!1", Grain: "user/ann", Token: 1})
+	a.hears("1 firm S!1 user/ann token 1")
+	b.hears("2 taken S!1 user/ann")
+	b.hears("3 taken S!1 user/ann")
+}
+
+// An activation ends with its connection: it is closed where it is firm, and given up where it asks; who asked beside it has it instead.
+func TestHangingUp(t *testing.T) {
+	x := start(t)
+	a, b, c, d := x.dial(), x.dial(), x.dial(), x.dial()
+	x.firm(a, "user/ann", "S!1", 1)
+	a.conn.Close()
+	x.silo.answers(t, "close user/ann", silo.Answer{Activation: "S!1"})
+	x.service.Said(silo.Said{What: silo.Ended, Grain: "user/ann"})
+	b.says("1 activate user/bob")
+	x.silo.answers(t, "wake user/bob", silo.Answer{Activation: "S!2"})
+	b.conn.Close()
+	x.silo.answers(t, "cancel user/bob", silo.Answer{Activation: "S!2"})
+	x.service.Said(silo.Said{What: silo.Ended, Grain: "user/bob", How: "absent"})
+	x.held(0)
+	c.says("2 activate user/eve")
+	x.silo.answers(t, "wake user/eve", silo.Answer{Activation: "S!3"})
+	d.says("3 activate user/eve")
+	d.says("4 find x/y")
+	x.silo.answers(t, "find x/y", silo.Answer{})
+	c.conn.Close()
+	x.silo.isTold(t, "nothing")
+	x.service.Said(silo.Said{What: silo.Firm, Activation: "S!3", Grain: "user/eve", Token: 2})
+	d.hears("3 firm S!3 user/eve token 2")
+	x.held(1)
+}
+
+// Whoever has asked for an activation may give it up; who asked beside it has it instead, and who asks meanwhile has it anew.
+func TestGivingUp(t *testing.T) {
 	x := start(t)
 	a, b := x.dial(), x.dial()
 	a.says("1 activate user/ann")
 	x.silo.answers(t, "wake user/ann", silo.Answer{Activation: "S!1"})
-	b.says("2 activate user/ann")
-	b.says("3 deactivate user/ann")
-	b.hears("3 refused 803 ")
-	x.service.Said(silo.Said{What: silo.Firm, Activation: "S!1", Grain: "user/ann", Token: 1})
-	a.hears("1 firm S!1 user/ann token 1")
-	b.hears("2 taken S!1 user/ann")
+	a.says("2 migrate user/ann 10.0.0.2:1000@1")
+	a.hears("2 refused 803 ")
+	a.says("3 deactivate user/ann")
+	a.hears("1 refused given ")
+	b.says("4 activate user/ann")
+	b.says("5 status")
+	b.hears("5 status S version 1 held 1")
+	x.silo.answers(t, "cancel user/ann", silo.Answer{Activation: "S!1"})
+	x.service.Said(silo.Said{What: silo.Ended, Activation: "S!1", Grain: "user/ann", How: "absent"})
+	a.hears("3 ended user/ann absent")
+	x.silo.answers(t, "wake user/ann", silo.Answer{Activation: "S!2"})
+	a.says("6 activate user/ann")
+	a.says("7 status")
+	a.hears("7 status S version 1 held 1")
+	b.says("8 deactivate user/ann")
+	b.hears("4 refused given ")
+	b.hears("8 ended user/ann absent")
+	x.silo.isTold(t, "nothing")
+	x.service.Said(silo.Said{What: silo.Firm, Activation: "S!2", Grain: "user/ann", Token: 1})
+	a.hears("6 firm S!2 user/ann token 1")
 }
 
-// An activation ends with its connection, whether it is firm or asking; who asked beside it has it instead.
-func TestHangingUp(t *testing.T) {
+// What became firm just before it was given up is closed, and nobody is told of it.
+func TestGivenUpTooLate(t *testing.T) {
 	x := start(t)
 	a, b := x.dial(), x.dial()
-	x.firm(a, "user/ann", "S!1", 1)
-	a.says("2 activate user/bob")
-	x.silo.answers(t, "wake user/bob", silo.Answer{Activation: "S!2"})
-	a.says("3 activate user/eve")
-	x.silo.answers(t, "wake user/eve", silo.Answer{Activation: "S!3"})
-	b.says("4 activate user/eve")
-	b.says("5 find x/y")
-	x.silo.answers(t, "find x/y", silo.Answer{})
-	a.conn.Close()
+	b.says("1 serve")
+	b.hears("1 ok")
+	a.says("2 activate user/ann")
+	x.silo.answers(t, "wake user/ann", silo.Answer{Activation: "S!1"})
+	a.says("3 deactivate user/ann")
+	a.hears("2 refused given ")
+	x.service.Said(silo.Said{What: silo.Firm, Activation: "S!1", Grain: "user/ann", Token: 1})
+	x.silo.answers(t, "cancel user/ann", silo.Answer{Refused: "808"})
 	x.silo.answers(t, "close user/ann", silo.Answer{Activation: "S!1"})
-	x.service.Said(silo.Said{What: silo.Firm, Activation: "S!2", Grain: "user/bob", Token: 1})
-	x.silo.answers(t, "close user/bob", silo.Answer{Activation: "S!2"})
-	x.service.Said(silo.Said{What: silo.Firm, Activation: "S!3", Grain: "user/eve", Token: 2})
-	b.hears("4 firm S!3 user/eve token 2")
-	x.service.Said(silo.Said{What: silo.Ended, Grain: "user/ann"})
-	x.service.Said(silo.Said{What: silo.Ended, Grain: "user/bob"})
-	x.held(1)
+	x.service.Said(silo.Said{What: silo.Ended, Activation: "S!1", Grain: "user/ann", How: "removed"})
+	a.hears("3 ended user/ann removed")
+	b.says("4 status")
+	b.hears("4 status S version 1 held 0")
+}
+
+// What was taken, or refused, just before it was given up is gone; who asked for it meanwhile has it asked for anew.
+func TestGivenUpInVain(t *testing.T) {
+	x := start(t)
+	a, b := x.dial(), x.dial()
+	a.says("1 activate user/ann")
+	x.silo.answers(t, "wake user/ann", silo.Answer{Activation: "S!1"})
+	a.says("2 deactivate user/ann")
+	a.hears("1 refused given ")
+	b.says("3 activate user/ann")
+	b.says("4 status")
+	b.hears("4 status S version 1 held 1")
+	x.service.Said(silo.Said{What: silo.Taken, Activation: "T!1", Grain: "user/ann"})
+	a.hears("2 ended user/ann absent")
+	x.silo.answers(t, "cancel user/ann", silo.Answer{Refused: "802"})
+	x.silo.answers(t, "wake user/ann", silo.Answer{Activation: "S!2"})
+	x.service.Said(silo.Said{What: silo.Taken, Activation: "T!1", Grain: "user/ann"})
+	b.hears("3 taken T!1 user/ann")
+	a.says("5 activate user/bob")
+	a.says("6 deactivate user/bob")
+	a.hears("5 refused given ")
+	x.silo.answers(t, "wake user/bob", silo.Answer{Refused: "806"})
+	a.hears("6 ended user/bob absent")
+	x.silo.answers(t, "cancel user/bob", silo.Answer{Refused: "802"})
+	x.held(0)
+}
+
+// Where the silo can't be told that something is given up, that goes on; what nobody has is given up later.
+func TestGivingUpRefused(t *testing.T) {
+	x := start(t)
+	a := x.dial()
+	a.says("1 activate user/ann")
+	x.silo.answers(t, "wake user/ann", silo.Answer{Activation: "S!1"})
+	x.silo.isBusy(true)
+	a.says("2 deactivate user/ann")
+	a.hears("2 refused busy ")
+	a.conn.Close()
+	for end := time.Now().Add(5 * time.Second); x.service.Figures().Applications > 0 && time.Now().Before(end); {
+		time.Sleep(time.Millisecond)
+	}
+	x.silo.isBusy(false)
+	x.service.Sweep()
+	x.silo.answers(t, "cancel user/ann", silo.Answer{Refused: "805"})
+	x.service.Said(silo.Said{What: silo.Firm, Activation: "S!1", Grain: "user/ann", Token: 1})
+	x.silo.answers(t, "close user/ann", silo.Answer{Activation: "S!1"})
 }
 
 func TestRefusals(t *testing.T) {
@@ -259,7 +372,7 @@ func TestRefusals(t *testing.T) {
 	a.hears("3 refused 807 ")
 	a.says("4 activate user/ann") // its work goes on
 	a.hears("4 firm S!1 user/ann token 1")
-	x.silo.busy = true
+	x.silo.isBusy(true)
 	for _, line := range []string{"activate user/bob", "deactivate user/ann", "migrate user/ann any", "find user/bob", "find user/bob fresh"} {
 		a.says("5 " + line)
 		a.hears("5 refused busy ")
@@ -269,7 +382,7 @@ func TestRefusals(t *testing.T) {
 	for end := time.Now().Add(5 * time.Second); x.service.Figures().Applications > 0 && time.Now().Before(end); {
 		time.Sleep(time.Millisecond)
 	}
-	x.silo.busy = false
+	x.silo.isBusy(false)
 	x.service.Sweep()
 	x.silo.answers(t, "close user/ann", silo.Answer{Activation: "S!1"})
 }

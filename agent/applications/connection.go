@@ -66,6 +66,7 @@ var reasons = map[string]string{
 	"111":     "a grain is KIND/KEY, neither of them empty",
 	"112":     "a grain's kind has up to 64 bytes, its key up to 128",
 	"113":     "a grain is visible ASCII",
+	"given":   "this connection has given it up meanwhile",
 	"busy":    "too much waits for the silo's process: ask again, later",
 	"leaving": "this silo leaves: ask another agent",
 	"lost":    "this silo is fenced: end all work, hang up, and connect again",

@@ -4,7 +4,7 @@
 //	TAG activate GRAIN       firm ACTIVATION GRAIN token V | taken ACTIVATION GRAIN: it is there | refused ..
 //	TAG find GRAIN [fresh]   at ACTIVATION GRAIN [hint] | nowhere GRAIN | refused ..; fresh asks the directory where there is a hint
 //	TAG deactivate GRAIN     ended GRAIN removed|absent | refused ..; the application ends the work, then asks; absent: the directory had it
-//	                         here no more
+//	                         here no more. One that isn't firm yet is given up: its activate is refused by `given`
 //	TAG migrate GRAIN SILO   the same; SILO may be `any`
 //	TAG serve [KIND ..]      ok; grains, or those of these kinds, that move here may be given to this connection
 //	TAG expect GRAIN         ok; if it moves here it is this connection's, before any that serves its kind. TAG unexpect GRAIN takes that back
@@ -24,7 +24,8 @@
 //	event leaving                     this silo leaves: end the work, then deactivate or migrate each grain
 //	event lost WHY                    all activations are lost: end all work, then hang up
 //
-// An activation belongs to the connection that asked for it. When that hangs up its work has ended, so the activation is closed.
+// An activation belongs to the connection that asked for it. When that hangs up its work has ended, so the activation is closed; one that isn't firm
+// yet is given up, unless another connection asks for it, too.
 package applications
 
 import (
@@ -41,6 +42,7 @@ import (
 type Directory interface {
 	Wake(grain string, answer func(silo.Answer)) error
 	Close(grain string, answer func(silo.Answer)) error
+	Cancel(grain string, answer func(silo.Answer)) error
 	Offer(grain string, to directory.Silo, answer func(silo.Answer)) error
 	Find(grain string, answer func(silo.Answer)) error
 	Forget(grain string) error
@@ -92,7 +94,7 @@ type grain struct {
 	phase            phase
 	token            uint64
 	since            clock.Time
-	owner            *application // whose work it is; nil if that has hung up
+	owner            *application // whose work it is; nil while it moves here, and once that has hung up
 	asked            []ask        // who waits for firm or taken
 	ending           []ask        // who waits for its end
 	again            []ask        // who wants it anew behind its end
@@ -159,6 +161,9 @@ func (s *Service) activate(k ask, name string) {
 		}
 	case g.phase == asking:
 		g.asked = append(g.asked, k)
+		if g.owner == nil {
+			s.give(g, k.app)
+		}
 	case g.phase == firm && g.owner == k.app:
 		k.answer("firm %s %s token %d", g.activation, name, g.token)
 	case g.phase == firm:
@@ -202,6 +207,10 @@ func (s *Service) woken(g *grain, answer silo.Answer) {
 }
 
 func (s *Service) refused(g *grain, code string) {
+	if g.phase == closing { // it was given up
+		s.ended(g, "absent")
+		return
+	}
 	s.drop(g)
 	for _, k := range g.asked {
 		k.refuse(code)
@@ -256,48 +265,6 @@ func (s *Service) notFound(name, code string) {
 	}
 }
 
-// close begins the end of an activation whose work has ended: it is closed, or offered to a silo.
-func (s *Service) close(k ask, name string, to directory.Silo) {
-	g := s.grains[name]
-	switch {
-	case g == nil:
-		k.refuse("802")
-	case g.phase == asking || g.phase == firm && g.owner != k.app:
-		k.refuse("803")
-	case g.phase == closing:
-		g.ending = append(g.ending, k)
-	default:
-		g.phase, g.since = closing, s.options.Now()
-		g.ending = append(g.ending, k)
-		if err := s.end(g, to); err != nil {
-			s.goesOn(g, "busy")
-		}
-	}
-}
-
-func (s *Service) end(g *grain, to directory.Silo) error {
-	answer := func(answer silo.Answer) {
-		if answer.Refused != "" {
-			s.mu.Lock()
-			defer s.mu.Unlock()
-			s.goesOn(g, answer.Refused)
-		}
-	}
-	if to == "" {
-		return s.options.Silo.Close(g.name, answer)
-	}
-	return s.options.Silo.Offer(g.name, to, answer)
-}
-
-// goesOn takes back that an activation ends: it is firm as it was, and its work may go on. One that nobody has any more is closed later.
-func (s *Service) goesOn(g *grain, code string) {
-	g.phase = firm
-	for _, k := range append(g.ending, g.again...) {
-		k.refuse(code)
-	}
-	g.ending, g.again = nil, nil
-}
-
 // Said takes what came of a letter.
 func (s *Service) Said(said silo.Said) {
 	s.mu.Lock()
@@ -305,15 +272,12 @@ func (s *Service) Said(said silo.Said) {
 	g := s.grains[said.Grain]
 	switch said.What {
 	case silo.Firm:
-		if g != nil {
+		if g != nil && g.phase == asking { // else it was given up, which the silo refuses
 			s.becameFirm(g, said)
 		}
 	case silo.Taken:
 		if g != nil {
-			s.drop(g)
-			for _, k := range g.asked {
-				k.answer("taken %s %s", said.Activation, g.name)
-			}
+			s.taken(g, said.Activation)
 		}
 	case silo.Ended:
 		s.counts["ended "+said.How]++
@@ -342,27 +306,32 @@ func (s *Service) becameFirm(g *grain, said silo.Said) {
 	if s.over != "" || !s.options.May() {
 		return // the silo may be dead by now: nobody is told
 	}
-	if len(g.asked) == 0 { // it moved here
-		s.give(g, s.server(g.name))
-		if g.owner != nil {
+	if g.owner == nil && len(g.asked) == 0 { // it moved here
+		if s.give(g, s.server(g.name)); g.owner != nil {
 			g.owner.say("event firm %s %s token %d", g.activation, g.name, g.token)
 		}
 	}
 	for _, k := range g.asked {
-		switch {
-		case g.owner == nil && s.apps[k.app]:
-			s.give(g, k.app)
-			fallthrough
-		case g.owner == k.app && s.apps[k.app]:
+		if k.app == g.owner {
 			k.answer("firm %s %s token %d", g.activation, g.name, g.token)
-		default:
+		} else {
 			k.answer("taken %s %s", g.activation, g.name)
 		}
 	}
 	g.asked = nil
-	if g.owner == nil || !s.apps[g.owner] {
-		s.give(g, nil)
+	if g.owner == nil {
 		s.close(ask{}, g.name, "") // nobody is there for it
+	}
+}
+
+func (s *Service) taken(g *grain, by string) {
+	if g.phase == closing { // it was given up
+		s.ended(g, "absent")
+		return
+	}
+	s.drop(g)
+	for _, k := range g.asked {
+		k.answer("taken %s %s", by, g.name)
 	}
 }
 
@@ -380,58 +349,6 @@ func (s *Service) server(name string) *application {
 		}
 	}
 	return best
-}
-
-func (s *Service) ended(g *grain, how string) {
-	s.drop(g)
-	s.took("deactivate", g.since)
-	for _, k := range g.ending {
-		k.answer("ended %s %s", g.name, how)
-	}
-	for _, k := range g.again {
-		if s.apps[k.app] {
-			s.activate(k, g.name)
-		}
-	}
-}
-
-// hungUp closes what belonged to an application: with its connection its work has ended.
-func (s *Service) hungUp(app *application) {
-	s.mu.Lock()
-	defer s.mu.Unlock()
-	delete(s.apps, app)
-	for name := range app.expects {
-		s.unexpect(app, name)
-	}
-	s.disconnected(app.process)
-	for g := range s.whose[app] {
-		s.give(g, nil)
-		if g.phase == firm && s.over == "" {
-			s.close(ask{}, g.name, "")
-		}
-	}
-}
-
-func (s *Service) disconnected(process int) {
-	for app := range s.apps {
-		if app.process == process {
-			return
-		}
-	}
-	if s.options.Disconnected != nil {
-		s.options.Disconnected(process)
-	}
-}
-
-// Sweep closes the activations that nobody has: those whose closing was refused, as where too much waited for the silo.
-func (s *Service) Sweep() {
-	s.mu.Lock()
-	defer s.mu.Unlock()
-	for g := range s.whose[nil] {
-		if g.phase == firm && s.over == "" && s.options.May() {
-			s.close(ask{}, g.name, "")
-		}
-	}
 }
 
 // Deadline tells all applications a later deadline.
