@@ -56,7 +56,7 @@ fn courses(rt: HostRuntime) {
             (
                 2,
                 "version 0\nno owner\nline 2 fault 921\n",
-                "error: line 2: a command is join SILO PLACE.., leave SILO, kill SILO, nudge SILO, see SILO VERSION, sync, wake SILO GRAIN, close SILO GRAIN, find SILO GRAIN, forget SILO GRAIN, offer SILO GRAIN SILO, deliver LETTER, lose LETTER, settle, owner HASH, place SILO POLICY GRAIN, show, mail, dump or check\n",
+                "error: line 2: a command is join SILO PLACE.., leave SILO, kill SILO, nudge SILO, nudge SILO GRAIN, nudge SILO ranges, see SILO VERSION, sync, wake SILO GRAIN, close SILO GRAIN, cancel SILO GRAIN, find SILO GRAIN, forget SILO GRAIN, offer SILO GRAIN SILO, deliver LETTER, lose LETTER, settle, owner HASH, place SILO POLICY GRAIN, show, mail, dump or check\n",
             ),
         ),
         (

@@ -224,11 +224,11 @@ const WORDS: [(ScriptFault, &str); 8] = [
     ),
     (
         ScriptFault::UnknownCommand,
-        "a command is join SILO PLACE.., leave SILO, kill SILO, nudge SILO, see SILO VERSION, sync, wake SILO GRAIN, close SILO GRAIN, find SILO GRAIN, forget SILO GRAIN, offer SILO GRAIN SILO, deliver LETTER, lose LETTER, settle, owner HASH, place SILO POLICY GRAIN, show, mail, dump or check",
+        "a command is join SILO PLACE.., leave SILO, kill SILO, nudge SILO, nudge SILO GRAIN, nudge SILO ranges, see SILO VERSION, sync, wake SILO GRAIN, close SILO GRAIN, cancel SILO GRAIN, find SILO GRAIN, forget SILO GRAIN, offer SILO GRAIN SILO, deliver LETTER, lose LETTER, settle, owner HASH, place SILO POLICY GRAIN, show, mail, dump or check",
     ),
     (
         ScriptFault::WordCount,
-        "too few words or too many: a command is join SILO PLACE.., leave SILO, kill SILO, nudge SILO, see SILO VERSION, sync, wake SILO GRAIN, close SILO GRAIN, find SILO GRAIN, forget SILO GRAIN, offer SILO GRAIN SILO, deliver LETTER, lose LETTER, settle, owner HASH, place SILO POLICY GRAIN, show, mail, dump or check",
+        "too few words or too many: a command is join SILO PLACE.., leave SILO, kill SILO, nudge SILO, nudge SILO GRAIN, nudge SILO ranges, see SILO VERSION, sync, wake SILO GRAIN, close SILO GRAIN, cancel SILO GRAIN, find SILO GRAIN, forget SILO GRAIN, offer SILO GRAIN SILO, deliver LETTER, lose LETTER, settle, owner HASH, place SILO POLICY GRAIN, show, mail, dump or check",
     ),
     (
         ScriptFault::Silo(SiloError::Shape),
