@@ -85,7 +85,7 @@ fn list_stretch(
     requires below { end ≤ circle }
     ensures { IfOk result (λ listed. listed.items ≡ entries.items ++ map entry_under (filter (λ e. not (is_dead_in view.now e.1.silo)) (filter (λ e. is_between first end e.0.hash) from.now))) }
 {
-    'entries: for (key, activation) in from.between(first, end)? {
+    'entries: for (key, activation) in from.between(first, end) {
         if is_dead_in(view, &activation.silo) {
             continue;
         }

@@ -142,7 +142,7 @@ fn put_stretch(
     requires below { end ≤ circle }
     ensures { IfOk result (λ new. new ≡ record table { entries = fold with_entry table.entries (map entry_under (filter (λ e. is_between first end e.0.hash) from.now)) }) }
 {
-    'entries: for (key, activation) in from.between(first, end)? {
+    'entries: for (key, activation) in from.between(first, end) {
         table.put(key, activation)?;
     }
     Ok(table)
