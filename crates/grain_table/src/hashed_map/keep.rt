@@ -57,11 +57,12 @@ fn drop_behind(cuts: &mut Vec<u32>, buckets: &mut Vec<Bucket>, end: u64)
     ensures cut { AreCut cuts.new.items buckets.new.items }
 {
     let index = cuts_before(cuts, end);
+    if buckets.len() <= index {
+        return;
+    }
     cuts.truncate(index);
     buckets.truncate(index + 1);
-    if index < buckets.len() {
-        buckets[index].keep_before(end);
-    }
+    buckets[index].keep_before(end);
 }
 
 fn keep_each_in(buckets: &mut Vec<Bucket>, range: &RingRange)
