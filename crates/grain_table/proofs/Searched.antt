@@ -11,7 +11,7 @@ use Rattle.silo_address.specs.declared.ActivationId.{ActivationId}
 use Rattle.grain_table.specs.declared.hashed_grain.HashedGrain.{HashedGrain}
 use Rattle.grain_table.specs.Buckets.{is_before, is_first}
 use Rattle.grain_table.specs.Hashed.{Hashed, hashed_cmp}
-use Rattle.grain_table.proofs.AcrossBuckets.{Passes, Reaches, passes, reaches}
+use Rattle.grain_table.proofs.Cuts.{Passes, Reaches, passes, reaches}
 use Rattle.grain_table.proofs.InOrder.{AllBefore, back_all, front_all, none_found, none_taken, one_found, one_taken, put_between, put_over}
 
 -- ---- In one bucket, at the index of a key.
