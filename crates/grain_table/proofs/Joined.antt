@@ -1,6 +1,6 @@
 -- The entries of buckets, one behind another.
 use Rattle.std.proofs.Common.{arith, ◌≡◌, refl, sym, ap, ◌∙◌, ℕ, zero, suc, ◌+◌, ◌<◌, ◌≤◌, List, [], ◌∷◌, ◌++◌, length, take, drop, set, map, get_or}
-use Rattle.std.proofs.lemmas.List.{append_assoc, length-append}
+use Rattle.std.proofs.lemmas.List.{append-nil, append_assoc, length-append}
 use Rattle.std.proofs.lemmas.List.Elements.{filter-append}
 use Rattle.std.specs.Prelude.{Bool, true, false, cond, filter}
 use Rattle.silo_address.specs.declared.ActivationId.{ActivationId}
@@ -25,6 +25,12 @@ joined_set [] index new lt = absurd (omega arith)
 joined_set (b ∷ buckets) zero new lt = refl
 joined_set (b ∷ buckets) (suc index) new lt =
     ap (λ l. b ++ l) (joined_set buckets index new (omega arith)) ∙ sym (append_assoc b (joined (take index buckets)) (new ++ joined (drop (suc index) buckets)))
+
+-- the first ones, of which the last is another
+pub set_last : (buckets : List Hashed) (index : ℕ) (new : Hashed) → index < length buckets → set (take (suc index) buckets) index new ≡ take index buckets ++ new ∷ []
+set_last [] index new lt = absurd (omega arith)
+set_last (b ∷ buckets) zero new lt = refl
+set_last (b ∷ buckets) (suc index) new lt = ap (λ l. b ∷ l) (set_last buckets index new (omega arith))
 
 -- ---- Counts.
 pub length_joined_set : (buckets : List Hashed) (index : ℕ) (new d : Hashed) → index < length buckets
@@ -51,6 +57,28 @@ length_joined_take (b ∷ buckets) zero = omega arith
 length_joined_take (b ∷ buckets) (suc index) =
     let rest = length_joined_take buckets index in
     let one = length-append b (joined (take index buckets)) in let other = length-append b (joined buckets) in omega (arith, one, other, rest)
+
+-- by how many there are fewer where the last one that stays keeps some of its own
+pub fewer_behind : (buckets : List Hashed) (index : ℕ) (kept d : Hashed) → index < length buckets → (fewer more : ℕ)
+    → length kept + fewer ≡ length (get_or buckets index d) → more ≡ length (joined (drop (suc index) buckets))
+    → length (joined (set (take (suc index) buckets) index kept)) + (more + fewer) ≡ length (joined buckets)
+fewer_behind buckets index kept d lt fewer more own behind =
+    let stays : length (joined (set (take (suc index) buckets) index kept)) ≡ length (joined (take index buckets)) + length kept =
+    ap (λ l. length (joined l)) (set_last buckets index kept lt)
+    ∙ ap length (joined_append (take index buckets) (kept ∷ []) ∙ ap (λ l. joined (take index buckets) ++ l) (append-nil kept))
+    ∙ length-append (joined (take index buckets)) kept in
+    let whole : length (joined buckets) ≡ length (joined (take index buckets)) + (length (get_or buckets index d) + length (joined (drop (suc index) buckets))) =
+    ap length (joined_at buckets index d lt)
+    ∙ length-append (joined (take index buckets)) (get_or buckets index d ++ joined (drop (suc index) buckets))
+    ∙ ap (λ n. length (joined (take index buckets)) + n) (length-append (get_or buckets index d) (joined (drop (suc index) buckets))) in
+    omega (arith, stays, whole, own, behind)
+
+-- so many are behind at most
+pub length_behind : (buckets : List Hashed) (index : ℕ) → length (joined (drop index buckets)) ≤ length (joined buckets)
+length_behind buckets zero = omega arith
+length_behind [] (suc index) = omega arith
+length_behind (b ∷ buckets) (suc index) =
+    let rest = length_behind buckets index in let whole = length-append b (joined buckets) in omega (arith, rest, whole)
 
 -- ---- What passes a test, bucket by bucket.
 pub joined_filtered : (p : HashedGrain × ActivationId → Bool) (buckets : List Hashed) → joined (map (filter p) buckets) ≡ filter p (joined buckets)

@@ -1,18 +1,20 @@
 -- What the searches tell, in the words of their clauses: in one bucket, and among cuts. Each look at a list sees the same.
-use Rattle.std.proofs.Common.{arith, ◌≡◌, sym, ap, ◌∙◌, subst, ℕ, suc, ◌<◌, ◌≤◌, List, length, take, drop, set, get_or}
+use Rattle.std.proofs.Common.{arith, ◌≡◌, sym, ap, ◌∙◌, subst, ℕ, suc, ◌<◌, ◌≤◌, List, ◌++◌, length, take, drop, set, get_or}
 use Rattle.std.proofs.lemmas.Bool.{OnTrue_at}
+use Rattle.std.proofs.lemmas.List.{take-append-drop}
 use Rattle.std.specs.Bool.{OnTrue}
 use Rattle.std.specs.BTreeMap.{insert_entry, is_at}
 use Rattle.std.specs.List.{AllByRecursion, insert, remove}
 use Rattle.std.specs.List.Sorted.{IsPartitionPoint, IsStrictlySortedBy}
 use Rattle.std.specs.Map.{keys_of, lookup, remove_entry}
-use Rattle.std.specs.Prelude.{Bool, true, false, Some, None}
+use Rattle.std.specs.Prelude.{Bool, true, false, Some, None, filter, nat_lt}
 use Rattle.silo_address.specs.declared.ActivationId.{ActivationId}
 use Rattle.grain_table.specs.declared.hashed_grain.HashedGrain.{HashedGrain}
-use Rattle.grain_table.specs.Buckets.{is_before, is_first}
+use Rattle.grain_table.specs.Buckets.{IsCutAt, is_before, is_first}
 use Rattle.grain_table.specs.Hashed.{Hashed, hashed_cmp}
-use Rattle.grain_table.proofs.Cuts.{Passes, Reaches, passes, reaches}
+use Rattle.grain_table.proofs.Cuts.{AreBelow, AreFrom, Passes, Reaches, passes, reaches}
 use Rattle.grain_table.proofs.InOrder.{AllBefore, back_all, front_all, none_found, none_taken, one_found, one_taken, put_between, put_over}
+use Rattle.grain_table.proofs.Stretches.{kept_before}
 
 -- ---- In one bucket, at the index of a key.
 module _ (key : HashedGrain) (es : Hashed) (sorted : IsStrictlySortedBy hashed_cmp (keys_of es)) (searched looked : Hashed)
@@ -53,6 +55,25 @@ module _ (key : HashedGrain) (es : Hashed) (sorted : IsStrictlySortedBy hashed_c
 
     pub remove_nothing : es ≡ remove_entry (is_at (hashed_cmp key)) es
     remove_nothing = sym (none_taken key es sorted index front back (sym stands ∙ stood))
+
+-- ---- In one bucket, at the index of a hash.
+module _ (es searched : Hashed) (searches : searched ≡ es) (hash index : ℕ)
+    (split : IsPartitionPoint (λ e. e.0.hash < hash) (λ e. hash ≤ e.0.hash) searched index) where
+  lower : AreBelow hash (take index es)
+  lower = subst (λ l. AreBelow hash (take index l)) searches (front_all (λ e. e.0.hash < hash) searched index split.0)
+
+  upper : AreFrom hash (drop index es)
+  upper = subst (λ l. AreFrom hash (drop index l)) searches (back_all (λ e. hash ≤ e.0.hash) searched index split.1)
+
+  pub take_lower : take index es ≡ filter (λ e. nat_lt e.0.hash hash) es
+  take_lower = kept_before es index hash lower upper
+
+  pub cut_there : (old front back : Hashed) → es ≡ old → front ≡ take index es → back ≡ drop index es → IsCutAt hash old front back
+  cut_there old front back is fronts backs = record {
+    whole = (λ i. fronts i ++ backs i) ∙ take-append-drop index es ∙ is;
+    lower = subst (AreBelow hash) (sym fronts) lower;
+    upper = subst (AreFrom hash) (sym backs) upper;
+  }
 
 -- ---- Among cuts, at the index of a hash.
 module _ (cuts searched : List ℕ) (searches : searched ≡ cuts) (hash index : ℕ) (bound : index ≤ length searched)

@@ -12,7 +12,7 @@ use Rattle.grain_table.specs.Hashed.{Hashed}
 use Rattle.grain_table.specs.Stretch.{is_between}
 use Rattle.grain_table.proofs.Cuts.{AreBelow, AreFrom, Passes, Reaches, back_from, front_below}
 use Rattle.grain_table.proofs.InOrder.{all_so}
-use Rattle.grain_table.proofs.Joined.{joined_append, joined_at}
+use Rattle.grain_table.proofs.Joined.{joined_append, joined_at, set_last}
 
 -- ---- What passes of all, and of none.
 module _ (p : HashedGrain × ActivationId → Bool) where
@@ -39,11 +39,6 @@ kept_before es index end low high =
     ∙ ap (filter (λ (e : HashedGrain × ActivationId). nat_lt e.0.hash end)) (take-append-drop index es)
 
 -- ---- What stands before the end.
-set_last : (buckets : List Hashed) (index : ℕ) (new : Hashed) → index < length buckets → set (take (suc index) buckets) index new ≡ take index buckets ++ new ∷ []
-set_last [] index new lt = absurd (omega arith)
-set_last (b ∷ buckets) zero new lt = refl
-set_last (b ∷ buckets) (suc index) new lt = ap (λ l. b ∷ l) (set_last buckets index new (omega arith))
-
 module _ (cuts : List ℕ) (buckets : List Hashed) (cut : AreCut cuts buckets) (end index : ℕ) (pass : Passes cuts end index) where
   pub all_before_end : length buckets ≤ index → joined buckets ≡ filter (λ e. nat_lt e.0.hash end) (joined buckets)
   all_before_end past = sym (lower_passes end (joined buckets) (subst (λ l. AreBelow end (joined l)) (take_all index buckets past) (front_below cuts buckets cut end index pass)))
