@@ -10,11 +10,11 @@ use Rattle.grain_table.specs.Hashed.{hashed_cmp, text_cmp}
 use Rattle.grain_table.proofs.Slots.{apart_under, same_hash, text_order}
 use Rattle.grain_table.proofs.hashed_map.slot.Slot.is_under.Goals as goal
 
-pub returns-then-hash-hash : goal.returns-then-hash-hash
-returns-then-hash-hash c =
+pub returns-then-self-hash : goal.returns-then-self-hash
+returns-then-self-hash c =
     sym
     (apart_under c.args.key.now.hash c.self.inside.hash (text_cmp c.args.key.now.grain (grain_at_slash (boxed_slice_items c.self.inside.text)))
-    c.if-hash-hash.true)
+    c.if-self-hash.true)
     ∙ ap (λ (e : HashedGrain × ActivationId). is_at (hashed_cmp c.args.key.now) e.0) c.self.view_is
 
 pub returns : goal.returns
@@ -24,5 +24,5 @@ returns c =
     ∙ ap is_eq
     (c.cmp.ensures ∙ ap (slice_cmp nat_cmp c.as_bytes.result.now) c.as_slice.ensures.value
     ∙ text_order c.args.key.now.grain c.in_range.ensures c.as_bytes.result.now c.as_bytes.ensures.text text c.self.invariant
-    ∙ sym (same_hash c.args.key.now.hash c.self.inside.hash (text_cmp c.args.key.now.grain (grain_at_slash text)) c.if-hash-hash.false))
+    ∙ sym (same_hash c.args.key.now.hash c.self.inside.hash (text_cmp c.args.key.now.grain (grain_at_slash text)) c.if-self-hash.false))
     ∙ ap (λ (e : HashedGrain × ActivationId). is_at (hashed_cmp c.args.key.now) e.0) c.self.view_is
