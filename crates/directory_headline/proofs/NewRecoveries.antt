@@ -24,7 +24,7 @@ new_recovery_shown m w view range by_address members = record {
   members = λ silo grain is told.
       let awaited = members_are view silo by_address ∙ sym (members silo) ∙ is in
       let nothing : false ≡ true = sym (ap (λ b. not b || false) awaited) ∙ told in
-      absurd cc;
+      absurd (cc (nothing));
 }
 
 -- at the view that a silo has seen

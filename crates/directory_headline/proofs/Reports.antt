@@ -72,7 +72,7 @@ module _ (m : Setting) (sent : List letters.Report) (recovery : Recovery) (repor
   not_again grain e told found =
       let apart = not-true (behind report.after grain) (sym (told_then grain) ∙ told) in
       let is = entry_behind grain e found in
-      cc
+      cc (apart, is)
 
   tells_behind : (grain : Grain) → tells_of m.hash report grain ≡ true → behind report.after grain ≡ true
   tells_behind grain tells =
@@ -152,7 +152,7 @@ module _ (m : Setting) (sent : List letters.Report) (recovery : Recovery) (repor
                   let before = ap (λ s. has_told m.hash recovery s grain) (sym its) ∙ (was.gathered grain e old).told in
                   let apart = not-true (behind report.after grain) (sym (told_then grain) ∙ before) in
                   let is = tells_behind grain tells in
-                  absurd cc
+                  absurd (cc (apart, is))
               | inr new ↦ shown.firm grain (sound.lies grain e new) tells ∙ ap (option_map (λ (x : Entry). x.activation.count)) new
             ];
         complete = λ count lies firm.

@@ -41,7 +41,7 @@ use Rattle.directory_headline.proofs.Frame.{Here, Comes, Moves, stays, node_show
 -- where nothing was the last, nothing was in front
 last_none : (after : Option Grain) (es : List Entry) → last_grain after es ≡ None → after ≡ None
 last_none after [] is = is
-last_none after (e ∷ es) is = let none : Some e.grain ≡ None = last_none (Some e.grain) es is in absurd cc
+last_none after (e ∷ es) is = let none : Some e.grain ≡ None = last_none (Some e.grain) es is in absurd (cc (none))
 
 or_other : (a b : Bool) → b ≡ true → (a || b) ≡ true
 or_other true b is = refl
