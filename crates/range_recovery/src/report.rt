@@ -129,8 +129,8 @@ impl Report {
     }
 }
 
-// Whether both are the same grain, or none.
-fn same_grain(one: Option<GrainId>, other: Option<GrainId>) -> bool
+/// Whether both are the same grain, or none.
+pub fn same_grain(one: Option<GrainId>, other: Option<GrainId>) -> bool
     ensures { IsTrue result ↔ (one ≡ other) }
 {
     one == other
