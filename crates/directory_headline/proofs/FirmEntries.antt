@@ -136,7 +136,7 @@ module _ (hashing : Hashing) (host : Host) (range : Range) where
   told_found most after grain behind upto =
       first_found ∙ found_filtered (λ g. stands_behind (hash_grain hashing) (range ∷ []) after g) grain (firm_entries hashing host range) behind
     where
-      abbrev its : List Entry
+      its : List Entry
       its = firm_behind hashing host range after
 
       rises : rise_behind (hash_grain hashing) (range ∷ []) after its ≡ true

@@ -1,6 +1,6 @@
 -- What a report makes of a recovery: its silo has told all, or up to the report's last entry.
 use Rattle.std.proofs.Common.{◌≡◌, ◌≢◌, ◌⊎◌, ℕ, List, [], ◌∷◌, inl, inr, refl, sym, ap, subst, ◌∙◌}
-use Rattle.std.specs.Prelude.{◌||◌, All, Bool, true, false, not, filter, Option, Some, None}
+use Rattle.std.specs.Prelude.{◌&&◌, ◌||◌, All, Bool, true, false, not, filter, Option, Some, None}
 use Rattle.std.specs.Ordering.{nat_cmp}
 use Rattle.std.specs.Map.{lookup, remove_entry}
 use Rattle.std.specs.BTreeMap.{is_at}
@@ -52,6 +52,13 @@ module _ (m : Setting) (sent : List letters.Report) (recovery : Recovery) (repor
   abbrev behind : Option Grain → Grain → Bool
   behind after grain = stands_behind m.hash (recovery.range ∷ []) after grain
 
+  -- of what the report tells, in the range that is recovered
+  tells_is : (grain : Grain)
+      → tells_of m.hash report grain ≡ (behind report.after grain && (report.last || not (behind (last_grain report.after report.entries) grain)))
+  tells_is grain =
+      ap (λ r. stands_behind m.hash (r ∷ []) report.after grain
+      && (report.last || not (stands_behind m.hash (r ∷ []) (last_grain report.after report.entries) grain))) taken.range
+
   -- a grain that the silo hasn't told of, and that the report tells of, or that it has told of before
   news_of : (grain : Grain) → (report.last || not (behind (last_grain report.after report.entries) grain)) ≡ true
       → (has_told m.hash recovery report.silo grain ≡ true) ⊎ ((report.silo ≡ report.silo) × (tells_of m.hash report grain ≡ true))
@@ -61,8 +68,8 @@ module _ (m : Setting) (sent : List letters.Report) (recovery : Recovery) (repor
       (behind report.after grain)
       (λ t is. inr (
         refl,
-        subst (λ r. tells_of m.hash (record report { range = r }) grain ≡ true) (sym taken.range)
-            (and_from (behind report.after grain) (report.last || not (behind (last_grain report.after report.entries) grain)) is upto),
+        tells_is grain
+            ∙ and_from (behind report.after grain) (report.last || not (behind (last_grain report.after report.entries) grain)) is upto,
       ))
       (λ f is. inl (told_then m sent recovery report was taken sound shown grain ∙ not_from_false (behind report.after grain) is))
       refl
