@@ -180,11 +180,12 @@ module _ (settings : Settings) (views : ViewsValue) (places : PlacesValue) (silo
     forgoes = λ letter range body there brings. stay _ refl refl;
     lags = λ letter range brings. sees;
     passed = λ letter range brings. sees;
-    reports = λ letter range body seen brings. sees;
+    reports = λ letter range after body seen brings. sees;
     gathers = λ letter page gathering taken is brings. stay _ refl refl;
     installs = λ letter page entries taken is brings. stay _ refl refl;
     drops = λ letter page gathering taken is brings. stay _ refl refl;
     turns = λ letter range piece body has awaits brings. stay _ refl refl;
+    continues = λ letter report recovery taken is brings. stay _ refl refl;
     collects = λ letter report recovery taken is brings. stay _ refl refl;
     completes = λ letter report table taken is brings. stay _ refl refl;
     takes_over = λ letter entry body seen may brings. stay _ refl refl;

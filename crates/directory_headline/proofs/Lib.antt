@@ -42,7 +42,9 @@ pub mod PlainViews
 pub mod Plainly
 pub mod Unions
 pub mod MissingSnapshot
+pub mod Awaited
 pub mod Reports
+pub mod Tellings
 pub mod LastReport
 pub mod HashPieces
 pub mod NewRecoveries

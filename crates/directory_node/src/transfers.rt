@@ -196,7 +196,7 @@ impl Node {
     ) -> Result<Plan, AllocError>
         ensures planned { IfOk result (λ plan. step_by self.now plan ≡ missing self.now letter.now range) }
         ensures fits { IfOk result (λ plan. Fits plan.change self.now) }
-        ensures members { OnErr result (length (missing self.now letter.now range).letters ≡ answer_count self.now (Missing_letter range)) }
+        ensures members { OnErr result (length (missing self.now letter.now range).letters ≡ answer_count self.now letter.now (Missing_letter range)) }
     {
         if !self.awaits(letter.version(), range, letter.from()) {
             return Ok(Plan::idle(alloc, Effect::Ignored));

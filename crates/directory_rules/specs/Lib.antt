@@ -4,6 +4,7 @@ pub mod State
 pub mod Members
 pub mod Membership
 pub mod Table
+pub mod Standing
 pub mod Snapshot
 pub mod Gatherings
 pub mod Recovery

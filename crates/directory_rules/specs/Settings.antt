@@ -19,8 +19,14 @@ pub record Settings : Type 0 where
   -- how many activations a silo may hold, and how many finds it may have outstanding
   pub activations : ℕ
   pub finds : ℕ
+  -- how many entries a silo tells in one report
+  pub report_size : ℕ
   -- the last request number and the last count of a silo
   pub last_number : ℕ
+
+-- how many entries a page has, unless it is the last one of its snapshot; no report has more
+abbrev pub page_size : ℕ
+page_size = 64
 
 -- a directory's own settings: three are chosen, and the limits are the greatest
 abbrev pub directory_settings : Hashing → (points cache : ℕ) → Settings
@@ -34,6 +40,7 @@ directory_settings hashing points cache = record {
   letters = 1000000;
   activations = 65536;
   finds = 65536;
+  report_size = page_size;
   last_number = 1152921504606846976;
 }
 
@@ -52,9 +59,7 @@ pub record AreSettings (settings : Settings) : Type 0 where
   pub activations_within : settings.activations ≤ 65536
   pub finds_above : 1 ≤ settings.finds
   pub finds_within : settings.finds ≤ 65536
+  pub report_above : 1 ≤ settings.report_size
+  pub report_within : settings.report_size ≤ page_size
   pub last_above : 1 ≤ settings.last_number
   pub last_within : settings.last_number ≤ 1152921504606846976
-
--- how many entries a page has, unless it is the last one of its snapshot
-abbrev pub page_size : ℕ
-page_size = 64

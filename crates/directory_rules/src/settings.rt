@@ -13,6 +13,9 @@ const MOST_SILOS: usize = 65_536;
 /// The greatest number of letters ever sent in a played cluster.
 const MOST_LETTERS: u64 = 1_000_000;
 
+/// The greatest number of entries in a report, and how many it has unless another number is chosen.
+const MOST_REPORTED: usize = 64;
+
 /// The greatest last number of a silo.
 const LAST_NUMBER: u64 = 1 << 60;
 
@@ -28,6 +31,7 @@ pub struct Settings {
     letters: u64,
     activations: usize,
     finds: usize,
+    report_size: usize,
     last_number: u64,
 }
 
@@ -66,6 +70,7 @@ impl Settings {
             letters: MOST_LETTERS,
             activations: 65_536,
             finds: 65_536,
+            report_size: MOST_REPORTED,
             last_number: LAST_NUMBER,
         })
     }
@@ -90,6 +95,20 @@ impl Settings {
             return None;
         }
         Some(Settings { letters, ..self })
+    }
+
+    /// The same settings, but for at most so many entries in a report, 1 to 64. `None` where the number is out of its range.
+    pub fn with_report_size(self, report_size: usize) -> Option<Settings>
+        ensures exact { IfSome result (λ settings. settings ≡ record self { report_size = report_size }) }
+        ensures in_range { IsSome result ↔ ((1 ≤ report_size) × (report_size ≤ 64)) }
+    {
+        if report_size == 0 || report_size > MOST_REPORTED {
+            return None;
+        }
+        Some(Settings {
+            report_size,
+            ..self
+        })
     }
 
     /// The same settings, but for this last request number and last count of a silo, 1 to 2^60. `None` where the number is out of
@@ -168,6 +187,13 @@ impl Settings {
         ensures { result ≡ self.now.finds }
     {
         self.finds
+    }
+
+    /// How many entries a silo tells in one report, 1 to 64.
+    pub fn report_size(&self) -> usize
+        ensures { result ≡ self.now.report_size }
+    {
+        self.report_size
     }
 
     /// The last request number and the last count of a silo, 1 to 2^60.

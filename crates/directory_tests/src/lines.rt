@@ -91,7 +91,7 @@ const LINES: [(&str, &str); 32] = [
         "letter",
     ),
     (
-        "letter 10.0.0.1:1000@1 10.0.0.1:1000@1 1 report 0+4294967296 user/ann#7 10.0.0.1:1000@1!1",
+        "letter 10.0.0.1:1000@1 10.0.0.1:1000@1 1 report 0+4294967296 last user/ann#7 10.0.0.1:1000@1!1",
         "letter",
     ),
     ("ping joined", "ping"),

@@ -36,10 +36,11 @@ pub fn take_report(
     };
     match recovery.take(report) {
         Ok(RecoveryProgress::Complete) => Ok(true),
-        Ok(RecoveryProgress::More) => Ok(false),
+        Ok(RecoveryProgress::Continues | RecoveryProgress::More) => Ok(false),
         Err(RecoveryError::WrongVersion) => Ok(false),
         Err(RecoveryError::Stranger) => Ok(false),
         Err(RecoveryError::Twice) => Ok(false),
+        Err(RecoveryError::OutOfTurn) => Ok(false),
         Err(RecoveryError::OutOfMemory) => Err(AllocError),
     }
 }

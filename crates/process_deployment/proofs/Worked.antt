@@ -93,9 +93,9 @@ worked_cluster = record {
           (
             (
               a,
-              line (codes "letter 10.0.0.1:1000@1 10.0.0.1:1000@1 1 report 0+4294967296") refl,
+              line (codes "letter 10.0.0.1:1000@1 10.0.0.1:1000@1 1 report 0+4294967296 last") refl,
               λ own joined. said_so _ _ 4
-                  (codes "letter 10.0.0.1:1000@1 10.0.0.1:1000@1 1 report 0+4294967296") refl refl,
+                  (codes "letter 10.0.0.1:1000@1 10.0.0.1:1000@1 1 report 0+4294967296 last") refl refl,
               tt,
             ),
             (
@@ -195,7 +195,7 @@ may_before = (
         let said = codes "letter 10.0.0.1:1000@1 10.0.0.1:1000@1 1 query 1434877701+1302175457" in
             (a, line said refl, λ own joined. said_so (hashed_by 3) _ 2 said refl refl, tt),
         (
-          let said = codes "letter 10.0.0.1:1000@1 10.0.0.1:1000@1 1 report 1434877701+1302175457" in
+          let said = codes "letter 10.0.0.1:1000@1 10.0.0.1:1000@1 1 report 1434877701+1302175457 last" in
               (a, line said refl, λ own joined. said_so (hashed_by 4) _ 5 said refl refl, tt),
           (
             (b, All-nil (λ place. place < circle)),
@@ -232,10 +232,10 @@ may_after = (
                   let said = codes "letter 10.0.0.2:1000@1 10.0.0.2:1000@1 2 query 40231030+2696822128" in
                       (b, line said refl, λ own joined. said_so (apart_by 8) _ 21 said refl refl, tt),
                   (
-                    let said = codes "letter 10.0.0.1:1000@1 10.0.0.2:1000@1 2 report 40231030+2696822128" in
+                    let said = codes "letter 10.0.0.1:1000@1 10.0.0.2:1000@1 2 report 40231030+2696822128 last" in
                         (b, line said refl, λ own joined. said_so (apart_by 9) _ 14 said refl refl, tt),
                     (
-                      let said = codes "letter 10.0.0.2:1000@1 10.0.0.2:1000@1 2 report 40231030+2696822128" in
+                      let said = codes "letter 10.0.0.2:1000@1 10.0.0.2:1000@1 2 report 40231030+2696822128 last" in
                           (b, line said refl, λ own joined. said_so (apart_by 10) _ 23 said refl refl, tt),
                       (
                         (a, line (codes "wake user/a#7") refl, tt, tt),

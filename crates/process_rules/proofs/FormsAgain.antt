@@ -22,10 +22,12 @@ use Rattle.directory_rules.specs.State.{Letter, Body, Request_letter, Reply_lett
 use Rattle.directory_rules.specs.Letter.{kind_of, act_kind, reply_kind}
 use Rattle.script_rules.specs.Script.{grain_word, number_word, ◌>>=◌}
 use Rattle.process_rules.specs.LetterText.{entry_words, entries_words, act_words, why_words, reply_words, body_words}
-use Rattle.process_rules.specs.ReadLetter.{activation_word, range_word, digest_word, entry_of_words, entries_in, are_pairs, Head, letter_of, request_of, a_register, a_number_and_an_entry, a_find, a_number, with_number, alone, retry_for, retry_by, a_retry, an_ask, page_for, a_page, a_range, report_for, a_report, an_offer, reply_of, form_of}
+use Rattle.process_rules.specs.ReadLetter.{activation_word, range_word, digest_word, entry_of_words, entries_in, are_pairs, Head, letter_of, request_of, a_register, a_number_and_an_entry, a_find, a_number, with_number, alone, retry_for, retry_by, a_retry, an_ask, page_for, a_page, a_range, an_offer, reply_of, form_of}
 use Rattle.process_rules.specs.Told.{IsNumber, IsEntry, IsAct, IsWhy, IsReply, IsToldBody}
 use Rattle.process_rules.proofs.Chains.{ok_is, two_again, two_gave, three_again, three_gave, four_again, four_gave, six_again, six_gave}
 use Rattle.process_rules.proofs.WordsAgain.{number_again, number_gave, grain_again, grain_gave, activation_again, activation_gave, range_again, range_gave, digest_again, digest_gave, entry_again, entry_gave, pairs_again, entries_again, entries_gave}
+use Rattle.process_rules.proofs.Given.{head_in, Gave, moved}
+use Rattle.process_rules.proofs.ReportForms.{query_form_again, report_form_again, query_gave, report_gave}
 use Rattle.process_rules.proofs.WordsTold.{number_told, grain_told, activation_told, range_told, digest_told, entry_told, entries_told}
 
 -- ---- what each form makes of what it reads
@@ -60,10 +62,6 @@ page_made head range page pages digest entries =
 
 abbrev pub range_made : (Range → Body) → Head → Range → Letter
 range_made of head range = letter_of head (of range)
-
-abbrev pub report_made : Head → Range → List Entry → Letter
-report_made head range entries =
-    letter_of head (Report_letter (record { version = head.version; range = range; silo = head.from; entries = entries }))
 
 abbrev pub offer_made : Head → Entry → Letter
 offer_made head entry = letter_of head (Offer_letter entry)
@@ -163,17 +161,16 @@ module _ (hashing : Hashing) (head : Head) (read : Result Head ℕ) (reads : rea
       }))))
   body_again (Missing_letter range) is = range_form_again Missing_letter range is
   body_again (Done_letter range) is = range_form_again Done_letter range is
-  body_again (Query_letter range) is = range_form_again Query_letter range is
+  body_again (Query_letter range after) is = query_form_again head read reads range after is.0 is.1
   body_again (Report_letter report) is =
-      ap (λ (b : Bool). report_for b read (range_text report.range) (entries_words report.entries)) (pairs_again report.entries)
-      ∙ three_again report_made read (range_word (range_text report.range)) (entries_in (entries_words report.entries)) head report.range
-      report.entries
-      reads (range_again report.range is.range) (entries_again report.entries is.entries)
+      report_form_again head read reads report.range report.after report.last report.entries is.range is.after is.entries
       ∙ (λ i. Ok (letter_of head (Report_letter (record {
         version = sym is.version i;
         range = report.range;
         silo = sym is.silo i;
+        after = report.after;
         entries = report.entries;
+        last = report.last;
       }))))
   body_again (Behind_letter range) is = range_form_again Behind_letter range is
   body_again (Ahead_letter range) is = range_form_again Ahead_letter range is
@@ -182,25 +179,6 @@ module _ (hashing : Hashing) (head : Head) (read : Result Head ℕ) (reads : rea
       (entry_again entry is)
 
 -- ---- what was read is what was written
-abbrev pub head_in : Letter → Head
-head_in letter = record { from = letter.from; to = letter.to; version = letter.version }
-
--- a letter has that head and that kind, says those words, and is one that a line can tell
-pub record Gave (hashing : Hashing) (read : Result Head ℕ) (kind : LetterKind) (words : List (List ℕ)) (letter : Letter) : Type 0 where
-  pub head_is : read ≡ Ok (head_in letter)
-  pub kind_is : kind ≡ kind_of letter.body
-  pub words_are : words ≡ body_words letter.body
-  pub body : IsToldBody IsNumber IsRange hashing letter.from letter.version letter.body
-
-moved : (hashing : Hashing) (read : Result Head ℕ) (head : Head) (named : LetterKind) (words says : List (List ℕ)) (made letter : Letter)
-    → read ≡ Ok head → words ≡ says → made ≡ letter → Gave hashing (Ok head) named says made → Gave hashing read named words letter
-moved hashing read head named words says made letter reads writes makes gave = record {
-  head_is = reads ∙ gave.head_is ∙ ap (λ (l : Letter). Ok (head_in l)) makes;
-  kind_is = gave.kind_is ∙ ap (λ (l : Letter). kind_of l.body) makes;
-  words_are = writes ∙ gave.words_are ∙ ap (λ (l : Letter). body_words l.body) makes;
-  body = subst (λ (l : Letter). IsToldBody IsNumber IsRange hashing l.from l.version l.body) makes gave.body;
-}
-
 module _ (hashing : Hashing) (read : Result Head ℕ) (letter : Letter) where
   entry_form_gave : (of : Head → ℕ → Entry → Letter) (named : LetterKind)
       → ((head : Head) (number : ℕ) (entry : Entry) → IsNumber number → IsEntry IsNumber entry
@@ -360,24 +338,6 @@ module _ (hashing : Hashing) (read : Result Head ℕ) (letter : Letter) where
   page_gave (one ∷ two ∷ three ∷ []) given = cc given
   page_gave (range ∷ page ∷ pages ∷ digest ∷ words) given = page_by (are_pairs words) range page pages digest words given
 
-  report_by : (pairs : Bool) (range : List ℕ) (words : List (List ℕ)) → report_for pairs read range words ≡ Ok letter
-      → Gave hashing read kind.Report (range ∷ words) letter
-  report_by false range words given = cc given
-  report_by true range words given =
-      let p = three_gave report_made read (range_word range) (entries_in words) letter given in
-      moved hashing read p.0 kind.Report (range ∷ words) (range_text p.1 ∷ entries_words p.2) (report_made p.0 p.1 p.2) letter p.3
-      (λ i. range_gave range p.1 p.4 i ∷ entries_gave words p.2 p.5 i) p.6
-      (record {
-        head_is = refl;
-        kind_is = refl;
-        words_are = refl;
-        body = record { version = refl; range = range_told range p.1 p.4; silo = refl; entries = entries_told words p.2 p.5 };
-      })
-
-  report_gave : (words : List (List ℕ)) → a_report read words ≡ Ok letter → Gave hashing read kind.Report words letter
-  report_gave [] given = cc given
-  report_gave (range ∷ words) given = report_by (are_pairs words) range words given
-
   -- a reason that gave something: its words are those of what it gave
   retry_of : (number reason : List ℕ) (words : List (List ℕ)) (why : Option (Result Why ℕ))
       → ((given : Result Why ℕ) (made : Why) → why ≡ Some given → given ≡ Ok made → (reason ∷ words ≡ why_words made) × IsWhy IsNumber made)
@@ -501,9 +461,8 @@ module _ (hashing : Hashing) (read : Result Head ℕ) (letter : Letter) where
       range_form_gave Missing_letter kind.Missing (λ h range is. as_told h (range_made Missing_letter h range) refl is) words given
   form_gave kind.Done words given =
       range_form_gave Done_letter kind.Done (λ h range is. as_told h (range_made Done_letter h range) refl is) words given
-  form_gave kind.Query words given =
-      range_form_gave Query_letter kind.Query (λ h range is. as_told h (range_made Query_letter h range) refl is) words given
-  form_gave kind.Report words given = report_gave words given
+  form_gave kind.Query words given = query_gave hashing read letter words given
+  form_gave kind.Report words given = report_gave hashing read letter words given
   form_gave kind.Behind words given =
       range_form_gave Behind_letter kind.Behind (λ h range is. as_told h (range_made Behind_letter h range) refl is) words given
   form_gave kind.Ahead words given =

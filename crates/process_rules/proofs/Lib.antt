@@ -3,6 +3,8 @@ mod WordsAgain
 mod WordsTold
 mod Numbers
 mod WordsSaid
+pub mod Given
+pub mod ReportForms
 pub mod FormsAgain
 pub mod LettersAgain
 pub mod LineWords

@@ -1,14 +1,16 @@
 -- How many letters the plan needs, counted where each live silo has seen the current view.
-use Rattle.std.specs.Prelude.{◌≡◌, ℕ, ◌+◌, ◌*◌, ◌-◌, ◌≤◌, ◌&&◌, Bool, true, false, List, All, length, sum_by, count_by, find, Option, Some, None, Ok}
+use Rattle.std.specs.Prelude.{◌≡◌, ℕ, ◌+◌, ◌*◌, ◌-◌, ◌/◌, ◌≤◌, ◌==◌, ◌&&◌, if◌then◌else◌, Bool, true, false, List, All, length, sum_by, count_by, find, Option, Some, None, Ok}
 use Rattle.std.specs.Map.{values_of}
 use Rattle.silo_address.specs.Silo.{Silo}
+use Rattle.silo_address.specs.Grain.{Grain}
 use Rattle.ring_range.specs.Range.{Range}
 use Rattle.directory_rules.specs.declared.piece_state.PieceState.{PieceState}
 use Rattle.directory_rules.specs.declared.piece_state.PieceState.TheVariants.{Settled, Awaiting, Recovering}
 use Rattle.directory_rules.specs.Settings.{Settings, AreSettings}
 use Rattle.directory_rules.specs.State.{Snapshot, Body, Request_letter, Reply_letter, Ask_letter, Page_letter, Missing_letter, Done_letter, Query_letter, Report_letter, Behind_letter, Ahead_letter, Offer_letter, Node, World}
 use Rattle.directory_rules.specs.Snapshot.{page_count, is_snapshot}
-use Rattle.directory_rules.specs.Host.{outstanding}
+use Rattle.directory_rules.specs.Recovery.{told_by}
+use Rattle.directory_rules.specs.Host.{outstanding, firm_behind}
 use Rattle.directory_rules.specs.Sent.{gathering_of, recovery_of}
 use Rattle.directory_rules.specs.Event.{Event, IsEvent}
 use Rattle.directory_rules.specs.Happens.{node_of}
@@ -25,7 +27,7 @@ is_question (Ask_letter range page) = true
 is_question (Page_letter page) = false
 is_question (Missing_letter range) = false
 is_question (Done_letter range) = false
-is_question (Query_letter range) = true
+is_question (Query_letter range after) = true
 is_question (Report_letter report) = false
 is_question (Behind_letter range) = false
 is_question (Ahead_letter range) = false
@@ -39,7 +41,7 @@ is_offer (Ask_letter range page) = false
 is_offer (Page_letter page) = false
 is_offer (Missing_letter range) = false
 is_offer (Done_letter range) = false
-is_offer (Query_letter range) = false
+is_offer (Query_letter range after) = false
 is_offer (Report_letter report) = false
 is_offer (Behind_letter range) = false
 is_offer (Ahead_letter range) = false
@@ -61,14 +63,25 @@ over_pieces count node = sum_by (λ piece. count piece.state piece.range) (value
 abbrev pub requests_out : World → ℕ
 requests_out world = over_nodes (λ node. length (outstanding node.host)) world
 
+-- in how many reports so many entries are told, where one has no more than that: in one where there are none
+abbrev pub report_count : (size entries : ℕ) → ℕ
+report_count size entries = if entries == 0 then 1 else (entries + (size - 1)) / size
+
+-- the reports that a silo has still to send of a range, behind what it has told
+abbrev pub reports_left : Option Node → Range → (after : Option Grain) → ℕ
+reports_left None range after = 0
+reports_left (Some node) range after =
+    report_count node.settings.report_size (length (firm_behind node.settings.hashing node.host range after))
+
 -- the reports that a piece misses
-abbrev pub missing_of : Node → PieceState → Range → ℕ
-missing_of node Settled range = 0
-missing_of node (Awaiting from) range = 0
-missing_of node Recovering range = length (recovery_of node range).awaiting
+abbrev pub missing_of : World → Node → PieceState → Range → ℕ
+missing_of world node Settled range = 0
+missing_of world node (Awaiting from) range = 0
+missing_of world node Recovering range =
+    sum_by (λ silo. reports_left (node_of world silo) range (told_by silo (recovery_of node range))) (recovery_of node range).awaiting
 
 abbrev pub reports_missing : World → ℕ
-reports_missing world = over_nodes (λ node. over_pieces (missing_of node) node) world
+reports_missing world = over_nodes (λ node. over_pieces (missing_of world node) node) world
 
 -- the pieces that await a snapshot
 abbrev pub awaits_one : PieceState → Range → ℕ

@@ -38,7 +38,7 @@ run_by take world (event ∷ events) = run_by take (world_after (happens_by take
 -- ---- the wrong takings
 -- a query at the version that the silo has seen is answered `behind`
 abbrev pub is_behind_at : Body → Node → Letter → Stepped
-is_behind_at (Query_letter range) node letter = if letter.version == node.view.version then answering letter node (Behind_letter range) Behind else received node letter
+is_behind_at (Query_letter range after) node letter = if letter.version == node.view.version then answering letter node (Behind_letter range) Behind else received node letter
 is_behind_at body node letter = received node letter
 
 abbrev pub query_of_the_version_is_behind : Taking
