@@ -78,6 +78,59 @@ module _ (events letters : ℕ) where
   heard_same d silo s (Ok its) =
       ap (λ ps. record (R d) { processes = ps }) (insert-over P silo_cmp d.processes silo (record s { membership = its.membership }))
 
+  -- ---- what a process begins with
+  joined_so : (o : Result ViewsValue ℕ) (settings : Settings) (places : PlacesValue) (silo : Silo) (stated : List ℕ)
+      → joined o (with_room events letters settings) places silo stated ≡ joined o settings places silo stated
+  joined_so (Err number) settings places silo stated = refl
+  joined_so (Ok views) settings places silo stated = refl
+
+  listed_same : (settings : Settings) (m : Membership) (one : Listed)
+      → listed (with_room events letters settings) m one ≡ listed settings m one
+  listed_same settings m one = by one.status
+    where
+      abbrev viewed : Result ViewsValue ℕ
+      viewed = after_listing m.views one.silo one.status
+
+      by : (status : Status) → listed_by status viewed (with_room events letters settings) m.places one.silo one.places
+          ≡ listed_by status viewed settings m.places one.silo one.places
+      by Active = joined_so viewed settings m.places one.silo one.places
+      by Leaving = joined_so viewed settings m.places one.silo one.places
+      by Dead = refl
+
+  listed_all_same : (settings : Settings) (r : Result Membership ℕ) (rows : List Listed)
+      → listed_all (with_room events letters settings) r rows ≡ listed_all settings r rows
+  listed_all_same settings (Err number) rows = refl
+  listed_all_same settings (Ok m) [] = refl
+  listed_all_same settings (Ok m) (one ∷ rows) =
+      ap (λ r. listed_all (with_room events letters settings) r rows) (listed_same settings m one)
+      ∙ listed_all_same settings (listed settings m one) rows
+
+  view_same : (s : SiloValue) (silo : Silo) (version : ℕ) (rows : List Listed)
+      → told_view (P s).node.settings (P s).membership silo version rows ≡ told_view s.node.settings s.membership silo version rows
+  view_same s silo version rows =
+      ap (λ r. if nat_lt 0 s.membership.views.version then Err 211 else
+      unless_joined silo (if nat_lt version most_known then r else Err 210))
+      (listed_all_same s.node.settings (Ok (membership_from s.node.settings version)) rows)
+
+  begins_same : (d : Deployment) (silo : Silo) (s : SiloValue) (r : Result Membership ℕ) → begins r (R d) silo (P s) ≡ R (begins r d silo s)
+  begins_same d silo s (Err number) = refl
+  begins_same d silo s (Ok m) = ap (λ ps. record (R d) { processes = ps }) (insert-over P silo_cmp d.processes silo (record s { membership = m }))
+
+  begins_at_same : (d : Deployment) (silo : Silo) (version : ℕ) (o : Option SiloValue)
+      → begins_at (option_map P o) (R d) silo version ≡ R (begins_at o d silo version)
+  begins_at_same d silo version None = refl
+  begins_at_same d silo version (Some s) = by (nat_le version d.membership.views.version)
+    where
+      abbrev rows : List Listed
+      rows = listing_of d.membership version
+
+      by : (b : Bool) → (if b then begins (told_view (P s).node.settings (P s).membership silo version rows) (R d) silo (P s) else R d)
+          ≡ R (if b then begins (told_view s.node.settings s.membership silo version rows) d silo s else d)
+      by false = refl
+      by true =
+          ap (λ r. begins r (R d) silo (P s)) (view_same s silo version rows)
+          ∙ begins_same d silo s (told_view s.node.settings s.membership silo version rows)
+
   tells_same : (d : Deployment) (silo : Silo) (s : SiloValue) (index : ℕ) (o : Option Change)
       → tells o (R d) silo (P s) index ≡ R (tells o d silo s index)
   tells_same d silo s index None = refl
@@ -154,6 +207,8 @@ module _ (events letters : ℕ) where
       ap (λ r. decided r (R d) c) (changed_same d.settings d.membership c) ∙ decided_same d c (changed d.settings d.membership c)
   after_same d (Tell silo index) =
       ap (λ o. tells_at o (R d) silo index) (process_there d silo) ∙ tells_at_same d silo index (process_of d silo)
+  after_same d (Begin silo version) =
+      ap (λ o. begins_at o (R d) silo version) (process_there d silo) ∙ begins_at_same d silo version (process_of d silo)
   after_same d (See silo version) =
       ap (λ o. sees_at o (R d) silo version) (process_there d silo) ∙ sees_at_same d silo version (process_of d silo)
   after_same d (Do silo step) = comes_same d silo (Does step)
