@@ -4,7 +4,7 @@ use Rattle.std.specs.Prelude.{◌==◌, Bool, true, false, not, nat_le, nat_lt, 
 use Rattle.std.specs.Option.{option_map}
 use Rattle.std.specs.BTreeMap.{is_at, insert_entry}
 use Rattle.silo_address.specs.Silo.{Silo, silo_cmp, silo_eq}
-use Rattle.membership_view.specs.Views.{ViewsValue}
+use Rattle.membership_view.specs.Views.{ViewsValue, most_known}
 use Rattle.membership_view.specs.Changes.{occupant, after_join}
 use Rattle.hash_ring.specs.Places.{PlacesValue}
 use Rattle.directory_rules.specs.declared.effect.Effect.TheVariants.{Ignored}
@@ -12,13 +12,17 @@ use Rattle.directory_rules.specs.Settings.{Settings}
 use Rattle.directory_rules.specs.State.{Letter}
 use Rattle.directory_rules.specs.Step.{Stepped, silently}
 use Rattle.directory_rules.specs.Input.{Input, Does, Receives, step, sight_of}
-use Rattle.directory_rules.specs.Membership.{Change, Join, Leave, Die, Membership, joined, changed, replaced_by, is_seeable}
+use Rattle.membership_view.specs.declared.status.Status.{Status}
+use Rattle.membership_view.specs.declared.status.Status.TheVariants.{Active, Leaving, Dead}
+use Rattle.membership_view.specs.Beginning.{after_listing}
+use Rattle.directory_rules.specs.Membership.{Change, Join, Leave, Die, Listed, Membership, joined, changed, replaced_by, is_seeable, listed, listed_all, listed_by, listing_of, membership_from}
 use Rattle.silo_rules.specs.SiloValue.{SiloValue, first_silo}
 use Rattle.silo_rules.specs.Steps.{barred, unless_barred, sees, does, receives}
 use Rattle.silo_rules.specs.Steps as alone
 use Rattle.silo_rules.specs.Told.{Heard, heard_by, told_again, told}
+use Rattle.silo_rules.specs.Begun.{told_view, unless_joined}
 use Rattle.deployment_headline.specs.Deployment.{Deployment, first_deployment, process_of}
-use Rattle.deployment_headline.specs.Steps.{Step, Decide, Tell, See, Do, Receive, without, processes_after, decided, heard, took, tells, tells_at, does_at, comes, sees_at, delivers, receives_at, after, after_all, deployed}
+use Rattle.deployment_headline.specs.Steps.{Step, Decide, Tell, Begin, See, Do, Receive, without, processes_after, decided, heard, begins, begins_at, took, tells, tells_at, does_at, comes, sees_at, delivers, receives_at, after, after_all, deployed}
 use Rattle.deployment_headline.specs.Limits.{with_room, process_with_room, deployment_with_room}
 use Rattle.deployment_headline.proofs.Lists.{over, lookup-over, insert-over, remove-over}
 use Rattle.deployment_headline.proofs.Limits.{result_with_room, steps_same}
@@ -79,11 +83,6 @@ module _ (events letters : ℕ) where
       ap (λ ps. record (R d) { processes = ps }) (insert-over P silo_cmp d.processes silo (record s { membership = its.membership }))
 
   -- ---- what a process begins with
-  joined_so : (o : Result ViewsValue ℕ) (settings : Settings) (places : PlacesValue) (silo : Silo) (stated : List ℕ)
-      → joined o (with_room events letters settings) places silo stated ≡ joined o settings places silo stated
-  joined_so (Err number) settings places silo stated = refl
-  joined_so (Ok views) settings places silo stated = refl
-
   listed_same : (settings : Settings) (m : Membership) (one : Listed)
       → listed (with_room events letters settings) m one ≡ listed settings m one
   listed_same settings m one = by one.status
@@ -93,8 +92,8 @@ module _ (events letters : ℕ) where
 
       by : (status : Status) → listed_by status viewed (with_room events letters settings) m.places one.silo one.places
           ≡ listed_by status viewed settings m.places one.silo one.places
-      by Active = joined_so viewed settings m.places one.silo one.places
-      by Leaving = joined_so viewed settings m.places one.silo one.places
+      by Active = joined_same viewed settings m.places one.silo one.places
+      by Leaving = joined_same viewed settings m.places one.silo one.places
       by Dead = refl
 
   listed_all_same : (settings : Settings) (r : Result Membership ℕ) (rows : List Listed)

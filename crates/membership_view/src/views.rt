@@ -1,9 +1,10 @@
 ghost use Rattle.std.specs.Map.Iter.{ShowsInOrder, deref_pair};
-ghost use Rattle.std.specs.Prelude.{◌≡◌, ◌≢◌, ◌<◌, ◌≤◌, ◌↔◌, length, IsTrue, IfOk, IfErr, IsErrOf, OnOk, OnErr, IfSome, IsSome, true, false};
+ghost use Rattle.std.specs.Prelude.{◌≡◌, ◌≢◌, ◌<◌, ◌≤◌, ◌↔◌, length, IsTrue, IfOk, IfErr, IsErrOf, IsSomeAnd, OnOk, OnErr, IfSome, IsSome, Ok, Err, true, false};
 ghost use Rattle.silo_address.specs.Silo.{Silo};
 ghost use Rattle.membership_view.specs.Changes.{Join, Leave, Die, after, changed, is_newest, joined_rows, occupant, with_death, with_join, with_leave};
 ghost use Rattle.membership_view.specs.Beginning.{after_listing, beginning, is_known_endpoint, with_listed};
-ghost use Rattle.membership_view.specs.Refusal.{Refuses, RefusesListing, RefusesOrLacksMemory};
+ghost use Rattle.membership_view.specs.Refusal.{Refuses, RefusesListing, RefusesOrLacksMemory, views_error_number};
+ghost use Rattle.membership_view.specs.declared.status.Status.{Status as StatusSeen};
 ghost use Rattle.membership_view.specs.Row.{leaving, dying};
 ghost use Rattle.membership_view.specs.Views.{dying_version, first_views, joining_version, leaving_version, most_known, row_of, status_at, view_at, views_from};
 ghost use Rattle.membership_view.specs.Whole.{IsViews, OlderAreDead};
@@ -99,16 +100,35 @@ impl Views {
         ensures refused { IfErr result (RefusesListing self.old silo status) }
         ensures unchanged { OnErr result (self.new ≡ self.old) }
     {
-        if self.first == 0 || endpoint::is_known(&self.rows, &silo) {
+        self.may_list(&silo)?;
+        match self.put_listed(silo, status) {
+            Ok(()) => Ok(()),
+            Err(_) => Err(ViewsError::OutOfMemory),
+        }
+    }
+
+    /// Whether the first version may list a silo: fails as `list` would, whatever the silo is there. Needs no memory.
+    pub fn may_list(&self, silo: &SiloAddress) -> Result<(), ViewsError>
+        ensures lists { OnOk result ((status : StatusSeen) → after_listing self.now silo.now status ≡ Ok (with_listed self.now silo.now status)) }
+        ensures later { OnOk result (0 < self.now.first) }
+        ensures apart { OnOk result (is_known_endpoint silo.now self.now.rows ≡ false) }
+        ensures room { OnOk result (length self.now.rows < self.now.limit) }
+        ensures refused { IfErr result (λ refusal. IsSomeAnd (views_error_number refusal) (λ number. (status : StatusSeen) → after_listing self.now silo.now status ≡ Err number)) }
+    {
+        if self.first == 0 || endpoint::is_known(&self.rows, silo) {
             return Err(ViewsError::NotListable);
         }
         if self.rows.len() >= self.limit {
             return Err(ViewsError::RowsFull);
         }
-        match self.put_listed(silo, status) {
-            Ok(()) => Ok(()),
-            Err(_) => Err(ViewsError::OutOfMemory),
-        }
+        Ok(())
+    }
+
+    /// Whether every silo of this one's endpoint that is known has a lower generation.
+    pub fn is_newest(&self, silo: &SiloAddress) -> bool
+        ensures { result ≡ is_newest silo.now self.now.rows }
+    {
+        endpoint::is_newest(&self.rows, silo)
     }
 
     /// The version with which these views begin.
