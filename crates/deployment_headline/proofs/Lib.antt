@@ -1,7 +1,12 @@
 pub mod Lists
+pub mod Mirrors
+pub mod MirrorRows
+pub mod MirrorChanges
+pub mod MirrorBegins
 pub mod Memberships
 pub mod Worlds
 pub mod StepEvents
+pub mod Beginnings
 pub mod Sound
 pub mod Limits
 pub mod Roomy

@@ -26,7 +26,7 @@ pub fn steps_are_plain()
     ensures { StepsArePlain }
 {}
 
-/// What a process was told is how the changes decided begin; it never refuses the next one.
+/// What a process was told is how the changes decided go on from the version with which it begins; it never refuses the next one.
 pub fn processes_are_behind()
     ensures { ProcessesAreBehind }
 {}

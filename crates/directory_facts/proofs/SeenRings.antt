@@ -20,7 +20,7 @@ use Rattle.directory_rules.specs.Settings.{Settings, AreSettings}
 use Rattle.directory_rules.specs.State.{Node}
 use Rattle.directory_rules.specs.Node.{new_node}
 use Rattle.directory_rules.specs.Step as at
-use Rattle.directory_rules.specs.Input.{Input}
+use Rattle.directory_rules.specs.Input.{Input, step}
 use Rattle.directory_facts.specs.Seen.{SeesItsVersion}
 use Rattle.directory_facts.proofs.Carried.{Facts, Brings, IsSight, GoesOn, IsGoing, Keeps}
 use Rattle.directory_facts.proofs.Ways.{Ways}
@@ -191,10 +191,17 @@ module _ (settings : Settings) (views : ViewsValue) (places : PlacesValue) (silo
     takes_over = λ letter entry body seen may brings. stay _ refl refl;
   }
 
+-- a step leaves it so
+pub sees_on : (settings : Settings) (views : ViewsValue) (places : PlacesValue) (silo : Silo) (node : Node) (input : Input)
+    (stepped : at.Stepped) → SeesItsVersion views places node → Brings seen_facts settings views places silo input
+    → step node input ≡ Ok stepped → SeesItsVersion views places stepped.node
+sees_on settings views places silo node input stepped sees brings is =
+    by_way node (Made settings views places silo node sees) (ways settings views places silo node sees) input stepped is brings
+
 pub seen_keep : Keeps seen_facts
 seen_keep = record {
   first = λ settings are. record {
-    whole = views_start settings.silos (omega (are.silos_above, arith)) are.silos_within;
+    whole = views_start settings.silos 0 (omega (are.silos_above, arith)) are.silos_within (omega arith);
     limit = refl;
     hashing = refl;
     points = refl;
@@ -205,9 +212,7 @@ seen_keep = record {
       placed;
   going = going;
   stepping = λ settings views places silo node input stepped before is. record {
-    node =
-        by_way node (Made settings views places silo node before.node) (ways settings views places silo node before.node) input stepped is
-        before.brings;
+    node = sees_on settings views places silo node input stepped before.node before.brings is;
     letters = λ k d below. tt;
   };
 }

@@ -1,8 +1,13 @@
 -- How the fields of the code's membership are the rule's, and the numbers by which its refusals are told.
-use Rattle.std.specs.Prelude.{◌≡◌, ℕ, IfNone, Option, None}
+use Rattle.std.specs.Prelude.{◌≡◌, ℕ, ◌==◌, if◌then◌else◌, IfNone, IsOk, List, length, Option, None, Result, Ok, Err}
+use Rattle.silo_address.specs.Silo.{Silo}
+use Rattle.membership_view.specs.declared.Status.{Status}
+use Rattle.membership_view.specs.declared.Status.TheVariants.{Active, Leaving, Dead}
+use Rattle.hash_ring.specs.Places.{PlacesValue}
+use Rattle.directory_rules.specs.Settings.{Settings}
 use Rattle.membership_view.specs.Refusal.{views_error_number}
 use Rattle.hash_ring.specs.Numbers.{ring_error_number}
-use Rattle.directory_rules.specs.Membership.{Membership}
+use Rattle.directory_rules.specs.Membership.{Listed, Membership, placed}
 use Rattle.directory_node.specs.declared.membership.Membership.TheInside.{Inside}
 use Rattle.directory_node.specs.declared.membership.ChangeRefusal.{ChangeRefusal}
 use Rattle.directory_node.specs.declared.membership.ChangeRefusal.TheVariants.{Views, Ring, OutOfMemory}
@@ -19,3 +24,17 @@ change_refusal_number OutOfMemory = None
 -- a refusal that has no number is out of memory, told as just that
 abbrev pub IsNumberedUnlessMemory : ChangeRefusal → Type 0
 IsNumberedUnlessMemory refusal = IfNone (change_refusal_number refusal) (refusal ≡ OutOfMemory)
+
+-- ---- Silos that a view lists.
+
+-- by its status, whether its places are such as it may have, or the number by which they are refused
+abbrev pub places_by : Status → Settings → PlacesValue → Silo → (stated : List ℕ) → Result PlacesValue ℕ
+places_by Active settings places silo stated = placed settings places silo stated
+places_by Leaving settings places silo stated = placed settings places silo stated
+places_by Dead settings places silo stated = if length stated == 0 then Ok places else Err 402
+
+abbrev pub MayBeListed : Settings → PlacesValue → Listed → Type 0
+MayBeListed settings places one = IsOk (places_by one.status settings places one.silo one.places)
+
+abbrev pub RefusesPlaces : Settings → PlacesValue → Listed → (number : ℕ) → Type 0
+RefusesPlaces settings places one number = places_by one.status settings places one.silo one.places ≡ Err number

@@ -1,6 +1,7 @@
 -- The settings of a directory: how hashes are made, and the limits. A directory's own limits are the greatest; smaller
 -- ones serve examples.
 use Rattle.std.specs.Prelude.{ℕ, ◌≤◌}
+use Rattle.membership_view.specs.Views.{most_known}
 use Rattle.hash_ring.specs.declared.Hashing.{Hashing}
 
 -- what a directory is set up with
@@ -10,7 +11,7 @@ pub record Settings : Type 0 where
   pub points : ℕ
   -- how many entries a cache keeps
   pub cache : ℕ
-  -- how many silos may ever join, and how many places a join may name
+  -- how many silos may be known, and how many places a join may name
   pub silos : ℕ
   pub places : ℕ
   -- how many events may ever be accepted, and how many letters sent
@@ -50,7 +51,7 @@ pub record AreSettings (settings : Settings) : Type 0 where
   pub points_within : settings.points ≤ 128
   pub cache_within : settings.cache ≤ 65536
   pub silos_above : 1 ≤ settings.silos
-  pub silos_within : settings.silos ≤ 65536
+  pub silos_within : settings.silos < most_known
   pub places_above : 1 ≤ settings.places
   pub places_within : settings.places ≤ 128
   pub events_above : 1 ≤ settings.events

@@ -1,4 +1,5 @@
 ghost use Rattle.std.specs.Prelude.{◌≡◌, ◌↔◌, ◌<◌, ◌≤◌, ◌^◌, IsTrue, IsSome, IfSome};
+ghost use Rattle.membership_view.specs.Views.{most_known};
 ghost use Rattle.directory_rules.specs.Settings.{AreSettings, directory_settings};
 
 use hash_ring::Hashing;
@@ -7,8 +8,8 @@ use std::marker::Model;
 /// The greatest number of entries in a cache.
 const MOST_CACHED: usize = 65_536;
 
-/// The greatest number of silos that may ever join.
-const MOST_SILOS: usize = 65_536;
+/// The greatest number of silos that may be known: 2^62 - 1.
+const MOST_SILOS: usize = (1 << 62) - 1;
 
 /// The greatest number of letters ever sent in a played cluster.
 const MOST_LETTERS: u64 = 1_000_000;
@@ -75,10 +76,10 @@ impl Settings {
         })
     }
 
-    /// The same settings, but for at most so many silos ever, 1 to 65536. `None` where the number is out of its range.
+    /// The same settings, but for at most so many silos that a world or a silo may know, 1 to 2^62 - 1. `None` where the number is out of its range.
     pub fn with_silos(self, silos: usize) -> Option<Settings>
         ensures exact { IfSome result (λ settings. settings ≡ record self { silos = silos }) }
-        ensures in_range { IsSome result ↔ ((1 ≤ silos) × (silos ≤ 65536)) }
+        ensures in_range { IsSome result ↔ ((1 ≤ silos) × (silos < most_known)) }
     {
         if silos == 0 || silos > MOST_SILOS {
             return None;
@@ -147,7 +148,7 @@ impl Settings {
         self.cache
     }
 
-    /// How many silos may ever join, 1 to 65536.
+    /// How many silos may be known, 1 to 2^62 - 1.
     pub fn silos(&self) -> usize
         ensures { result ≡ self.now.silos }
     {

@@ -3,11 +3,15 @@ ghost use Rattle.directory_node.specs.Follows.{Follows};
 ghost use Rattle.directory_silo.specs.AnswerModel.{heard_as};
 ghost use Rattle.directory_rules.specs.Membership.{Join, Leave, Die, changed, replaced_by};
 ghost use Rattle.directory_silo.specs.Numbers.{IsNumberedUnlessMemory, silo_refusal_number};
+ghost use Rattle.directory_rules.specs.ListedModel.{all_listed_of};
+ghost use Rattle.silo_rules.specs.Begun.{told_view};
 ghost use Rattle.silo_rules.specs.Told.{IsNever, heard_by, told};
 
-use crate::known::{is_known_death, is_known_join, is_known_leave};
+use crate::known::{is_before, is_known_death, is_known_join, is_known_leave};
 use crate::{Silo, SiloRefusal};
 use directory_node::Membership;
+use directory_rules::Listed;
+use membership_view::ViewsError;
 use silo_address::SiloAddress;
 use silo_rules::News;
 
@@ -15,7 +19,7 @@ use silo_rules::News;
 // `see`, but that a silo takes no step before its own join, and none once it is Dead.
 impl Silo {
     /// The silo is told that a silo joined, which made that version, with the places stated for it; none are stated where they are
-    /// hashed. Refused by 207 where the version was told before and says otherwise, by 206 where it isn't the next one, then by
+    /// hashed. Refused by 212 where the version was told by the view with which the silo began, by 207 where the version was told before and says otherwise, by 206 where it isn't the next one, then by
     /// 201, 205, 402, 403 (`docs/RULES.md#a-silo-by-itself`). A refusal changes nothing.
     pub fn joined(
         &mut self,
@@ -29,7 +33,8 @@ impl Silo {
         ensures unchanged { OnErr result (self.new ≡ self.old) }
     {
         if version <= self.membership.views().current() {
-            return again(is_known_join(&self.membership, version, &silo, places));
+            let known = is_known_join(&self.membership, version, &silo, places);
+            return again(is_before(&self.membership, version), known);
         }
         if !is_next(&self.membership, version) {
             return Err(SiloRefusal::Gap);
@@ -45,7 +50,8 @@ impl Silo {
         ensures unchanged { OnErr result (self.new ≡ self.old) }
     {
         if version <= self.membership.views().current() {
-            return again(is_known_leave(&self.membership, version, silo));
+            let known = is_known_leave(&self.membership, version, silo);
+            return again(is_before(&self.membership, version), known);
         }
         if !is_next(&self.membership, version) {
             return Err(SiloRefusal::Gap);
@@ -64,7 +70,8 @@ impl Silo {
         ensures unchanged { OnErr result (self.new ≡ self.old) }
     {
         if version <= self.membership.views().current() {
-            return again(is_known_death(&self.membership, version, silo));
+            let known = is_known_death(&self.membership, version, silo);
+            return again(is_before(&self.membership, version), known);
         }
         if !is_next(&self.membership, version) {
             return Err(SiloRefusal::Gap);
@@ -73,6 +80,31 @@ impl Silo {
             Ok(()) => Ok(News::Made),
             Err(refusal) => Err(SiloRefusal::of_change(refusal)),
         }
+    }
+
+    /// The silo is told the view of a version, in place of all changes up to it: it knows of the changes after that alone. The Dead
+    /// are left out but for the newest silo of each endpoint, and the silo itself joins later. Refused by 211 where it was told a
+    /// change or a view before; by 210 where no history may begin with that version; then silo by silo, the first one first, by 210,
+    /// 205, 402, 403; last by 201 where the silo itself, or a newer one of its endpoint, is listed
+    /// (`docs/RULES.md#a-silo-by-itself`). A refusal changes nothing.
+    pub fn begins(&mut self, version: u64, rows: &[Listed]) -> Result<(), SiloRefusal>
+        ensures begun { Follows (λ _. self.new.membership) silo_refusal_number IsOk (told_view self.old.node.settings self.old.membership self.old.node.host.silo version (all_listed_of rows.now)) result }
+        ensures numbered { IfErr result IsNumberedUnlessMemory }
+        ensures node { self.new.node ≡ self.old.node }
+        ensures unchanged { OnErr result (self.new ≡ self.old) }
+    {
+        if self.membership.views().current() > 0 {
+            return Err(SiloRefusal::ToldBefore);
+        }
+        let begun = match Membership::begun(self.alloc, &self.node.settings(), version, rows) {
+            Ok(begun) => begun,
+            Err(refusal) => return Err(SiloRefusal::of_change(refusal)),
+        };
+        if !begun.views().is_newest(&self.address()) {
+            return Err(SiloRefusal::Views(ViewsError::OldGeneration));
+        }
+        self.membership = begun;
+        Ok(())
     }
 
     // A join of the next version is told.
@@ -99,10 +131,14 @@ fn is_next(membership: &Membership, version: u64) -> bool
 }
 
 // What is told of a change of a version that is known.
-fn again(known: bool) -> Result<News, SiloRefusal>
-    ensures known { IsTrue known → result ≡ Ok News.Known }
-    ensures otherwise { known ≡ false → result ≡ Err SiloRefusal.SaysOtherwise }
+fn again(before: bool, known: bool) -> Result<News, SiloRefusal>
+    ensures before { IsTrue before → result ≡ Err SiloRefusal.BeforeHistory }
+    ensures known { before ≡ false → IsTrue known → result ≡ Ok News.Known }
+    ensures otherwise { before ≡ false → known ≡ false → result ≡ Err SiloRefusal.SaysOtherwise }
 {
+    if before {
+        return Err(SiloRefusal::BeforeHistory);
+    }
     if known {
         Ok(News::Known)
     } else {

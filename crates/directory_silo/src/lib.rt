@@ -15,7 +15,7 @@ mod step;
 pub use answer::Answer;
 pub use directory_letters::{Body, Letter};
 pub use directory_node::Node;
-pub use directory_rules::{Effect, LetterKind, Policy, Settings};
+pub use directory_rules::{Effect, LetterKind, Listed, Policy, Settings};
 pub use hash_ring::{Hashing, Places, Point};
 pub use membership_view::{Status, Views};
 pub use refusal::SiloRefusal;

@@ -13,14 +13,14 @@ use Rattle.membership_view.specs.declared.status.Status.{Status}
 use Rattle.membership_view.specs.Row.{is_active, status_in}
 use Rattle.membership_view.specs.View.{active_silos}
 use Rattle.membership_view.specs.Views.{rows_in, row_of, view_at}
-use Rattle.hash_ring.specs.Places.{PlacesValue, places_of, places_for}
+use Rattle.hash_ring.specs.Places.{PlacesValue, places_of, places_for, named_places}
 use Rattle.hash_ring.specs.Ring.{points_if, silo_points, sorted_points, sorted_ring}
 use Rattle.directory_rules.specs.State.{Node, World}
 use Rattle.directory_rules.specs.Happens.{node_of}
 use Rattle.directory_rules.proofs.Cases.{on_bool}
 use Rattle.directory_facts.proofs.Places.{added_row}
 use Rattle.directory_headline.proofs.Facts.{WorldFacts}
-use Rattle.dump_rules.specs.Dump.{named_places, dump_node, dump_of}
+use Rattle.dump_rules.specs.Dump.{dump_node, dump_of}
 use Rattle.dump_rules.specs.Verdict.{dump_places}
 use Rattle.dump_rules.specs.RightDump.{HasItsRing}
 use Rattle.dump_headline.proofs.Orders.{all_found}

@@ -15,12 +15,12 @@ use Rattle.membership_view.specs.Whole.{IsViews, IsInTime, changes_of}
 use Rattle.ring_range.specs.Range.{circle}
 use Rattle.hash_ring.specs.declared.hashing.Hashing.{Hashing}
 use Rattle.hash_ring.specs.declared.hashing.Hashing.TheVariants.{Sha256, Stated}
-use Rattle.hash_ring.specs.Places.{PlacesValue, IsPlaces, places_of, is_added}
+use Rattle.hash_ring.specs.Places.{PlacesValue, IsPlaces, places_of, is_added, named_places}
 use Rattle.directory_rules.specs.State.{World}
 use Rattle.directory_rules.proofs.Cases.{on_bool}
 use Rattle.directory_facts.proofs.Places.{added_row}
 use Rattle.directory_headline.proofs.Facts.{WorldFacts}
-use Rattle.dump_rules.specs.Dump.{dump_row, dump_of, named_places}
+use Rattle.dump_rules.specs.Dump.{dump_row, dump_of}
 use Rattle.dump_rules.specs.RightShape as right
 use Rattle.dump_headline.proofs.Orders.{all_found}
 

@@ -12,20 +12,24 @@ use Rattle.membership_view.specs.declared.row.Row.{Row}
 use Rattle.membership_view.specs.declared.status.Status.{Status}
 use Rattle.membership_view.specs.declared.status.Status.TheVariants.{Active, Leaving, Dead}
 use Rattle.membership_view.specs.Row.{has_come, status_in, joining, leaving, dying}
+use Rattle.membership_view.specs.View.{shares_endpoint, is_newer, or_outlived, status_of}
 use Rattle.membership_view.specs.Views.{ViewsValue, row_of, view_at, status_at}
 use Rattle.membership_view.specs.Changes.{Join, Leave, Die, is_newest, occupant, changed, without, next_views, joined_rows}
 use Rattle.membership_view.specs.Whole.{IsViews}
 use Rattle.membership_view.specs.Step.{Joins, Leaves, Dies}
 use Rattle.membership_view.specs.Laws.{ChangesAreSteps}
 use Rattle.texts.proofs.Entries.{lookup-changed, lookup-insert_entry}
-use Rattle.membership_view.proofs.Order.{Decides-shares}
+use Rattle.membership_view.proofs.Order.{Decides-shares, shares_along, shares_back}
+use Rattle.membership_view.proofs.Listed.{newer_parts, newer_by}
+use Rattle.membership_view.proofs.Said.{outlived_in, outlived_if, outlived_only, outlived_same, said, said_there}
 use Rattle.membership_view.proofs.Statuses.{status_next, dead_by, there_from}
 use Rattle.membership_view.proofs.Known.{status_at-made}
 use Rattle.membership_view.proofs.SameEndpoint.{found_row, lower_generation, occupant_is, occupant_some}
 use Rattle.membership_view.proofs.Joins.{put_in, IsOlder, found_after, not_itself, found_occupant}
 use Rattle.membership_view.proofs.Kept.{join_is, leave_is, death_is, has_row, active_row, whole-after}
 use Rattle.membership_view.proofs.After.{row_status, row_status-changed, row_status-put_in, apart}
-use Rattle.silo_address.proofs.Order.{silo_cmp_total}
+use Rattle.silo_address.proofs.Order.{silo_cmp_exact, silo_cmp_total}
+use Rattle.texts.proofs.Orderings.{Equal-from}
 
 at_itself : (silo : Silo) → is_at (silo_cmp silo) silo ≡ true
 at_itself silo = ap is_eq (tied_itself silo_cmp_total silo)
@@ -69,6 +73,69 @@ itself views change silo row found kept =
     ∙ row_status-changed (views.version + 1) change silo views.rows row found silo
     ∙ ap (λ b. if b then status_in (views.version + 1) (change row) else row_status (views.version + 1) views.rows silo) (at_itself silo)
 
+-- what the views say of them
+said_now : (views : ViewsValue) → IsViews views → (q : Silo) (status : Status) → status_at views views.version q ≡ Some status
+    → status_of (view_at views views.version) q ≡ Some status
+said_now views whole q status is =
+    let says = sym (now_is views whole q) ∙ is in
+    said_there views whole.in_order views.version q (omega arith) (subst (λ o. IsSome o) (sym says) refl) ∙ says
+
+said_next : (views : ViewsValue) (rows : List (Silo × Row)) → IsViews (next_views views rows) → (q : Silo) (status : Status)
+    → status_at (next_views views rows) (views.version + 1) q ≡ Some status
+    → status_of (view_at (next_views views rows) (views.version + 1)) q ≡ Some status
+said_next views rows whole q status is =
+    let says = sym (next_is views rows whole q) ∙ is in
+    said_there (next_views views rows) whole.in_order (views.version + 1) q (omega arith) (subst (λ o. IsSome o) (sym says) refl) ∙ says
+
+-- of a silo that is what it was, and outlived as it was, they say what they said
+said_alike : (views : ViewsValue) (rows : List (Silo × Row)) → IsViews views → IsViews (next_views views rows) → (q : Silo)
+    → status_at (next_views views rows) (views.version + 1) q ≡ status_at views views.version q
+    → outlived_in (views.version + 1) rows q ≡ outlived_in views.version views.rows q
+    → status_of (view_at (next_views views rows) (views.version + 1)) q ≡ status_of (view_at views views.version) q
+said_alike views rows whole kept q same outlived =
+    said (next_views views rows) kept.in_order (views.version + 1) q (omega arith)
+    ∙ ap (λ o. or_outlived o (outlived_in (views.version + 1) rows q)) (sym (next_is views rows kept q) ∙ same ∙ now_is views whole q)
+    ∙ ap (λ b. or_outlived (row_status views.version views.rows q) b) outlived
+    ∙ sym (said views whole.in_order views.version q (omega arith))
+
+-- a leave and a death outlive nobody
+outlived_still : (views : ViewsValue) (change : Row → Row) (silo : Silo) (row : Row) (whole : IsViews views) → row_of views silo ≡ Some row
+    → IsViews (next_views views (changed change silo views.rows)) → (status : Status)
+    → status_at (next_views views (changed change silo views.rows)) (views.version + 1) silo ≡ Some status → (q : Silo)
+    → outlived_in (views.version + 1) (changed change silo views.rows) q ≡ outlived_in views.version views.rows q
+outlived_still views change silo row whole found kept status is q =
+    outlived_same views.version (views.version + 1) views.rows (changed change silo views.rows) whole.in_order kept.in_order q
+    (λ newer above there. on newer there (is_at (silo_cmp silo) newer) refl)
+    (λ newer above there. back newer there (is_at (silo_cmp silo) newer) refl)
+  where
+    abbrev after : List (Silo × Row)
+    after = changed change silo views.rows
+
+    same : (newer : Silo) → is_at (silo_cmp silo) newer ≡ false
+        → row_status (views.version + 1) after newer ≡ row_status views.version views.rows newer
+    same newer at =
+        row_status-changed (views.version + 1) change silo views.rows row found newer
+        ∙ ap (λ b. if b then status_in (views.version + 1) (change row) else row_status (views.version + 1) views.rows newer) at
+        ∙ still views whole newer
+
+    its : (newer : Silo) → is_at (silo_cmp silo) newer ≡ true → newer ≡ silo
+    its newer at = sym (silo_cmp_exact silo newer (Equal-from (silo_cmp silo newer) at))
+
+    on : (newer : Silo) → IsSome (row_status views.version views.rows newer) → (b : Bool) → is_at (silo_cmp silo) newer ≡ b
+        → IsSome (row_status (views.version + 1) after newer)
+    on newer there false at = subst (λ o. IsSome o) (sym (same newer at)) there
+    on newer there true at =
+        subst (λ o. IsSome o) (sym (ap (λ k. row_status (views.version + 1) after k) (its newer at) ∙ sym (next_is views after kept silo) ∙ is)) refl
+
+    back : (newer : Silo) → IsSome (row_status (views.version + 1) after newer) → (b : Bool) → is_at (silo_cmp silo) newer ≡ b
+        → IsSome (row_status views.version views.rows newer)
+    back newer there false at = subst (λ o. IsSome o) (same newer at) there
+    back newer there true at =
+        subst (λ o. IsSome o)
+        (sym (ap (λ k. row_status views.version views.rows k) (its newer at)
+        ∙ ap (λ o. option_and_then (status_in views.version) o) found))
+        (there_from views.version row (whole.in_time silo row found).joined_by)
+
 leaving_says : (version : ℕ) (row : Row) → row.dead ≡ None → status_in version (leaving version row) ≡ Some Leaving
 leaving_says version row none =
     ap (λ c. if has_come c version then Some Dead else
@@ -82,11 +149,15 @@ leave_step : (views : ViewsValue) → IsViews views → (silo : Silo) → status
 leave_step views whole silo active kept =
     let has = has_row views whole silo Active active in
     let none = active_row views.version has.row (whole.in_time silo has.row has.found) has.says in
+    let after = changed (leaving (views.version + 1)) silo views.rows in
+    let left = itself views (leaving (views.version + 1)) silo has.row has.found kept ∙ leaving_says (views.version + 1) has.row none.0 in
     record {
       rises = refl;
-      was = active;
-      left = itself views (leaving (views.version + 1)) silo has.row has.found kept ∙ leaving_says (views.version + 1) has.row none.0;
-      others = λ q ne. others views whole (leaving (views.version + 1)) silo has.row has.found kept q ne;
+      was = said_now views whole silo Active active;
+      left = said_next views after kept silo Leaving left;
+      others = λ q ne. said_alike views after whole kept q
+          (others views whole (leaving (views.version + 1)) silo has.row has.found kept q ne)
+          (outlived_still views (leaving (views.version + 1)) silo has.row whole has.found kept Leaving left q);
     }
 
 death_step : (views : ViewsValue) → IsViews views → (silo : Silo) (was : Status) → status_at views views.version silo ≡ Some was
@@ -96,14 +167,18 @@ death_step : (views : ViewsValue) → IsViews views → (silo : Silo) (was : Sta
     (views.version + 1))
 death_step views whole silo was there not_dead kept =
     let has = has_row views whole silo was there in
+    let after = changed (dying (views.version + 1)) silo views.rows in
+    let dead =
+    itself views (dying (views.version + 1)) silo has.row has.found kept
+    ∙ dead_by (views.version + 1) (views.version + 1) (dying (views.version + 1) has.row) refl (omega arith) in
     record {
       rises = refl;
-      was = subst (λ o. IsSome o) (sym there) refl;
-      was_not = λ e. not_dead (sym there ∙ e);
-      dead =
-          itself views (dying (views.version + 1)) silo has.row has.found kept
-          ∙ dead_by (views.version + 1) (views.version + 1) (dying (views.version + 1) has.row) refl (omega arith);
-      others = λ q ne. others views whole (dying (views.version + 1)) silo has.row has.found kept q ne;
+      was = subst (λ o. IsSome o) (sym (said_now views whole silo was there)) refl;
+      was_not = λ e. not_dead (sym (said_now views whole silo was there) ∙ e);
+      dead = said_next views after kept silo Dead dead;
+      others = λ q ne. said_alike views after whole kept q
+          (others views whole (dying (views.version + 1)) silo has.row has.found kept q ne)
+          (outlived_still views (dying (views.version + 1)) silo has.row whole has.found kept Dead dead q);
     }
 
 -- the silo that joined
@@ -222,31 +297,147 @@ foreign_says views whole silo newest q other = elim (other_is silo (views.versio
       | inr e ↦ e.1
     ]
 
+-- who is newer than a silo of an endpoint is of that endpoint
+newer_shares : (silo q newer : Silo) → shares_endpoint silo q ≡ true → is_newer newer q ≡ true → shares_endpoint silo newer ≡ true
+newer_shares silo q newer shares is = shares_along silo q newer shares (newer_parts newer q is).0
+
 join_step : (views : ViewsValue) → IsViews views → (silo : Silo) → is_newest silo views.rows ≡ true
     → IsViews (next_views views (joined_rows silo (views.version + 1) views.rows))
     → Joins silo (view_at views views.version) (view_at (next_views views (joined_rows silo (views.version + 1) views.rows))
     (views.version + 1))
 join_step views whole silo newest kept = record {
   rises = refl;
-  newest = λ q same there. lower q same (row_of views q) refl (subst (λ o. IsSome o) (now_is views whole q) there);
-  joined =
-      next_is views (joined_rows silo (views.version + 1) views.rows) kept silo
-      ∙ joined_says (views.version + 1) silo views.rows newest (occupant silo views.rows) (λ old h. h) whole.in_order;
-  older = λ q same ne.
-      next_is views (joined_rows silo (views.version + 1) views.rows) kept q
-      ∙ older_says views whole silo newest q same ne
-      ∙ ap (λ o. option_map (λ _. Dead) o) (sym (now_is views whole q));
-  others = λ q other.
-      next_is views (joined_rows silo (views.version + 1) views.rows) kept q
-      ∙ foreign_says views whole silo newest q other
-      ∙ sym (now_is views whole q);
+  newest = λ q same there. lower_said q same (row_status views.version views.rows q) refl
+      (subst (λ o. IsSome o) (said views whole.in_order views.version q (omega arith)) there);
+  joined = said_next views after kept silo Active
+      (next_is views after kept silo
+      ∙ joined_says (views.version + 1) silo views.rows newest (occupant silo views.rows) (λ old h. h) whole.in_order);
+  older = λ q same below. dead_after q same below (row_status (views.version + 1) after q) refl;
+  others = λ q ne apart. elim (decided_shares q) [
+    | inl shares ↦ nobody q ne shares apart
+    | inr other ↦ said_alike views after whole kept q
+        (next_is views after kept q ∙ foreign_says views whole silo newest q other ∙ sym (now_is views whole q))
+        (outlived_same views.version (views.version + 1) views.rows after whole.in_order kept.in_order q
+        (λ newer above there. subst (λ o. IsSome o) (sym (foreign_says views whole silo newest newer (foreign q newer other above))) there)
+        (λ newer above there. subst (λ o. IsSome o) (foreign_says views whole silo newest newer (foreign q newer other above)) there))
+  ];
 }
   where
-    lower : (q : Silo) → IsSameEndpoint silo q → (o : Option Row) → row_of views q ≡ o
-        → IsSome (option_and_then (status_in views.version) o)
-        → q.generation < silo.generation
-    lower q same None is there = cc
-    lower q same (Some row) is there = lower_generation silo views.rows newest q row is ((Decides-shares silo q).1 same)
+    abbrev after : List (Silo × Row)
+    after = joined_rows silo (views.version + 1) views.rows
+
+    decided_shares : (q : Silo) → (shares_endpoint silo q ≡ true) ⊎ (¬ (IsSameEndpoint silo q))
+    decided_shares q = by (shares_endpoint silo q) refl
+      where
+        by : (b : Bool) → shares_endpoint silo q ≡ b → (shares_endpoint silo q ≡ true) ⊎ (¬ (IsSameEndpoint silo q))
+        by true at = inl at
+        by false at = inr (λ same. let yes : shares_endpoint silo q ≡ true = (Decides-shares silo q).1 same in absurd (cc (yes, at)))
+
+    foreign : (q newer : Silo) → ¬ (IsSameEndpoint silo q) → is_newer newer q ≡ true → ¬ (IsSameEndpoint silo newer)
+    foreign q newer other above same =
+        other ((Decides-shares silo q).0 (shares_along silo newer q ((Decides-shares silo newer).1 same)
+        (shares_back q newer (newer_parts newer q above).0)))
+
+    lower_row : (q : Silo) → shares_endpoint silo q ≡ true → (o : Option Row) → found_row views.rows q ≡ o
+        → IsSome (option_and_then (status_in views.version) o) → q.generation < silo.generation
+    lower_row q shares None is there = absurd (cc (there))
+    lower_row q shares (Some row) is there = lower_generation silo views.rows newest q row is shares
+
+    lower_found : (q : Silo) → shares_endpoint silo q ≡ true → IsSome (row_status views.version views.rows q) → q.generation < silo.generation
+    lower_found q shares there = lower_row q shares (found_row views.rows q) refl there
+
+    -- who is said to be there, or is outlived, has a lower generation
+    lower_outlived : (q : Silo) → shares_endpoint silo q ≡ true → outlived_in views.version views.rows q ≡ true → q.generation < silo.generation
+    lower_outlived q shares is =
+        let it = outlived_only views.version views.rows whole.in_order q is in
+        let high = lower_found it.newer (newer_shares silo q it.newer shares it.is) (subst (λ o. IsSome o) (sym it.there) refl) in
+        let low = (newer_parts it.newer q it.is).1 in
+        omega (high, low, arith)
+
+    outlived_some : (q : Silo) → IsSameEndpoint silo q → (b : Bool) → outlived_in views.version views.rows q ≡ b
+        → IsSome (or_outlived None b) → q.generation < silo.generation
+    outlived_some q same false at there = absurd (cc (there))
+    outlived_some q same true at there = lower_outlived q ((Decides-shares silo q).1 same) at
+
+    lower_said : (q : Silo) → IsSameEndpoint silo q → (o : Option Status) → row_status views.version views.rows q ≡ o
+        → IsSome (or_outlived (row_status views.version views.rows q) (outlived_in views.version views.rows q)) → q.generation < silo.generation
+    lower_said q same None at there =
+        outlived_some q same (outlived_in views.version views.rows q) refl
+        (subst (λ o. IsSome (or_outlived o (outlived_in views.version views.rows q))) at there)
+    lower_said q same (Some status) at there = lower_found q ((Decides-shares silo q).1 same) (subst (λ o. IsSome o) (sym at) refl)
+
+    joined_there : row_status (views.version + 1) after silo ≡ Some Active
+    joined_there = joined_says (views.version + 1) silo views.rows newest (occupant silo views.rows) (λ old h. h) whole.in_order
+
+    -- an older silo of the endpoint is Dead, by its row or by the silo that joined
+    dead_after : (q : Silo) → IsSameEndpoint silo q → q.generation < silo.generation → (o : Option Status)
+        → row_status (views.version + 1) after q ≡ o → status_of (view_at (next_views views after) (views.version + 1)) q ≡ Some Dead
+    dead_after q same below None at =
+        said (next_views views after) kept.in_order (views.version + 1) q (omega arith)
+        ∙ ap (λ o. or_outlived o (outlived_in (views.version + 1) after q)) at
+        ∙ ap (λ b. or_outlived None b) (outlived_if (views.version + 1) after kept.in_order q silo Active joined_there
+        (newer_by silo q (shares_back silo q ((Decides-shares silo q).1 same)) below))
+    dead_after q same below (Some status) at =
+        said_next views after kept q Dead
+        (next_is views after kept q ∙ dead_row (row_status views.version views.rows q) (sym (older_says views whole silo newest q same ne) ∙ at)
+        (older_says views whole silo newest q same ne))
+      where
+        ne : q ≢ silo
+        ne is = let e : q.generation ≡ silo.generation = ap (λ (s : Silo). s.generation) is in omega (e, below, arith)
+
+        dead_row : (o : Option Status) → option_map (λ _. Dead) o ≡ Some status
+            → row_status (views.version + 1) after q ≡ option_map (λ _. Dead) o → row_status (views.version + 1) after q ≡ Some Dead
+        dead_row None is says = absurd (cc (is))
+        dead_row (Some its) is says = says
+
+    -- another one of the endpoint that isn't older isn't there, before or after
+    nobody : (q : Silo) → q ≢ silo → shares_endpoint silo q ≡ true → ¬ (IsSameEndpoint silo q × (q.generation < silo.generation))
+        → status_of (view_at (next_views views after) (views.version + 1)) q ≡ status_of (view_at views views.version) q
+    nobody q ne shares apart =
+        said (next_views views after) kept.in_order (views.version + 1) q (omega arith)
+        ∙ ap (λ o. or_outlived o (outlived_in (views.version + 1) after q)) gone_after
+        ∙ ap (λ b. or_outlived None b) (outlived_same views.version (views.version + 1) views.rows after whole.in_order kept.in_order q on back)
+        ∙ ap (λ o. or_outlived o (outlived_in views.version views.rows q)) (sym gone_before)
+        ∙ sym (said views whole.in_order views.version q (omega arith))
+      where
+        not_lower : ¬ (q.generation < silo.generation)
+        not_lower below = apart ((Decides-shares silo q).0 shares, below)
+
+        none_if : (o : Option Status) → (IsSome o → ⊥) → o ≡ None
+        none_if None never = refl
+        none_if (Some status) never = absurd (never refl)
+
+        gone_before : row_status views.version views.rows q ≡ None
+        gone_before = none_if (row_status views.version views.rows q) (λ there. not_lower (lower_found q shares there))
+
+        gone_after : row_status (views.version + 1) after q ≡ None
+        gone_after =
+            older_says views whole silo newest q ((Decides-shares silo q).0 shares) ne ∙ ap (λ o. option_map (λ _. Dead) o) gone_before
+
+        on : (newer : Silo) → is_newer newer q ≡ true → IsSome (row_status views.version views.rows newer)
+            → IsSome (row_status (views.version + 1) after newer)
+        on newer above there = absurd (not_lower (let high = lower_found newer (newer_shares silo q newer shares above) there in
+        let low = (newer_parts newer q above).1 in omega (high, low, arith)))
+
+        back : (newer : Silo) → is_newer newer q ≡ true → IsSome (row_status (views.version + 1) after newer)
+            → IsSome (row_status views.version views.rows newer)
+        back newer above there = by (row_status views.version views.rows newer) refl
+          where
+            apart_from : newer ≢ silo
+            apart_from is =
+                not_lower (let low = (newer_parts newer q above).1 in
+                let e : newer.generation ≡ silo.generation = ap (λ (s : Silo). s.generation) is in omega (e, low, arith))
+
+            by : (o : Option Status) → row_status views.version views.rows newer ≡ o → IsSome (row_status views.version views.rows newer)
+            by None at =
+                let none = older_says views whole silo newest newer ((Decides-shares silo newer).0 (newer_shares silo q newer shares above)) apart_from
+                ∙ ap (λ o. option_map (λ _. Dead) o) at in
+                absurd (never (row_status (views.version + 1) after newer) none there)
+              where
+                never : (o : Option Status) → o ≡ None → IsSome o → ⊥
+                never None is there = cc (there)
+                never (Some status) is there = cc (is)
+            by (Some status) at = subst (λ o. IsSome o) (sym at) refl
 
 pub changes_are_steps : ChangesAreSteps
 changes_are_steps views (Join silo) next accepts =

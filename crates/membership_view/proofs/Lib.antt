@@ -1,5 +1,6 @@
 pub mod Found
 pub mod Order
+pub mod Listed
 pub mod Statuses
 pub mod Known
 pub mod SameEndpoint
@@ -15,3 +16,5 @@ pub mod Unchanged
 pub mod WorkedOut
 pub mod Searches
 pub mod Accepted
+pub mod Said
+pub mod Beginnings

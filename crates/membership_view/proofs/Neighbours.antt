@@ -12,7 +12,8 @@ use Rattle.texts.proofs.Orderings.{upto_nat, less_is}
 use Rattle.silo_address.specs.Silo.{Silo, silo_cmp}
 use Rattle.membership_view.specs.declared.row.Row.{Row}
 use Rattle.membership_view.specs.Row.{has_come}
-use Rattle.membership_view.specs.Changes.{shares_endpoint, is_newest, occupant}
+use Rattle.membership_view.specs.View.{shares_endpoint}
+use Rattle.membership_view.specs.Changes.{is_newest, occupant}
 use Rattle.membership_view.specs.Whole.{OlderAreDead}
 use Rattle.membership_view.proofs.Order.{shares_back, shares_between, same_generation, by_generation, Decides-shares}
 use Rattle.membership_view.proofs.SameEndpoint.{found_row, lower_generation, newest_from, IsOccupant, occupant_is, occupant_none}
