@@ -16,7 +16,7 @@ const (
 // Rate is how fast this machine's clock runs.
 const Rate = 1.0
 
-// InParts has nearly all messages of silos go in parts.
+// InParts has all messages of silos go in parts.
 const InParts = false
 
 // Loses says whether a part is lost.

@@ -18,7 +18,7 @@ var (
 	MixedParts    = planted == "mixed-parts"
 )
 
-// InParts has nearly all messages of silos go in parts, of which one in a hundred is lost, by GRAIN_DIRECTORY_IN_PARTS.
+// InParts has all messages of silos go in parts, of which one in a hundred is lost, by GRAIN_DIRECTORY_IN_PARTS.
 var InParts = os.Getenv("GRAIN_DIRECTORY_IN_PARTS") != ""
 
 // Loses says whether a part is lost.

@@ -132,7 +132,7 @@ func (p *Post) Counts() Counts {
 
 func (p *Post) most() int {
 	if planted.InParts {
-		return headRoom + 64
+		return headRoom + 32
 	}
 	if most := p.carrier.Most(); most < longestMessage {
 		return most
@@ -145,7 +145,7 @@ func (p *Post) Letter(to directory.Silo, kind string, line []byte) {
 	atomic.AddInt64(&p.counts.Sent, 1)
 	p.listener.Asked(to, kind)
 	most := p.most()
-	if len(line)+1 > most {
+	if len(line)+1 > most || planted.InParts {
 		p.number++
 		atomic.AddInt64(&p.counts.Cut, 1)
 		for _, part := range cut(p.me, p.number, line, most) {
