@@ -90,6 +90,16 @@ func (f *fake) pending() int {
 	return len(f.lines)
 }
 
+// isAsked waits until the silo is told something, which isn't answered yet.
+func (f *fake) isAsked(t *testing.T) {
+	t.Helper()
+	for end := time.Now().Add(5 * time.Second); f.pending() == 0; time.Sleep(time.Millisecond) {
+		if time.Now().After(end) {
+			t.Fatal("the silo is told nothing")
+		}
+	}
+}
+
 func (f *fake) isTold(t *testing.T, nothing string) {
 	t.Helper()
 	time.Sleep(20 * time.Millisecond)
@@ -185,8 +195,8 @@ func TestOneLife(t *testing.T) {
 	b.hears("4 refused 803 ")
 	a.says("5 deactivate user/ann")
 	x.silo.answers(t, "close user/ann", silo.Answer{Activation: "S!1"})
-	a.says("6 activate user/ann") // while it ends: again behind its end
 	a.says("7 deactivate user/ann")
+	a.says("6 activate user/ann") // while it ends: again behind its end
 	a.says("8 status")
 	a.hears("8 status S version 1 held 1")
 	x.service.Said(silo.Said{What: silo.Ended, Activation: "S!1", Grain: "user/ann", How: "removed"})
@@ -279,6 +289,39 @@ func TestGivingUp(t *testing.T) {
 	x.silo.isTold(t, "nothing")
 	x.service.Said(silo.Said{What: silo.Firm, Activation: "S!2", Grain: "user/ann", Token: 1})
 	a.hears("6 firm S!2 user/ann token 1")
+}
+
+// Who wants an ending activation anew may give that up, too; what another wants anew is asked for.
+func TestGivingUpBehindAnEnd(t *testing.T) {
+	x := start(t)
+	a, b := x.dial(), x.dial()
+	x.firm(a, "user/ann", "S!1", 1)
+	a.says("1 deactivate user/ann")
+	x.silo.answers(t, "close user/ann", silo.Answer{Activation: "S!1"})
+	a.says("2 activate user/ann")
+	a.says("3 status")
+	a.hears("3 status S version 1 held 1")
+	b.says("4 activate user/ann")
+	b.says("5 status")
+	b.hears("5 status S version 1 held 1")
+	a.says("6 deactivate user/ann")
+	a.hears("2 refused given ")
+	x.service.Said(silo.Said{What: silo.Ended, Activation: "S!1", Grain: "user/ann", How: "removed"})
+	a.hears("1 ended user/ann removed")
+	a.hears("6 ended user/ann removed")
+	x.silo.answers(t, "wake user/ann", silo.Answer{Activation: "S!2"})
+	x.service.Said(silo.Said{What: silo.Firm, Activation: "S!2", Grain: "user/ann", Token: 1})
+	b.hears("4 firm S!2 user/ann token 1")
+	b.says("7 deactivate user/ann")
+	x.silo.answers(t, "close user/ann", silo.Answer{Activation: "S!2"})
+	b.says("8 activate user/ann")
+	b.says("9 deactivate user/ann")
+	b.hears("8 refused given ")
+	x.service.Said(silo.Said{What: silo.Ended, Activation: "S!2", Grain: "user/ann", How: "removed"})
+	b.hears("7 ended user/ann removed")
+	b.hears("9 ended user/ann removed")
+	x.silo.isTold(t, "nothing")
+	x.held(0)
 }
 
 // What became firm just before it was given up is closed, and nobody is told of it.
@@ -414,15 +457,38 @@ func TestMoves(t *testing.T) {
 	b.hears("2 ended user/bob absent")
 }
 
+// A grain may move here before the silo reads that it is asked for, and refuses that then: who asks has what moved here, or gives that up.
+func TestMovesWhileItIsAskedFor(t *testing.T) {
+	x := start(t)
+	a := x.dial()
+	a.says("1 activate user/ann")
+	x.silo.isAsked(t)
+	x.service.Said(silo.Said{What: silo.Started, Activation: "S!5", Grain: "user/ann"})
+	x.silo.answers(t, "wake user/ann", silo.Answer{Refused: "801"})
+	x.service.Said(silo.Said{What: silo.Firm, Activation: "S!5", Grain: "user/ann", Token: 3})
+	a.hears("1 firm S!5 user/ann token 3")
+	a.says("2 activate user/bob")
+	a.says("3 deactivate user/bob")
+	a.hears("2 refused given ")
+	x.service.Said(silo.Said{What: silo.Started, Activation: "S!6", Grain: "user/bob"})
+	x.silo.answers(t, "wake user/bob", silo.Answer{Refused: "801"})
+	x.silo.answers(t, "cancel user/bob", silo.Answer{Activation: "S!6"})
+	x.held(2)
+	x.service.Said(silo.Said{What: silo.Ended, Activation: "S!6", Grain: "user/bob", How: "removed"})
+	a.hears("3 ended user/bob removed")
+	a.says("4 activate user/eve") // held by nobody whom the agent knows
+	x.silo.answers(t, "wake user/eve", silo.Answer{Refused: "801"})
+	a.hears("4 refused 801 ")
+	x.held(1)
+}
+
 // What was fenced while the silo is asked for a place isn't moved.
 func TestLostBeforeItsPlace(t *testing.T) {
 	x := start(t)
 	a := x.dial()
 	x.firm(a, "user/ann", "S!1", 1)
 	a.says("2 migrate user/ann any")
-	for x.silo.pending() == 0 {
-		time.Sleep(time.Millisecond)
-	}
+	x.silo.isAsked(t)
 	atomic.StoreInt32(&x.may, 0)
 	x.silo.answers(t, "place user/ann", silo.Answer{Activation: "10.0.0.2:1000@1"})
 	a.hears("2 refused lost ")

@@ -13,6 +13,9 @@ func (s *Service) close(k ask, name string, to directory.Silo) {
 	case g == nil:
 		k.refuse("802")
 	case g.phase == closing:
+		if to == "" { // who asks for it anew gives that up, too
+			g.again = without(g.again, k.app)
+		}
 		g.ending = append(g.ending, k)
 	case g.phase == asking && to == "" && g.isAskedBy(k.app):
 		g.ending = append(g.ending, k)
@@ -52,6 +55,18 @@ func (g *grain) isAskedBy(app *application) bool {
 		}
 	}
 	return false
+}
+
+// without is what the others ask of these; to what the application asks, it gives up.
+func without(asks []ask, app *application) (rest []ask) {
+	for _, k := range asks {
+		if k.app == app {
+			k.refuse("given")
+		} else {
+			rest = append(rest, k)
+		}
+	}
+	return rest
 }
 
 // giveUp ends an activation that asks, for an application that wants it no more. It is the first one's of those who ask for it, too.

@@ -199,11 +199,13 @@ func (s *Service) drop(g *grain) {
 func (s *Service) woken(g *grain, answer silo.Answer) {
 	s.mu.Lock()
 	defer s.mu.Unlock()
-	if answer.Refused != "" {
+	switch {
+	case answer.Refused == "":
+		g.activation = answer.Activation
+	case answer.Refused == "801" && g.activation != "": // it moved here just before: who asks for it waits for that one
+	default:
 		s.refused(g, answer.Refused)
-		return
 	}
-	g.activation = answer.Activation
 }
 
 func (s *Service) refused(g *grain, code string) {
@@ -285,9 +287,12 @@ func (s *Service) Said(said silo.Said) {
 			s.ended(g, said.How)
 		}
 	case silo.Started: // by an offer
-		moved := &grain{name: said.Grain, activation: said.Activation, phase: asking, since: s.options.Now()}
-		s.grains[said.Grain] = moved
-		s.give(moved, nil)
+		if g == nil {
+			g = &grain{name: said.Grain, phase: asking, since: s.options.Now()}
+			s.grains[said.Grain] = g
+			s.give(g, nil)
+		} // else it came before the silo read `wake`, which it refuses then
+		g.activation = said.Activation
 	case silo.Found:
 		s.found(said.Grain, "at %s %s", said.Activation, said.Grain)
 	case silo.Nothing:

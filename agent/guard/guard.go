@@ -111,8 +111,8 @@ func (g *Guard) Done() {
 	}
 }
 
-// Run is a guard: it reads lines, and kills by kill those that are watched when the deadline passes by the clock. It returns behind `done`, or
-// when all that is watched was killed.
+// Run is a guard: it reads lines, and kills by kill those that are watched when the deadline passes by the clock. It returns behind `done`, when
+// all that is watched was killed, or where the agent has ended and nothing is watched.
 func Run(in io.Reader, now clock.Clock, kill func(process int, began string)) {
 	lines := make(chan string)
 	go func() {
@@ -133,10 +133,13 @@ func Run(in io.Reader, now clock.Clock, kill func(process int, began string)) {
 			}
 			if !isOpen {
 				lines = nil // the agent has ended, and its deadline stays
-				continue
+			} else {
+				take(line, watched, &until)
 			}
-			take(line, watched, &until)
 		case <-ticks.C:
+		}
+		if lines == nil && len(watched) == 0 {
+			return
 		}
 		if now() >= until {
 			for process, began := range watched {

@@ -22,6 +22,8 @@ func TestRun(t *testing.T) {
 		{"at the deadline", []string{"watch 7 100", "watch 7 101", "until 50", "until 90"}, false, 90, "map[7:101]"},
 		{"the agent is killed", []string{"watch 7 100", "until 90"}, true, 90, "map[7:100]"},
 		{"the agent is killed, and its deadline to come", []string{"watch 7 100", "until 90"}, true, 89, ""},
+		{"the agent is killed as it joins", nil, true, 0, "map[]"},
+		{"the agent is killed, and all have hung up", []string{"watch 7 100", "until 90", "forget 7"}, true, 0, "map[]"},
 		{"one has hung up", []string{"watch 7 100", "watch 8 100", "until 90", "forget 7", "forget 9"}, false, 90, "map[8:100]"},
 		{"done", []string{"watch 7 100", "until 50", "done"}, true, 40, ""},
 		{"nonsense", []string{"watch", "watch x 1", "until x", "", "until 90"}, false, 90, "map[]"},

@@ -144,8 +144,8 @@ func (m *Member) start(token string) error {
 	m.mu.Lock()
 	m.running = m.silo
 	m.mu.Unlock()
+	m.guardUntil(m.fence.Until()) // before there is anything that it may have to end
 	m.watch(m.silo.Process(), applications.Began(m.silo.Process()))
-	m.guardUntil(m.fence.Until())
 	m.run(m.watchProcesses)
 	m.run(m.feed)
 	m.run(m.settle)

@@ -39,7 +39,7 @@ type Config struct {
 var ErrHelp = errors.New("help")
 
 const usage = `grain-directory-agent runs one silo of a grain directory: it starts the silo's process, joins it to the cluster, carries its
-letters, fences it, and serves the applications of this machine over a Unix socket.
+messages, fences it, and serves the applications of this machine over a Unix socket.
 
 usage: grain-directory-agent --endpoint A.B.C.D:PORT --socket PATH [OPTION ..]
 
@@ -84,7 +84,7 @@ func (c *Config) options() options {
 		}}
 	}
 	return options{
-		text("endpoint", &c.Endpoint, "the silo's endpoint, which names it; with --transport=tcp, letters come in there"),
+		text("endpoint", &c.Endpoint, "the silo's endpoint, which names it; with --transport=tcp, messages come in there"),
 		text("socket", &c.Socket, "the Unix socket for applications"),
 		{name: "socket-mode", value: fmt.Sprintf("%#o", c.SocketMode), help: "its file mode: who may write to it is let in", set: func(text string) error {
 			mode, err := strconv.ParseUint(text, 8, 9)

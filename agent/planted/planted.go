@@ -5,7 +5,7 @@
 package planted
 
 // The faults: deadlines never pass; an end takes longer than the margin; a change of membership is written without its conditions; parts of two
-// letters are put together.
+// messages of silos are put together.
 const (
 	NoFence       = false
 	SlowEnd       = false
@@ -15,3 +15,9 @@ const (
 
 // Rate is how fast this machine's clock runs.
 const Rate = 1.0
+
+// InParts has all messages of silos go in parts.
+const InParts = false
+
+// Loses says whether a part is lost.
+func Loses() bool { return false }

@@ -3,6 +3,7 @@
 package planted
 
 import (
+	"math/rand"
 	"os"
 	"strconv"
 )
@@ -16,6 +17,12 @@ var (
 	NoTransaction = planted == "no-transaction"
 	MixedParts    = planted == "mixed-parts"
 )
+
+// InParts has all messages of silos go in parts, of which one in a hundred is lost, by GRAIN_DIRECTORY_IN_PARTS.
+var InParts = os.Getenv("GRAIN_DIRECTORY_IN_PARTS") != ""
+
+// Loses says whether a part is lost.
+func Loses() bool { return InParts && rand.Intn(100) == 0 }
 
 // Rate is how fast this machine's clock runs, by GRAIN_DIRECTORY_CLOCK_RATE.
 var Rate = rate()

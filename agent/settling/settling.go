@@ -2,9 +2,13 @@
 // old one counts no more: a grain that is nudged faster than its letters go round is never done. So each grain is nudged by itself, once no answer
 // has come for a pause of a few round trips; and each pause is twice as long as the one before. What the silo's unsettled ranges want is nudged in
 // the same way, and nothing is undone by that. So what is under way for one never ends by a nudge for another, and nobody nudges all at once.
+//
+// Pauses that were doubled as often are equally long, whatever round trips take by now. So grains wait in lines, one for each number of doublings:
+// in each, who was sent first is late first, and a look at the silo costs what is late, not what waits.
 package settling
 
 import (
+	"container/list"
 	"sync"
 	"time"
 
@@ -20,6 +24,9 @@ const (
 // trips is how many round trips a pause has at least.
 const trips = 4
 
+// mostDoubled is how often a pause is doubled at most: from the shortest one on that makes it the longest.
+const mostDoubled = 9
+
 // Patience is with what one silo waits for.
 type Patience struct {
 	now clock.Clock
@@ -27,14 +34,17 @@ type Patience struct {
 	mu     sync.Mutex
 	trip   time.Duration // a longer one counts at once, so that a backlog isn't taken for a loss; a shorter one by and by
 	grains map[string]*wait
-	ranges *wait // nil: all are settled
+	lines  [mostDoubled + 1]list.List // the waits for grains, by how often their pause was doubled; in each by when they were sent
+	ranges *wait                      // nil: all are settled
 }
 
 // wait is for the answers about a grain, or to what ranges want.
 type wait struct {
+	grain    string
 	requests int           // about the grain
 	sent     clock.Time    // when, for the last time
-	factor   time.Duration // of the pause
+	doubled  int           // how often the pause was
+	place    *list.Element // in its line; nil for the ranges
 }
 
 // New has patience with a silo that waits for nothing yet.
@@ -47,9 +57,9 @@ func (p *Patience) Asked(grain string) {
 	defer p.mu.Unlock()
 	w := p.grains[grain]
 	if w == nil {
-		w = &wait{}
-		w.begin(p.now())
+		w = &wait{grain: grain}
 		p.grains[grain] = w
+		p.begin(w, p.now())
 	}
 	w.requests++
 }
@@ -59,7 +69,7 @@ func (p *Patience) AskedOtherwise(grain string) {
 	p.mu.Lock()
 	defer p.mu.Unlock()
 	if w := p.grains[grain]; w != nil {
-		w.begin(p.now())
+		p.begin(w, p.now())
 	}
 }
 
@@ -73,9 +83,10 @@ func (p *Patience) Answered(grain string) {
 	}
 	now := p.now()
 	if w.requests--; w.requests > 0 {
-		w.begin(now)
+		p.begin(w, now)
 		return
 	}
+	p.lines[w.doubled].Remove(w.place)
 	delete(p.grains, grain)
 	if took := now.Sub(w.sent); took > p.trip {
 		p.trip = took
@@ -89,7 +100,7 @@ func (p *Patience) GotOn() {
 	p.mu.Lock()
 	defer p.mu.Unlock()
 	if p.ranges != nil {
-		p.ranges.begin(p.now())
+		p.begin(p.ranges, p.now())
 	}
 }
 
@@ -103,10 +114,10 @@ func (p *Patience) Anew() {
 func (p *Patience) anew() {
 	now := p.now()
 	for _, w := range p.grains {
-		w.begin(now)
+		p.begin(w, now)
 	}
 	if p.ranges != nil {
-		p.ranges.begin(now)
+		p.begin(p.ranges, now)
 	}
 }
 
@@ -119,16 +130,20 @@ func (p *Patience) Late(areUnsettled bool) (grains []string, ranges bool) {
 	switch {
 	case areUnsettled && p.ranges == nil:
 		p.ranges = &wait{}
-		p.ranges.begin(now)
-	case areUnsettled:
-		ranges = p.ranges.isLate(now, shortest)
-	case p.ranges != nil:
+		p.begin(p.ranges, now)
+	case areUnsettled && p.ranges.isLate(now, shortest):
+		ranges = true
+		p.again(p.ranges, now, shortest)
+	case !areUnsettled && p.ranges != nil:
 		p.ranges = nil
 		p.anew()
 	}
-	for grain, w := range p.grains {
-		if w.isLate(now, shortest) {
-			grains = append(grains, grain)
+	for doubled := range p.lines {
+		line := &p.lines[doubled]
+		for first := line.Front(); first != nil && first.Value.(*wait).isLate(now, shortest); first = line.Front() {
+			w := first.Value.(*wait)
+			grains = append(grains, w.grain)
+			p.again(w, now, shortest)
 		}
 	}
 	return grains, ranges
@@ -155,19 +170,35 @@ func (p *Patience) shortest() time.Duration {
 	}
 }
 
-func (w *wait) begin(now clock.Time) { w.sent, w.factor = now, 1 }
+// begin begins the shortest pause of what was sent now; again begins the next one.
+func (p *Patience) begin(w *wait, now clock.Time) { p.sent(w, now, 0) }
 
-// isLate says whether a pause is over, and begins the next one.
+func (p *Patience) again(w *wait, now clock.Time, shortest time.Duration) {
+	doubled := w.doubled
+	if w.pause(shortest) < Longest {
+		doubled++
+	}
+	p.sent(w, now, doubled)
+}
+
+// sent puts what was sent now last in the line of its pause: nothing there was sent later.
+func (p *Patience) sent(w *wait, now clock.Time, doubled int) {
+	if w.place != nil {
+		p.lines[w.doubled].Remove(w.place)
+	}
+	w.sent, w.doubled = now, doubled
+	if w != p.ranges {
+		w.place = p.lines[doubled].PushBack(w)
+	}
+}
+
+func (w *wait) pause(shortest time.Duration) time.Duration {
+	if pause := shortest << w.doubled; pause < Longest {
+		return pause
+	}
+	return Longest
+}
+
 func (w *wait) isLate(now clock.Time, shortest time.Duration) bool {
-	pause := w.factor * shortest
-	if pause > Longest {
-		pause = Longest
-	}
-	if now.Sub(w.sent) < pause {
-		return false
-	}
-	if w.sent = now; pause < Longest {
-		w.factor *= 2
-	}
-	return true
+	return now.Sub(w.sent) >= w.pause(shortest)
 }

@@ -2,7 +2,9 @@ package settling
 
 import (
 	"fmt"
+	"math/rand"
 	"reflect"
+	"sort"
 	"testing"
 	"time"
 
@@ -160,4 +162,128 @@ func TestLook(t *testing.T) {
 	p.Answered("user/ann")
 	p.Asked("user/ann")
 	looks(50 * time.Millisecond)
+}
+
+// walk is the same patience with grains, by a walk over all that wait at each look.
+type walk struct {
+	trip   time.Duration
+	grains map[string]*walked
+}
+
+type walked struct {
+	requests int
+	sent     clock.Time
+	pauses   time.Duration // the first one is 1 of the shortest
+}
+
+func (k *walk) shortest() time.Duration {
+	switch {
+	case 4*k.trip < 50*time.Millisecond:
+		return 50 * time.Millisecond
+	case 4*k.trip > 2*time.Second:
+		return 2 * time.Second
+	}
+	return 4 * k.trip
+}
+
+func (k *walk) asked(grain string, now clock.Time) {
+	if k.grains[grain] == nil {
+		k.grains[grain] = &walked{sent: now, pauses: 1}
+	}
+	k.grains[grain].requests++
+}
+
+func (k *walk) answered(grain string, now clock.Time) {
+	w := k.grains[grain]
+	if w == nil {
+		return
+	}
+	if w.requests--; w.requests > 0 {
+		w.sent, w.pauses = now, 1
+		return
+	}
+	delete(k.grains, grain)
+	if took := now.Sub(w.sent); took > k.trip {
+		k.trip = took
+	} else {
+		k.trip -= (k.trip - took) / 8
+	}
+}
+
+func (k *walk) late(now clock.Time) (late []string) {
+	for grain, w := range k.grains {
+		pause := w.pauses * k.shortest()
+		if pause > 16*time.Second {
+			pause = 16 * time.Second
+		}
+		if now.Sub(w.sent) < pause {
+			continue
+		}
+		late = append(late, grain)
+		if w.sent = now; pause < 16*time.Second {
+			w.pauses *= 2
+		}
+	}
+	sort.Strings(late)
+	return late
+}
+
+// Whatever happens, each look tells what a walk over all that wait would tell.
+func TestLooksTellAll(t *testing.T) {
+	for seed := int64(1); seed <= 20; seed++ {
+		random := rand.New(rand.NewSource(seed))
+		p, k := newTrial(), &walk{grains: map[string]*walked{}}
+		mostlyAnswers := random.Intn(8)
+		for look := 0; look < 3000; look++ {
+			p.at += clock.Time(time.Duration(random.Intn(100)) * time.Millisecond)
+			for i := random.Intn(4); i > 0; i-- {
+				grain := fmt.Sprintf("user/%d", random.Intn(30))
+				switch what := random.Intn(10); {
+				case what < 4:
+					p.Asked(grain)
+					k.asked(grain, p.at)
+				case what == 8:
+					p.AskedOtherwise(grain)
+					if w := k.grains[grain]; w != nil {
+						w.sent, w.pauses = p.at, 1
+					}
+				case what == 9 && random.Intn(30) == 0:
+					p.Anew()
+					for _, w := range k.grains {
+						w.sent, w.pauses = p.at, 1
+					}
+				case random.Intn(8) <= mostlyAnswers:
+					p.Answered(grain)
+					k.answered(grain, p.at)
+				}
+			}
+			late, _ := p.Late(false)
+			sort.Strings(late)
+			if expected := k.late(p.at); !reflect.DeepEqual(late, expected) {
+				t.Fatalf("seed %d, at %v: nudged are %v, not %v", seed, time.Duration(p.at), late, expected)
+			}
+		}
+	}
+}
+
+// A look costs what is late: however many wait, ten thousand looks at which none is late take no time to speak of.
+func TestLooksAtMany(t *testing.T) {
+	p := newTrial()
+	for i := 0; i < 100000; i++ {
+		p.Asked(fmt.Sprintf("user/%d", i))
+	}
+	p.at = clock.Time(Shortest - 1)
+	began := time.Now()
+	for i := 0; i < 10000; i++ {
+		if late, _ := p.Late(false); len(late) > 0 {
+			t.Fatalf("%d are late", len(late))
+		}
+	}
+	if took := time.Since(began); took > 2*time.Second { // by walks over all it is a billion steps
+		t.Errorf("they took %v", took)
+	}
+	p.at++
+	if late, _ := p.Late(false); len(late) != 100000 {
+		t.Errorf("%d are late", len(late))
+	}
 }

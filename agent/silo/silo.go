@@ -112,6 +112,7 @@ type Silo struct {
 	ended    chan struct{}
 	wrote    int64 // atomic: when it wrote its last line, by clock.Boot
 	counts   Counts
+	altered  sync.Once // says that a letter couldn't be read
 	patience *settling.Patience
 
 	mu      sync.Mutex
@@ -379,6 +380,12 @@ func (s *Silo) said(words []string) {
 	}
 	if words[0] == "fault" || words[0] == "refused" {
 		atomic.AddInt64(&s.counts.Faults, 1)
+	}
+	if words[0] == "fault" {
+		s.altered.Do(func() {
+			log.Printf("warning: the silo can't read a message that came (%s): something alters them on their way, or sends others",
+				short(strings.Join(words, " ")))
+		})
 	}
 	s.listener.Said(said)
 }

@@ -2,8 +2,10 @@ package silo
 
 import (
 	"bufio"
+	"bytes"
 	"fmt"
 	"io"
+	"log"
 	"os"
 	"reflect"
 	"strings"
@@ -323,6 +325,26 @@ func TestLettersToOthers(t *testing.T) {
 	f.expects("status")
 	if counts := s.Counts(); counts.LettersIn != 0 || counts.Faults != 5 {
 		t.Errorf("%+v", counts)
+	}
+}
+
+// That the silo can't read a letter is logged once; that it refuses one isn't.
+func TestUnreadLetters(t *testing.T) {
+	var text bytes.Buffer
+	log.SetOutput(&text)
+	defer log.SetOutput(os.Stderr)
+	h := newHeard()
+	f, s := newFake(t, h)
+	line := "letter 10.0.0.2:1000@1 " + string(me) + " 1 nothing one"
+	for _, said := range []string{"refused 901", "fault 923", "fault 927"} {
+		s.Receive([]byte(line))
+		f.expects(line)
+		f.writes(said)
+		words := strings.Fields(said)
+		h.expects(t, fmt.Sprintf("%+v", Said{Kind: words[0], Effect: words[1]}))
+	}
+	if said := text.String(); strings.Count(said, "can't read a message") != 1 || !strings.Contains(said, "(fault 923)") || s.Counts().Faults != 3 {
+		t.Errorf("%d faults, logged is %q", s.Counts().Faults, said)
 	}
 }
 

@@ -12,6 +12,7 @@ import (
 	"sync/atomic"
 
 	"agent/directory"
+	"agent/planted"
 )
 
 // Bounds of what waits to be carried.
@@ -99,7 +100,7 @@ func (p *Post) Carry(carrier Carrier) {
 			case m := <-p.outbox:
 				atomic.AddInt64(&p.bytes, -int64(len(m.data)))
 				size := int64(len(m.data))
-				if !p.may() || carrier.Publish(m.to, m.data) != nil {
+				if !p.may() || planted.Loses() || carrier.Publish(m.to, m.data) != nil {
 					atomic.AddInt64(&p.counts.MessagesLost, 1)
 				} else {
 					atomic.AddInt64(&p.counts.BytesSent, size)
@@ -130,6 +131,9 @@ func (p *Post) Counts() Counts {
 }
 
 func (p *Post) most() int {
+	if planted.InParts {
+		return headRoom + 32
+	}
 	if most := p.carrier.Most(); most < longestMessage {
 		return most
 	}
@@ -141,7 +145,7 @@ func (p *Post) Letter(to directory.Silo, kind string, line []byte) {
 	atomic.AddInt64(&p.counts.Sent, 1)
 	p.listener.Asked(to, kind)
 	most := p.most()
-	if len(line)+1 > most {
+	if len(line)+1 > most || planted.InParts {
 		p.number++
 		atomic.AddInt64(&p.counts.Cut, 1)
 		for _, part := range cut(p.me, p.number, line, most) {

@@ -93,6 +93,14 @@ class Processes:
                 if name not in but:
                     self.start(name)
 
+    def unread(self):
+        """What agents say of messages that their silo couldn't read."""
+        said = []
+        for name in self.agents:
+            with open(self.folder / f"{name}.log", encoding="utf-8", errors="replace") as log:
+                said += [f"{name} says: {line.strip()}" for line in log if "can't read a message" in line]
+        return said
+
     def leader(self):
         """The etcd that leads, or None."""
         for name in ETCDS:

@@ -2,8 +2,10 @@
 %%   asking      the agent was asked for it
 %%   expecting   another node hands it over
 %%   firm        it is registered: it stands in the table grain_names, and others have heard of it
-%%   closing     it was given up; who wants it meanwhile waits in `next`
+%%   closing     it was given up, also before it was granted; who wants it meanwhile waits in `next`
 %% A name leaves the table before its end is asked for, and comes into it behind its grant: in between, it is nobody's.
+%% Questions go to the agent in the order in which they are asked. It answers `activate` before the `deactivate` behind that: so once this is answered
+%% nothing is under way for a name.
 -module(grain_names).
 -behaviour(gen_server).
 -export([start_link/0, register/2, unregister/2, hand_over/3]).
@@ -70,6 +72,7 @@ handle_cast({cancel, Key, Pid}, S = #state{held = Held}) ->
     Grain = grain_term:grain(Key),
     case Held of
         #{Grain := #held{pid = Pid, monitor = Monitor}} -> {noreply, sent(unwatch(Monitor, down(Monitor, Grain, S)))};
+        #{Grain := H = #held{next = Next}} -> {noreply, S#state{held = Held#{Grain := H#held{next = [One || One = {_, Who, _} <- Next, Who =/= Pid]}}}};
         _ -> {noreply, S}
     end.
 
@@ -107,6 +110,7 @@ line([Tag | Answer], S = #state{questions = Q, held = Held}) ->
         _ -> S#state{questions = Q1}
     end.
 
+said(activate, _, _, #held{phase = closing}, S) -> S; % it was given up meanwhile
 said(activate, [<<"firm">>, _, _, <<"token">>, Token], Grain, H, S) -> firm(Grain, binary_to_integer(Token), H, S);
 said(activate, [<<"taken">> | _], Grain, H, S) -> dropped(Grain, no, H, S);
 said(activate, [<<"refused">>, Code | _], Grain, H, S) -> dropped(Grain, {refused, Code}, H, S);
@@ -114,7 +118,7 @@ said(expect, [<<"ok">>], Grain, #held{phase = expecting, home = {Home, _}}, S) -
 said(expect, _, Grain, H = #held{phase = expecting, home = {Home, _}}, S) -> tell(Home, {ready, Grain, none}), dropped(Grain, no, H, S);
 said(Verb, [<<"ended">> | _], Grain, H, S) when Verb =:= deactivate; Verb =:= migrate -> ended(Grain, H, S);
 said(deactivate, [<<"refused">>, <<"busy">> | _], Grain, _, S) -> erlang:send_after(?PAUSE, self(), {again, Grain}), S;
-said(deactivate, [<<"refused">>, Code | _], Grain, H, S) when Code =:= <<"802">>; Code =:= <<"lost">> -> ended(Grain, H, S);
+said(deactivate, [<<"refused">>, Code | _], Grain, H, S) when Code =:= <<"802">>; Code =:= <<"803">>; Code =:= <<"lost">> -> ended(Grain, H, S);
 said(deactivate, Answer, Grain, _, _) -> exit({deactivate, Grain, Answer});
 said(migrate, [<<"refused">> | _], Grain, _, S) -> urge(deactivate, Grain, S); % whom it goes to asks for it
 said(_, _, _, _, S) -> S.
@@ -144,8 +148,7 @@ unwatch(Monitor, S = #state{monitors = Monitors}) ->
     Monitor =:= none orelse demonitor(Monitor, [flush]),
     S#state{monitors = maps:remove(Monitor, Monitors)}.
 
-%% Granted: to the process, if that hasn't ended.
-firm(Grain, _, H = #held{pid = none}, S) -> close(Grain, H, S);
+%% Granted.
 firm(Grain, Token, H = #held{key = Key, pid = Pid, from = From}, S = #state{held = Held}) ->
     ets:insert(grain_names, {Key, Pid, Token}),
     grain_hints:add(Key, Pid),
@@ -168,7 +171,7 @@ dropped(Grain, Why, H = #held{from = From, monitor = Monitor}, S = #state{held =
 down(Monitor, Grain, S = #state{held = Held}) ->
     case Held of
         #{Grain := H = #held{phase = firm, monitor = Monitor}} -> close(Grain, H#held{monitor = none}, S);
-        #{Grain := H = #held{phase = asking, monitor = Monitor}} -> S#state{held = Held#{Grain := H#held{pid = none, monitor = none, from = none}}};
+        #{Grain := H = #held{phase = asking, monitor = Monitor, from = From}} -> reply(From, no), close(Grain, H#held{monitor = none}, S);
         #{Grain := H = #held{phase = expecting, monitor = Monitor, home = {Home, _}}} ->
             tell(Home, {ready, Grain, none}),
             dropped(Grain, no, H#held{monitor = none}, urge(unexpect, Grain, S));

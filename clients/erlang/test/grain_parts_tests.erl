@@ -31,6 +31,59 @@ questions_test() ->
     {five, _} = grain_questions:answered(<<"x3">>, grain_questions:sent(Q8)),
     ?assertEqual({ok, <<"x3 e\n">>}, gen_tcp:recv(Other, 5, 1000)).
 
+%% Who asks for a name may end before the answer. Then the name is given up, behind its `activate`, also where that hasn't gone out yet; and whatever
+%% the agent answers, who wants the name next has it then.
+given_up_test_() ->
+    {timeout, 20, fun() ->
+        process_flag(trap_exit, true),
+        application:load(grain_registry),
+        Servers = [begin {ok, Pid} = Module:start_link(), Pid end || Module <- [grain_fence, grain_hints, grain_members, grain_names]],
+        {Own, Agent} = pair(),
+        Connect = fun() -> gen_server:cast(grain_names, {connected, Own}) end,
+        lists:foldl(fun(Steps, N) -> given_up(Agent, Connect, Steps, N) end, 0, [
+            [{says, 0, "refused given .."}, {says, 1, "ended GRAIN absent"}],
+            [{says, 0, "firm S!1 GRAIN token 7"}, {says, 1, "ended GRAIN removed"}],
+            [{says, 0, "taken T!1 GRAIN"}, {says, 1, "refused 802 .."}],
+            [{says, 0, "taken S!1 GRAIN"}, {says, 1, "refused 803 .."}], % another node has it, at the same agent
+            [{says, 0, "refused 806 .."}, {says, 1, "refused 802 .."}],
+            [{says, 1, "refused busy .."}, {hears, 2, "deactivate"}, {says, 0, "refused given .."}, {says, 2, "ended GRAIN absent"}],
+            [{says, 1, "refused busy .."}, {says, 0, "firm S!1 GRAIN token 7"}, {hears, 2, "deactivate"}, {says, 2, "ended GRAIN removed"}]]),
+        [begin unlink(Pid), gen_server:stop(Pid) end || Pid <- lists:reverse(Servers)]
+    end}.
+
+given_up(Agent, Connect, Steps, N) ->
+    Key = grain_term:key({name, N}),
+    Step = fun({says, K, Text}) -> says(N + K, Text, Key); ({hears, K, Verb}) -> hears(Agent, N + K, Verb, Key) end,
+    [First, Second, Third] = [spawn(fun() -> timer:sleep(infinity) end) || _ <- [1, 2, 3]],
+    One = gen_server:send_request(grain_names, {register, Key, First}),
+    exit(First, kill),
+    ?assertEqual({reply, no}, gen_server:wait_response(One, 2000)),
+    Connect(),
+    [Step({hears, K, Verb}) || {K, Verb} <- [{0, "activate"}, {1, "deactivate"}]],
+    gen_server:send_request(grain_names, {register, Key, Third}),
+    Other = gen_server:send_request(grain_names, {register, Key, Second}),
+    gen_server:cast(grain_names, {cancel, Key, Third}), % whoever waited for that does so no more
+    [Step(S) || S <- Steps],
+    ?assertEqual([], ets:lookup(grain_names, Key)),
+    Next = 2 + length([K || {hears, K, _} <- Steps]),
+    Step({hears, Next, "activate"}),
+    Step({says, Next, "firm S!2 GRAIN token 9"}),
+    ?assertEqual({reply, yes}, gen_server:wait_response(Other, 2000)),
+    ?assertEqual([{Key, Second, 9}], ets:lookup(grain_names, Key)),
+    exit(Second, kill),
+    Step({hears, Next + 1, "deactivate"}),
+    ?assertEqual([], ets:lookup(grain_names, Key)),
+    Step({says, Next + 1, "ended GRAIN removed"}),
+    N + Next + 2.
+
+says(Tag, Text, Key) ->
+    Line = lists:concat(["n", Tag, " ", lists:append(string:replace(Text, "GRAIN", binary_to_list(grain_term:grain(Key))))]),
+    ok = gen_server:call(grain_names, {lines, [binary:split(list_to_binary(Line), <<" ">>, [global])]}).
+
+hears(Agent, Tag, Verb, Key) ->
+    Line = list_to_binary(lists:concat(["n", Tag, " ", Verb, " ", binary_to_list(grain_term:grain(Key)), "\n"])),
+    ?assertEqual({ok, Line}, gen_tcp:recv(Agent, byte_size(Line), 2000)).
+
 pair() ->
     {ok, Listener} = gen_tcp:listen(0, [binary, {active, false}, {ip, {127, 0, 0, 1}}]),
     {ok, Port} = inet:port(Listener),

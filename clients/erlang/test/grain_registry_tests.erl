@@ -10,7 +10,7 @@ all_test_() ->
 
 tests() ->
     case string:lexemes(os:getenv("ONLY", ""), " ") of
-        [] -> [names, race, exits, unregister, once, hints, full, two_at_one, killed, vm_killed, joins, hand_over, leaves, agent_leaves, cut_off, cut_from_nodes,
+        [] -> [names, race, exits, unregister, once, gives_up, hints, full, two_at_one, killed, vm_killed, joins, hand_over, leaves, agent_leaves, cut_off, cut_from_nodes,
                one_link, silo_killed, etcd_away, frozen, actors];
         Names -> [list_to_atom(Name) || Name <- Names]
     end.
@@ -85,6 +85,21 @@ test(once, [A, B, C]) ->
          timer:sleep(1000),
          ?assertEqual(Holder, on(C, grain_finder, where, [grain_term:key({x, What})]))
      end || {What, More} <- [{unregister_name, []}, {hand_over, [New]}]];
+
+%% Processes ask for names and end before they are answered: others that ask at the same node meanwhile have them then.
+test(gives_up, [A = #{agent := Agent}, B, C]) ->
+    Ask = fun(K) -> on(A, fun() -> spawn(fun() -> yes = grain_registry:register_name({x, K}, self()), timer:sleep(infinity) end) end) end,
+    Kill = fun(Pids) -> on(A, fun() -> [exit(Pid, kill) || Pid <- Pids] end), timer:sleep(100) end,
+    Names = lists:seq(1, 50),
+    os:cmd("kill -STOP " ++ integer_to_list(Agent)), % so that nothing is answered
+    Kill([Ask(K) || K <- Names]),
+    Second = [Ask(K) || K <- Names],
+    timer:sleep(100),
+    os:cmd("kill -CONT " ++ integer_to_list(Agent)),
+    until(fun() -> [where(B, {x, K}) || K <- Names] =:= Second end, 10000),
+    Kill([Ask({y, K}) || K <- Names]), % as soon as that may be
+    Kill(Second),
+    [until(fun() -> element(1, start(C, {x, K})) =:= ok end, 5000) || K <- Names ++ [{y, K} || K <- Names]];
 
 %% Each node hears which names the others have, and which they haven't any more; a node that comes hears all.
 test(hints, Nodes = [A, B, C]) ->
