@@ -226,16 +226,16 @@ module _ (key : HashedGrain) (es : Hashed) (sorted : IsStrictlySortedBy hashed_c
   all_behind e (f ∷ es) below all = (hashed_cmp_total.trans key e.0 f.0 below all.0, all_behind e es below all.1)
 
   behind : (es : Hashed) → IsStrictlySortedBy hashed_cmp (keys_of es) → AllByRecursion (λ e. is_before key e ≡ false) es → is_first key es ≡ false → AllBehind key es
-  behind [] sorted not no = tt
-  behind (e ∷ es) sorted not no =
-      let below = less (hashed_cmp key e.0) not.0 no in (below, all_behind e es below (sorted_head hashed_cmp e.0 (keys_of es) sorted))
+  behind [] sorted not none = tt
+  behind (e ∷ es) sorted not none =
+      let below = less (hashed_cmp key e.0) not.0 none in (below, all_behind e es below (sorted_head hashed_cmp e.0 (keys_of es) sorted))
 
   whole : es ≡ take index es ++ drop index es
   whole = sym (take-append-drop index es)
 
-  module _ (no : is_first key (drop index es) ≡ false) where
+  module _ (none : is_first key (drop index es) ≡ false) where
     past : AllBehind key (drop index es)
-    past = behind (drop index es) (sorted_drop index es sorted) back no
+    past = behind (drop index es) (sorted_drop index es sorted) back none
 
     pub none_found : lookup (is_at (hashed_cmp key)) es ≡ None
     none_found = ap (lookup (is_at (hashed_cmp key))) whole ∙ lookup_past key (take index es) (drop index es) front ∙ lookup_none key (drop index es) past

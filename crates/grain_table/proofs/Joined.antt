@@ -1,6 +1,7 @@
 -- The entries of buckets, one behind another.
-use Rattle.std.proofs.Common.{arith, ◌≡◌, refl, sym, ap, ◌∙◌, ℕ, zero, suc, ◌+◌, ◌<◌, ◌≤◌, List, [], ◌∷◌, ◌++◌, length, take, drop, set, map, get_or}
-use Rattle.std.proofs.lemmas.List.{append-nil, append_assoc, length-append}
+use Rattle.std.proofs.Common.{add-one, arith, ◌≡◌, refl, sym, ap, ◌∙◌, ℕ, zero, suc, ◌+◌, ◌<◌, ◌≤◌, List, [], ◌∷◌, ◌++◌, length, take, drop, set, map, get_or}
+use Rattle.std.proofs.lemmas.List.{append-nil, append_assoc, length-append, length-map, take-append-drop}
+use Rattle.std.proofs.lemmas.List.Edits.{map_over_more}
 use Rattle.std.proofs.lemmas.List.Elements.{filter-append}
 use Rattle.std.specs.Prelude.{Bool, true, false, cond, filter}
 use Rattle.silo_address.specs.declared.ActivationId.{ActivationId}
@@ -58,6 +59,18 @@ length_joined_take (b ∷ buckets) (suc index) =
     let rest = length_joined_take buckets index in
     let one = length-append b (joined (take index buckets)) in let other = length-append b (joined buckets) in omega (arith, one, other, rest)
 
+-- a walk's next step
+pub counted_more : (buckets : List Hashed) (index : ℕ) (bucket : Hashed) → index < length buckets → bucket ≡ get_or buckets index bucket
+    → (count more : ℕ) → count ≡ length (joined (take index buckets)) → more ≡ length bucket
+    → (count + more ≡ length (joined (take (index + 1) buckets))) × (count + more ≤ length (joined buckets))
+counted_more buckets index bucket lt is count more so_far own =
+    let step = length_joined_more buckets index bucket lt in
+    let part = length_joined_take buckets (suc index) in
+    let same = ap length is in
+    let next : length (joined (take (index + 1) buckets)) ≡ length (joined (take (suc index) buckets)) =
+    ap (λ n. length (joined (take n buckets))) (add-one index) in
+    (omega (arith, step, so_far, own, same, next), omega (arith, step, part, so_far, own, same))
+
 -- by how many there are fewer where the last one that stays keeps some of its own
 pub fewer_behind : (buckets : List Hashed) (index : ℕ) (kept d : Hashed) → index < length buckets → (fewer more : ℕ)
     → length kept + fewer ≡ length (get_or buckets index d) → more ≡ length (joined (drop (suc index) buckets))
@@ -92,3 +105,14 @@ length_filtered p (e ∷ es) = by (p e) (length_filtered p es)
     by : (b : Bool) → length (filter p es) ≤ length es → length (cond b (e ∷ filter p es) (filter p es)) ≤ length (e ∷ es)
     by true rest = omega arith
     by false rest = omega arith
+
+-- ---- A walk that changes each bucket.
+walked : {X : Type 0} (f : X → X) (xs : List X) (i : ℕ) → length (map f (take i xs) ++ drop i xs) ≡ length xs
+walked f xs i =
+    length-append (map f (take i xs)) (drop i xs) ∙ ap (λ n. n + length (drop i xs)) (length-map (take i xs) f)
+    ∙ sym (length-append (take i xs) (drop i xs)) ∙ ap length (take-append-drop i xs)
+
+pub map_next : {X : Type 0} (f : X → X) (xs ys : List X) (i : ℕ) (x y : X) → i < length ys → ys ≡ map f (take i xs) ++ drop i xs
+    → x ≡ get_or ys i x → y ≡ f x → set ys i y ≡ map f (take (i + 1) xs) ++ drop (i + 1) xs
+map_next f xs ys i x y lt so_far is made =
+    ap (set ys i) made ∙ map_over_more f xs ys i x (let same = ap length so_far ∙ walked f xs i in omega (arith, same)) so_far is

@@ -68,8 +68,8 @@ module _ (es searched : Hashed) (searches : searched ≡ es) (hash index : ℕ)
   pub take_lower : take index es ≡ filter (λ e. nat_lt e.0.hash hash) es
   take_lower = kept_before es index hash lower upper
 
-  pub cut_there : (old front back : Hashed) → es ≡ old → front ≡ take index es → back ≡ drop index es → IsCutAt hash old front back
-  cut_there old front back is fronts backs = record {
+  pub cut_there : (old one other : Hashed) → es ≡ old → one ≡ take index es → other ≡ drop index es → IsCutAt hash old one other
+  cut_there old one other is fronts backs = record {
     whole = (λ i. fronts i ++ backs i) ∙ take-append-drop index es ∙ is;
     lower = subst (AreBelow hash) (sym fronts) lower;
     upper = subst (AreFrom hash) (sym backs) upper;

@@ -1,16 +1,16 @@
 -- Buckets stay cut where one of them changes, is cut in two or comes behind the others, and where some entries or buckets go.
 use Rattle.std.proofs.Common.{arith, ◌≡◌, sym, ap, ◌∙◌, subst, ℕ, zero, suc, ◌<◌, ◌≤◌, List, [], ◌∷◌, ◌++◌, length, take, drop, set, map, get_or}
-use Rattle.std.proofs.lemmas.List.{append-nil, append_assoc, length-append, length-map, length-set, length-take, take-append-drop}
+use Rattle.std.proofs.lemmas.List.{append-nil, append_assoc, get_or_default, length-append, length-map, length-set, length-take, take-append-drop}
 use Rattle.std.specs.List.{AllByRecursion, insert}
 use Rattle.std.specs.Prelude.{Bool, filter}
 use Rattle.silo_address.specs.declared.ActivationId.{ActivationId}
 use Rattle.grain_table.specs.declared.hashed_grain.HashedGrain.{HashedGrain}
-use Rattle.grain_table.specs.Buckets.{AreCut, IsAmid, IsCutAt, joined}
+use Rattle.grain_table.specs.Buckets.{AreBuckets, AreCut, IsAmid, IsCutAt, joined}
 use Rattle.grain_table.specs.Hashed.{Hashed}
 use Rattle.grain_table.proofs.Cuts.{AreBelow, AreFrom, Passes, Reaches}
 use Rattle.grain_table.proofs.Filters.{all_passed}
 use Rattle.grain_table.proofs.InOrder.{all_append, all_back, all_front, all_so}
-use Rattle.grain_table.proofs.Joined.{joined_append, joined_at, joined_filtered, joined_set}
+use Rattle.grain_table.proofs.Joined.{joined_append, joined_at, joined_filtered, joined_set, length_filtered}
 
 -- ---- A bucket changes.
 module _ (hash : ℕ) (new : Hashed) where
@@ -71,8 +71,8 @@ module _ (hash : ℕ) (lower upper : Hashed) where
   cut_two (c ∷ cuts) [] cut index d lt le amid two = absurd cut
   cut_two (c ∷ cuts) (b ∷ buckets) cut zero d lt le amid two = (
     two.lower,
-    (up, all_so (λ n. c ≤ n) (λ n. hash ≤ n) (λ n over. omega arith) cuts cut.1),
-    all_append (λ e. hash ≤ e.0.hash) upper (joined buckets) two.upper (all_so (λ e. c ≤ e.0.hash) (λ e. hash ≤ e.0.hash) (λ e over. omega arith) (joined buckets) cut.2),
+    (up, all_so (λ n. c ≤ n) (λ n. hash ≤ n) (λ n over. omega (arith, up)) cuts cut.1),
+    all_append (λ e. hash ≤ e.0.hash) upper (joined buckets) two.upper (all_so (λ e. c ≤ e.0.hash) (λ e. hash ≤ e.0.hash) (λ e over. omega (arith, up)) (joined buckets) cut.2),
     (all_back (λ e. e.0.hash < c) lower upper (subst (AreBelow c) (sym two.whole) cut.0), cut.1, cut.2, cut.3),
   )
     where
@@ -96,13 +96,20 @@ module _ (hash : ℕ) (lower upper : Hashed) where
           all_append (λ n. c ≤ n) (take index cuts) (hash ∷ drop index cuts) (all_front (λ n. c ≤ n) (take index cuts) (drop index cuts) parts)
           (low, all_back (λ n. c ≤ n) (take index cuts) (drop index cuts) parts)
 
-  module _ (cuts : List ℕ) (buckets : List Hashed) (cut : AreCut cuts buckets) (index next : ℕ) (follows : next ≡ suc index) (d : Hashed) (within : index < length buckets)
-      (two : IsCutAt hash (get_or buckets index d) lower upper) where
-    pub joined_both : joined (insert (set buckets index lower) next upper) ≡ joined buckets
-    joined_both = ap (λ n. joined (insert (set buckets index lower) n upper)) follows ∙ joined_two buckets index d within two.whole
+  -- as the one that was looked at and the one that was cut tell
+  module _ (cuts : List ℕ) (buckets : List Hashed) (cut : AreCut cuts buckets) (index next : ℕ) (follows : next ≡ suc index)
+      (within : index < length buckets) (old : Hashed) (is : old ≡ get_or buckets index old) (two : IsCutAt hash old lower upper) where
+    there : IsCutAt hash (get_or buckets index old) lower upper
+    there = subst (λ b. IsCutAt hash b lower upper) is two
 
-    pub cut_both : index ≤ length cuts → IsAmid hash (get_or buckets index d) → AreCut (insert cuts index hash) (insert (set buckets index lower) next upper)
-    cut_both le amid = subst (λ n. AreCut (insert cuts index hash) (insert (set buckets index lower) n upper)) (sym follows) (cut_two cuts buckets cut index d within le amid two)
+    pub joined_both : joined (insert (set buckets index lower) next upper) ≡ joined buckets
+    joined_both = ap (λ n. joined (insert (set buckets index lower) n upper)) follows ∙ joined_two buckets index old within there.whole
+
+    pub cut_both : index ≤ length cuts → (seen : Hashed) → seen ≡ get_or buckets index seen → IsAmid hash seen
+        → AreCut (insert cuts index hash) (insert (set buckets index lower) next upper)
+    cut_both le seen sees amid =
+        subst (λ n. AreCut (insert cuts index hash) (insert (set buckets index lower) n upper)) (sym follows)
+        (cut_two cuts buckets cut index old within le (subst (IsAmid hash) (sees ∙ get_or_default buckets index seen old within) amid) there)
 
 -- ---- Some entries go.
 pub cut_filtered : (p : HashedGrain × ActivationId → Bool) (cuts : List ℕ) (buckets : List Hashed) → AreCut cuts buckets → AreCut cuts (map (filter p) buckets)
@@ -114,6 +121,22 @@ cut_filtered p (c ∷ cuts) (b ∷ buckets) cut = (
   subst (AreFrom c) (sym (joined_filtered p buckets)) (all_passed p (λ e. c ≤ e.0.hash) (joined buckets) cut.2),
   cut_filtered p cuts buckets cut.3,
 )
+
+module _ (p : HashedGrain × ActivationId → Bool) (cuts : List ℕ) (buckets new : List Hashed) (len : ℕ) (are : AreBuckets cuts buckets len)
+    (kept : new ≡ map (filter p) buckets) where
+  pub kept_entries : joined new ≡ filter p (joined buckets)
+  kept_entries = ap joined kept ∙ joined_filtered p buckets
+
+  pub kept_most : (seen : List Hashed) → seen ≡ new → length (joined seen) ≤ len
+  kept_most seen sees =
+      let same : length (joined seen) ≡ length (filter p (joined buckets)) = ap (λ l. length (joined l)) sees ∙ ap length kept_entries in
+      let fewer = length_filtered p (joined buckets) in omega (arith, same, fewer, are.counted)
+
+  pub kept_are : (seen : List Hashed) → seen ≡ new → (count : ℕ) → count ≡ length (joined seen) → AreBuckets cuts new count
+  kept_are seen sees count counted = record {
+    cut = subst (AreCut cuts) (sym kept) (cut_filtered p cuts buckets are.cut);
+    counted = counted ∙ ap (λ l. length (joined l)) sees;
+  }
 
 -- ---- The first cuts with their buckets.
 all_taken : {X : Type 0} (P : X → Type 0) (xs : List X) (n : ℕ) → AllByRecursion P xs → AllByRecursion P (take n xs)

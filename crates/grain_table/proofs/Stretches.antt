@@ -1,7 +1,7 @@
 -- What stands before a hash, or between two, stands in some buckets.
-use Rattle.std.proofs.Common.{arith, ◌≡◌, refl, sym, ap, ◌∙◌, subst, ℕ, zero, suc, ◌+◌, ◌<◌, ◌≤◌, List, [], ◌∷◌, ◌++◌, length, take, drop, set, get_or}
+use Rattle.std.proofs.Common.{add-one, arith, ◌≡◌, refl, sym, ap, ◌∙◌, subst, ℕ, zero, suc, ◌+◌, ◌<◌, ◌≤◌, List, [], ◌∷◌, ◌++◌, length, take, drop, set, get_or}
 use Rattle.std.proofs.lemmas.Bool.Decides.{nat_tests}
-use Rattle.std.proofs.lemmas.List.{append-nil, drop-drop, take-append-drop, take_all}
+use Rattle.std.proofs.lemmas.List.{append-nil, drop-drop, get_or-take, length-take, take-append-drop, take_all}
 use Rattle.std.proofs.lemmas.List.Elements.{filter-append}
 use Rattle.std.specs.List.{AllByRecursion}
 use Rattle.std.specs.Prelude.{Bool, true, false, cond, filter, nat_lt}
@@ -11,8 +11,10 @@ use Rattle.grain_table.specs.Buckets.{AreCut, joined}
 use Rattle.grain_table.specs.Hashed.{Hashed}
 use Rattle.grain_table.specs.Stretch.{is_between}
 use Rattle.grain_table.proofs.Cuts.{AreBelow, AreFrom, Passes, Reaches, back_from, front_below}
+use Rattle.grain_table.proofs.Filters.{all_passed}
 use Rattle.grain_table.proofs.InOrder.{all_so}
-use Rattle.grain_table.proofs.Joined.{joined_append, joined_at, set_last}
+use Rattle.grain_table.proofs.Joined.{fewer_behind, joined_append, joined_at, set_last}
+use Rattle.grain_table.proofs.StillCut.{cut_set, cut_taken, passes_taken, reaches_taken}
 
 -- ---- What passes of all, and of none.
 module _ (p : HashedGrain × ActivationId → Bool) where
@@ -54,6 +56,41 @@ module _ (cuts : List ℕ) (buckets : List Hashed) (cut : AreCut cuts buckets) (
       (sym (filter-append (λ e. nat_lt e.0.hash end) (get_or buckets index d) (joined (drop (suc index) buckets))))
       ∙ sym (filter-append (λ e. nat_lt e.0.hash end) (joined (take index buckets)) (get_or buckets index d ++ joined (drop (suc index) buckets)))
       ∙ ap (filter (λ (e : HashedGrain × ActivationId). nat_lt e.0.hash end)) (sym (joined_at buckets index d within))
+
+-- the first buckets, of which the last one keeps what is before the end
+module _ (cuts : List ℕ) (buckets : List Hashed) (cut : AreCut cuts buckets) (end index : ℕ) (pass : Passes cuts end index)
+    (reach : Reaches cuts end index) (within : index < length buckets) (first : List Hashed) (firsts : first ≡ take (index + 1) buckets)
+    (old new : Hashed) (is : old ≡ get_or first index old) (kept : new ≡ filter (λ e. nat_lt e.0.hash end) old) where
+  ones : first ≡ take (suc index) buckets
+  ones = firsts ∙ ap (λ n. take n buckets) (add-one index)
+
+  own : old ≡ get_or buckets index old
+  own = is ∙ ap (λ l. get_or l index old) ones ∙ get_or-take (suc index) buckets index old (omega arith)
+
+  pub end_entries : joined (set first index new) ≡ filter (λ e. nat_lt e.0.hash end) (joined buckets)
+  end_entries =
+      (λ i. joined (set (ones i) index ((kept ∙ ap (filter (λ (e : HashedGrain × ActivationId). nat_lt e.0.hash end)) own) i)))
+      ∙ some_before_end cuts buckets cut end index pass old within reach
+
+  pub end_cut : (front : List ℕ) → front ≡ take index cuts → AreCut front (set first index new)
+  end_cut front fronts =
+      subst (λ l. AreCut l (set first index new)) (sym fronts)
+      (subst (λ l. AreCut (take index cuts) (set l index new)) (sym ones)
+      (cut_set end new (take index cuts) (take (suc index) buckets) (cut_taken cuts buckets cut index) index old there (passes_taken cuts end index pass)
+      (reaches_taken cuts (suc end) index) (λ c le all. subst (AreFrom c) (sym kept) (all_passed (λ e. nat_lt e.0.hash end) (λ e. c ≤ e.0.hash) old (subst (AreFrom c) (sym at) all)))
+      (λ c lt all. subst (AreBelow c) (sym kept) (all_passed (λ e. nat_lt e.0.hash end) (λ e. e.0.hash < c) old (subst (AreBelow c) (sym at) all)))))
+    where
+      there : index < length (take (suc index) buckets)
+      there = let long = length-take (suc index) buckets in omega (arith, long)
+
+      at : old ≡ get_or (take (suc index) buckets) index old
+      at = is ∙ ap (λ l. get_or l index old) ones
+
+  pub end_fewer : (fewer more : ℕ) → length new + fewer ≡ length old → more ≡ length (joined (drop (suc index) buckets))
+      → length (joined (set first index new)) + (more + fewer) ≡ length (joined buckets)
+  end_fewer fewer more taken behind =
+      ap (λ l. length (joined (set l index new)) + (more + fewer)) ones
+      ∙ fewer_behind buckets index new old within fewer more (taken ∙ ap length own) behind
 
 -- ---- What stands between two hashes stands in some buckets.
 module _ (cuts : List ℕ) (buckets : List Hashed) (cut : AreCut cuts buckets) (first end : ℕ) where

@@ -9,8 +9,24 @@ use Rattle.grain_table.proofs.Searched.{passes_under, reaches_from}
 use Rattle.grain_table.proofs.Stretches.{there_behind, there_between}
 use Rattle.grain_table.proofs.hashed_map.stretch.buckets_between.Goals as goal
 
-pub index_under-requires : goal.index_under-requires
-index_under-requires c = rising c.args.cuts.now c.args.buckets.now c.requires
+pub index_under-start-requires : goal.index_under-start-requires
+index_under-start-requires c = rising c.args.cuts.now c.args.buckets.now c.requires
 
 pub cuts_before-requires : goal.cuts_before-requires
 cuts_before-requires c = rising c.args.cuts.now c.args.buckets.now c.requires
+
+pub returns-then-buckets-start : goal.returns-then-buckets-start
+returns-then-buckets-start c =
+    let cuts = c.args.cuts.now in
+    let buckets = c.args.buckets.now in
+    let start = c.index_under-start.result in
+    let there = λ (es : Hashed). filter (λ e. is_between c.args.first c.args.end e.0.hash) es in
+    ap (λ (l : List Hashed). there (joined l)) (sym (drop_all start buckets (omega arith)))
+    ∙ there_behind cuts buckets c.requires c.args.first c.args.end start
+    (passes_under cuts cuts refl c.args.first start c.index_under-start.ensures.bound c.index_under-start.ensures.split)
+
+pub returns-then-behind-more : goal.returns-then-behind-more
+returns-then-behind-more c = ?
+
+pub returns : goal.returns
+returns c = ?
