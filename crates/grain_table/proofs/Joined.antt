@@ -18,17 +18,20 @@ pub joined_at : (buckets : List Hashed) (index : ℕ) (d : Hashed) → index < l
 joined_at [] index d lt = absurd (omega arith)
 joined_at (b ∷ buckets) zero d lt = refl
 joined_at (b ∷ buckets) (suc index) d lt =
-    ap (λ l. b ++ l) (joined_at buckets index d (omega arith)) ∙ sym (append_assoc b (joined (take index buckets)) (get_or buckets index d ++ joined (drop (suc index) buckets)))
+    ap (λ l. b ++ l) (joined_at buckets index d (omega arith))
+    ∙ sym (append_assoc b (joined (take index buckets)) (get_or buckets index d ++ joined (drop (suc index) buckets)))
 
 pub joined_set : (buckets : List Hashed) (index : ℕ) (new : Hashed) → index < length buckets
     → joined (set buckets index new) ≡ joined (take index buckets) ++ (new ++ joined (drop (suc index) buckets))
 joined_set [] index new lt = absurd (omega arith)
 joined_set (b ∷ buckets) zero new lt = refl
 joined_set (b ∷ buckets) (suc index) new lt =
-    ap (λ l. b ++ l) (joined_set buckets index new (omega arith)) ∙ sym (append_assoc b (joined (take index buckets)) (new ++ joined (drop (suc index) buckets)))
+    ap (λ l. b ++ l) (joined_set buckets index new (omega arith))
+    ∙ sym (append_assoc b (joined (take index buckets)) (new ++ joined (drop (suc index) buckets)))
 
 -- the first ones, of which the last is another
-pub set_last : (buckets : List Hashed) (index : ℕ) (new : Hashed) → index < length buckets → set (take (suc index) buckets) index new ≡ take index buckets ++ new ∷ []
+pub set_last : (buckets : List Hashed) (index : ℕ) (new : Hashed) → index < length buckets
+    → set (take (suc index) buckets) index new ≡ take index buckets ++ new ∷ []
 set_last [] index new lt = absurd (omega arith)
 set_last (b ∷ buckets) zero new lt = refl
 set_last (b ∷ buckets) (suc index) new lt = ap (λ l. b ∷ l) (set_last buckets index new (omega arith))
@@ -41,7 +44,8 @@ length_joined_set (b ∷ buckets) zero new d lt =
     let one = length-append new (joined buckets) in let other = length-append b (joined buckets) in omega (arith, one, other)
 length_joined_set (b ∷ buckets) (suc index) new d lt =
     let rest = length_joined_set buckets index new d (omega arith) in
-    let one = length-append b (joined (set buckets index new)) in let other = length-append b (joined buckets) in omega (arith, one, other, rest)
+    let one = length-append b (joined (set buckets index new)) in let other = length-append b (joined buckets) in
+    omega (arith, one, other, rest)
 
 pub length_joined_more : (buckets : List Hashed) (index : ℕ) (d : Hashed) → index < length buckets
     → length (joined (take (suc index) buckets)) ≡ length (joined (take index buckets)) + length (get_or buckets index d)
@@ -49,7 +53,8 @@ length_joined_more [] index d lt = absurd (omega arith)
 length_joined_more (b ∷ buckets) zero d lt = let one = length-append b [] in omega (arith, one)
 length_joined_more (b ∷ buckets) (suc index) d lt =
     let rest = length_joined_more buckets index d (omega arith) in
-    let one = length-append b (joined (take (suc index) buckets)) in let other = length-append b (joined (take index buckets)) in omega (arith, one, other, rest)
+    let one = length-append b (joined (take (suc index) buckets)) in let other = length-append b (joined (take index buckets)) in
+    omega (arith, one, other, rest)
 
 pub length_joined_take : (buckets : List Hashed) (index : ℕ) → length (joined (take index buckets)) ≤ length (joined buckets)
 length_joined_take [] zero = omega arith
@@ -57,7 +62,8 @@ length_joined_take [] (suc index) = omega arith
 length_joined_take (b ∷ buckets) zero = omega arith
 length_joined_take (b ∷ buckets) (suc index) =
     let rest = length_joined_take buckets index in
-    let one = length-append b (joined (take index buckets)) in let other = length-append b (joined buckets) in omega (arith, one, other, rest)
+    let one = length-append b (joined (take index buckets)) in let other = length-append b (joined buckets) in
+    omega (arith, one, other, rest)
 
 -- a walk's next step
 pub counted_more : (buckets : List Hashed) (index : ℕ) (bucket : Hashed) → index < length buckets → bucket ≡ get_or buckets index bucket
@@ -94,7 +100,8 @@ length_behind (b ∷ buckets) (suc index) =
     let rest = length_behind buckets index in let whole = length-append b (joined buckets) in omega (arith, rest, whole)
 
 -- ---- What passes a test, bucket by bucket.
-pub joined_filtered : (p : HashedGrain × ActivationId → Bool) (buckets : List Hashed) → joined (map (filter p) buckets) ≡ filter p (joined buckets)
+pub joined_filtered : (p : HashedGrain × ActivationId → Bool) (buckets : List Hashed)
+    → joined (map (filter p) buckets) ≡ filter p (joined buckets)
 joined_filtered p [] = refl
 joined_filtered p (b ∷ buckets) = ap (λ l. filter p b ++ l) (joined_filtered p buckets) ∙ sym (filter-append p b (joined buckets))
 

@@ -38,7 +38,8 @@ module _ (key : HashedGrain) (es : Hashed) (sorted : IsStrictlySortedBy hashed_c
 
     pub get_there : (slot : HashedGrain × ActivationId) → slot ≡ get_or es index slot → Some slot.1 ≡ lookup (is_at (hashed_cmp key)) es
     get_there slot is =
-        ap (λ (e : HashedGrain × ActivationId). Some e.1) is ∙ sym (one_found key es sorted index front back inside slot (sym stands ∙ stood))
+        ap (λ (e : HashedGrain × ActivationId). Some e.1) is
+        ∙ sym (one_found key es sorted index front back inside slot (sym stands ∙ stood))
 
     pub insert_there : (v : ActivationId) → set es index (key, v) ≡ insert_entry hashed_cmp es key v
     insert_there v = sym (put_over key es sorted index front back inside (key, v) (sym stands ∙ stood) v)

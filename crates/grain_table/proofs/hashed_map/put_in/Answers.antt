@@ -23,10 +23,18 @@ returns-then-index-len c =
     let old = c.index_mut.result.now in
     let new = c.insert.new.self in
     record {
-      entries = put_entries cuts buckets c.requires key c.args.activation index pass reach (omega arith) old new c.index_mut.ensures.value c.insert.result c.insert.ensures.entries;
-      cut = put_cut cuts buckets c.requires key c.args.activation index pass reach (omega arith) old new c.index_mut.ensures.value c.insert.result c.insert.ensures.entries c.insert.ensures.unchanged;
-      more = put_more cuts buckets c.requires key c.args.activation index pass reach (omega arith) old new c.index_mut.ensures.value c.insert.result c.insert.ensures.entries c.insert.ensures.more;
-      unchanged = put_unchanged cuts buckets c.requires key c.args.activation index pass reach (omega arith) old new c.index_mut.ensures.value c.insert.result c.insert.ensures.entries c.insert.ensures.unchanged;
+      entries =
+          put_entries cuts buckets c.requires key c.args.activation index pass reach (omega arith) old new c.index_mut.ensures.value
+          c.insert.result c.insert.ensures.entries;
+      cut =
+          put_cut cuts buckets c.requires key c.args.activation index pass reach (omega arith) old new c.index_mut.ensures.value
+          c.insert.result c.insert.ensures.entries c.insert.ensures.unchanged;
+      more =
+          put_more cuts buckets c.requires key c.args.activation index pass reach (omega arith) old new c.index_mut.ensures.value
+          c.insert.result c.insert.ensures.entries c.insert.ensures.more;
+      unchanged =
+          put_unchanged cuts buckets c.requires key c.args.activation index pass reach (omega arith) old new c.index_mut.ensures.value
+          c.insert.result c.insert.ensures.entries c.insert.ensures.unchanged;
     }
 
 pub returns-clause-entries : goal.returns-clause-entries

@@ -9,12 +9,14 @@ use Rattle.grain_table.proofs.hashed_map.HashedMap.keep_hashed_into.Goals as goa
 
 pub count-self-inside-requires : goal.count-self-inside-requires
 count-self-inside-requires c =
-    kept_most (λ e. holds c.args.range.now (hash_grain c.args.hashing e.0.grain)) c.self.inside.cuts.items c.self.inside.buckets.items c.keep_each_hashed_into.new.buckets.items
+    kept_most (λ e. holds c.args.range.now (hash_grain c.args.hashing e.0.grain)) c.self.inside.cuts.items c.self.inside.buckets.items
+    c.keep_each_hashed_into.new.buckets.items
     c.self.inside.len c.self.invariant c.keep_each_hashed_into.ensures c.deref.result.now c.deref.ensures.value
 
 pub invariant_of-self : goal.invariant_of-self
 invariant_of-self c =
-    kept_are (λ e. holds c.args.range.now (hash_grain c.args.hashing e.0.grain)) c.self.inside.cuts.items c.self.inside.buckets.items c.keep_each_hashed_into.new.buckets.items
+    kept_are (λ e. holds c.args.range.now (hash_grain c.args.hashing e.0.grain)) c.self.inside.cuts.items c.self.inside.buckets.items
+    c.keep_each_hashed_into.new.buckets.items
     c.self.inside.len c.self.invariant c.keep_each_hashed_into.ensures c.deref.result.now c.deref.ensures.value c.count-self-inside.result
     c.count-self-inside.ensures
 

@@ -6,4 +6,5 @@ use Rattle.grain_table.specs.Hashed.{Hashed, hashed_cmp}
 use Rattle.grain_table.proofs.hashed_map.bucket.Bucket.new.Goals as goal
 
 pub invariant_of-result : goal.invariant_of-result
-invariant_of-result c = subst (λ (es : Hashed). IsStrictlySortedBy hashed_cmp (keys_of es)) (sym c.new.ensures.items) (sorted-nil hashed_cmp)
+invariant_of-result c =
+    subst (λ (es : Hashed). IsStrictlySortedBy hashed_cmp (keys_of es)) (sym c.new.ensures.items) (sorted-nil hashed_cmp)
