@@ -85,7 +85,7 @@ behind_key key e higher = by (nat_cmp key.hash e.0.hash) refl
     by Equal is = absurd (let same : key.hash ≡ e.0.hash = ranked key.hash e.0.hash Equal is in omega arith)
     by Greater is = absurd (let above : e.0.hash < key.hash = ranked key.hash e.0.hash Greater is in omega arith)
 
-pub hash_rises : (a b : HashedGrain) → hashed_cmp a b ≡ Less → a.hash ≤ b.hash
+hash_rises : (a b : HashedGrain) → hashed_cmp a b ≡ Less → a.hash ≤ b.hash
 hash_rises a b rises = by (nat_cmp a.hash b.hash) refl rises
   where
     by : (o : Ordering) → o ≡ nat_cmp a.hash b.hash → ordering_then o (text_cmp a.grain b.grain) ≡ Less → a.hash ≤ b.hash
@@ -103,7 +103,7 @@ module _ (p : HashedGrain × ActivationId → Bool) (down : (e f : HashedGrain �
   later e (f ∷ es) all zero d lt = all.0
   later e (f ∷ es) all (suc k) d lt = later e es all.1 k d (omega arith)
 
-  pub parted : (es : Hashed) → IsStrictlySortedBy hashed_cmp (keys_of es) → IsPartitionedBy p es
+  parted : (es : Hashed) → IsStrictlySortedBy hashed_cmp (keys_of es) → IsPartitionedBy p es
   parted [] sorted i j d le lt passes = absurd (omega arith)
   parted (e ∷ es) sorted zero zero d le lt passes = passes
   parted (e ∷ es) sorted zero (suc j) d le lt passes =
@@ -167,12 +167,12 @@ module _ (key : HashedGrain) where
       (greater (hashed_cmp key e.0) before.0)
       ∙ ap (λ l. e ∷ l) (remove_past front back before.1)
 
-  pub lookup_none : (back : Hashed) → AllBehind key back → lookup (is_at (hashed_cmp key)) back ≡ None
+  lookup_none : (back : Hashed) → AllBehind key back → lookup (is_at (hashed_cmp key)) back ≡ None
   lookup_none [] behind = refl
   lookup_none (e ∷ back) behind =
       ap (λ o. cond (is_eq o) (Some e.1) (lookup (is_at (hashed_cmp key)) back)) behind.0 ∙ lookup_none back behind.1
 
-  pub remove_none : (back : Hashed) → AllBehind key back → remove_entry (is_at (hashed_cmp key)) back ≡ back
+  remove_none : (back : Hashed) → AllBehind key back → remove_entry (is_at (hashed_cmp key)) back ≡ back
   remove_none [] behind = refl
   remove_none (e ∷ back) behind =
       ap (λ o. cond (is_eq o) back (e ∷ remove_entry (is_at (hashed_cmp key)) back)) behind.0 ∙ ap (λ l. e ∷ l) (remove_none back behind.1)
@@ -204,7 +204,7 @@ module _ (key : HashedGrain) where
         (greater (hashed_cmp key e.0) before.0)
         ∙ ap (λ l. e ∷ l) (put_past front back before.1)
 
-    pub put_first : (back : Hashed) → AllBehind key back → put back ≡ (key, v) ∷ back
+    put_first : (back : Hashed) → AllBehind key back → put back ≡ (key, v) ∷ back
     put_first [] behind = refl
     put_first (e ∷ back) behind = ap (λ o. match_ordering o ((key, v) ∷ e ∷ back) ((e.0, v) ∷ back) (e ∷ put back)) behind.0
 

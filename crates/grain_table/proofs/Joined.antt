@@ -47,7 +47,7 @@ length_joined_set (b ∷ buckets) (suc index) new d lt =
     let one = length-append b (joined (set buckets index new)) in let other = length-append b (joined buckets) in
     omega (arith, one, other, rest)
 
-pub length_joined_more : (buckets : List Hashed) (index : ℕ) (d : Hashed) → index < length buckets
+length_joined_more : (buckets : List Hashed) (index : ℕ) (d : Hashed) → index < length buckets
     → length (joined (take (suc index) buckets)) ≡ length (joined (take index buckets)) + length (get_or buckets index d)
 length_joined_more [] index d lt = absurd (omega arith)
 length_joined_more (b ∷ buckets) zero d lt = let one = length-append b [] in omega (arith, one)
@@ -56,7 +56,7 @@ length_joined_more (b ∷ buckets) (suc index) d lt =
     let one = length-append b (joined (take (suc index) buckets)) in let other = length-append b (joined (take index buckets)) in
     omega (arith, one, other, rest)
 
-pub length_joined_take : (buckets : List Hashed) (index : ℕ) → length (joined (take index buckets)) ≤ length (joined buckets)
+length_joined_take : (buckets : List Hashed) (index : ℕ) → length (joined (take index buckets)) ≤ length (joined buckets)
 length_joined_take [] zero = omega arith
 length_joined_take [] (suc index) = omega arith
 length_joined_take (b ∷ buckets) zero = omega arith

@@ -127,7 +127,7 @@ module _ (hash : ℕ) (lower upper : Hashed) where
         there)
 
 -- ---- Some entries go.
-pub cut_filtered : (p : HashedGrain × ActivationId → Bool) (cuts : List ℕ) (buckets : List Hashed) → AreCut cuts buckets
+cut_filtered : (p : HashedGrain × ActivationId → Bool) (cuts : List ℕ) (buckets : List Hashed) → AreCut cuts buckets
     → AreCut cuts (map (filter p) buckets)
 cut_filtered p [] buckets cut = let same = length-map buckets (filter p) in omega (arith, same)
 cut_filtered p (c ∷ cuts) [] cut = absurd cut

@@ -22,7 +22,7 @@ module _ (p : HashedGrain × ActivationId → Bool) where
   all_pass [] all = refl
   all_pass (e ∷ es) all = ap (λ b. cond b (e ∷ filter p es) (filter p es)) all.0 ∙ ap (λ l. e ∷ l) (all_pass es all.1)
 
-  pub none_pass : (es : Hashed) → AllByRecursion (λ e. p e ≡ false) es → filter p es ≡ []
+  none_pass : (es : Hashed) → AllByRecursion (λ e. p e ≡ false) es → filter p es ≡ []
   none_pass [] all = refl
   none_pass (e ∷ es) all = ap (λ b. cond b (e ∷ filter p es) (filter p es)) all.0 ∙ none_pass es all.1
 
@@ -52,7 +52,7 @@ module _ (cuts : List ℕ) (buckets : List Hashed) (cut : AreCut cuts buckets) (
       sym (lower_passes end (joined buckets) (subst (λ l. AreBelow end (joined l)) (take_all index buckets past)
       (front_below cuts buckets cut end index pass)))
 
-  pub some_before_end : (d : Hashed) → index < length buckets → Reaches cuts end index
+  some_before_end : (d : Hashed) → index < length buckets → Reaches cuts end index
       → joined (set (take (suc index) buckets) index (filter (λ e. nat_lt e.0.hash end) (get_or buckets index d))) ≡ filter
       (λ e. nat_lt e.0.hash end) (joined buckets)
   some_before_end d within reach =
