@@ -1,6 +1,6 @@
 -- The entries of buckets, one behind another.
 use Rattle.std.proofs.Common.{add-one, arith, ◌≡◌, refl, sym, ap, ◌∙◌, ℕ, zero, suc, ◌+◌, ◌-◌, ◌<◌, ◌≤◌, List, [], ◌∷◌, ◌++◌, length, take, drop, set, map, get_or}
-use Rattle.std.proofs.lemmas.List.{append-nil, append_assoc, length-append, length-drop, length-map, take-append-drop, take_all}
+use Rattle.std.proofs.lemmas.List.{append-nil, append_assoc, length-append, length-drop, take_all}
 use Rattle.std.proofs.lemmas.List.Edits.{map_over_more}
 use Rattle.std.proofs.lemmas.List.Elements.{filter-append}
 use Rattle.std.specs.Prelude.{Bool, true, false, cond, filter}
@@ -114,15 +114,11 @@ length_filtered p (e ∷ es) = by (p e) (length_filtered p es)
     by false rest = omega arith
 
 -- ---- A walk that changes each bucket.
-walked : {X : Type 0} (f : X → X) (xs : List X) (i : ℕ) → length (map f (take i xs) ++ drop i xs) ≡ length xs
-walked f xs i =
-    length-append (map f (take i xs)) (drop i xs) ∙ ap (λ n. n + length (drop i xs)) (length-map (take i xs) f)
-    ∙ sym (length-append (take i xs) (drop i xs)) ∙ ap length (take-append-drop i xs)
-
-pub map_next : {X : Type 0} (f : X → X) (xs ys : List X) (i : ℕ) (x y : X) → i < length ys → ys ≡ map f (take i xs) ++ drop i xs
-    → x ≡ get_or ys i x → y ≡ f x → set ys i y ≡ map f (take (i + 1) xs) ++ drop (i + 1) xs
-map_next f xs ys i x y lt so_far is made =
-    ap (set ys i) made ∙ map_over_more f xs ys i x (let same = ap length so_far ∙ walked f xs i in omega (arith, same)) so_far is
+pub map_next : {X : Type 0} (f : X → X) (xs seen ys : List X) → seen ≡ xs → (i : ℕ) → i < length seen
+    → ys ≡ map f (take i xs) ++ drop i xs
+    → (x y : X) → x ≡ get_or ys i x → y ≡ f x → set ys i y ≡ map f (take (i + 1) xs) ++ drop (i + 1) xs
+map_next f xs seen ys sees i lt so_far x y is made =
+    ap (set ys i) made ∙ map_over_more f xs ys i x (let same = ap length sees in omega (arith, same)) so_far is
 
 -- ---- The rest of a list, as a slice has it.
 pub range_from : {X : Type 0} (xs : List X) (n : ℕ) → take (length xs - n) (drop n xs) ≡ drop n xs

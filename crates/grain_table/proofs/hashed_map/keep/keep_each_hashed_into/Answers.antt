@@ -8,6 +8,6 @@ use Rattle.grain_table.proofs.hashed_map.keep.keep_each_hashed_into.Goals as goa
 pub buckets-preserved : goal.buckets-preserved
 buckets-preserved c =
     map_next (λ (bucket : Hashed). filter (λ e. holds c.args.range.now (hash_grain c.args.hashing e.0.grain)) bucket)
-    c.args.buckets.now.items c.buckets.bucket-items
-    c.buckets.bucket-index c.bucket-item.result c.keep_hashed_into.new.self c.buckets-test.true c.buckets.invariant c.bucket-item.is
-    c.keep_hashed_into.ensures
+    c.args.buckets.now.items
+    c.deref_mut-bucket-items.result.now c.buckets.bucket-items c.deref_mut-bucket-items.ensures.value c.buckets.bucket-index
+    c.buckets-test.true c.buckets.invariant c.bucket-item.result c.keep_hashed_into.new.self c.bucket-item.is c.keep_hashed_into.ensures

@@ -7,6 +7,5 @@ use Rattle.grain_table.proofs.hashed_map.keep.remove_each_dead.Goals as goal
 pub buckets-preserved : goal.buckets-preserved
 buckets-preserved c =
     map_next (λ (bucket : Hashed). filter (λ e. not (is_dead_in c.args.view.now e.1.silo)) bucket) c.args.buckets.now.items
-    c.buckets.bucket-items
-    c.buckets.bucket-index c.bucket-item.result c.remove_dead.new.self c.buckets-test.true c.buckets.invariant c.bucket-item.is
-    c.remove_dead.ensures
+    c.deref_mut-bucket-items.result.now c.buckets.bucket-items c.deref_mut-bucket-items.ensures.value c.buckets.bucket-index
+    c.buckets-test.true c.buckets.invariant c.bucket-item.result c.remove_dead.new.self c.bucket-item.is c.remove_dead.ensures
