@@ -1,4 +1,4 @@
-use Rattle.std.proofs.Common.{◌≡◌, ◌∙◌, ◌+◌, ◌≤◌, [], List, ap, arith, length, refl, subst, sym}
+use Rattle.std.proofs.Common.{◌≡◌, ◌∙◌, ◌+◌, ◌≤◌, List, ap, arith, length, refl, subst, sym}
 use Rattle.std.specs.BTreeMap.{insert_entry}
 use Rattle.grain_table.specs.Buckets.{AreCut, joined}
 use Rattle.grain_table.specs.Hashed.{Hashed, hashed_cmp}

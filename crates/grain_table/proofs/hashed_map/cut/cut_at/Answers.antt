@@ -2,7 +2,6 @@ use Rattle.std.proofs.Common.{◌≡◌, ◌∙◌, ◌+◌, add-one, ap, cond, 
 use Rattle.std.specs.List.{insert}
 use Rattle.std.specs.Prelude.{is_ok}
 use Rattle.grain_table.specs.Buckets.{AreCut, joined}
-use Rattle.grain_table.specs.Hashed.{Hashed}
 use Rattle.grain_table.proofs.StillCut.{cut_both, joined_both}
 use Rattle.grain_table.proofs.hashed_map.cut.cut_at.Goals as goal
 

@@ -1,4 +1,4 @@
-use Rattle.std.proofs.Common.{◌≡◌, ◌∙◌, ap, set, subst, sym}
+use Rattle.std.proofs.Common.{◌∙◌, ap, set, subst, sym}
 use Rattle.std.specs.BTreeMap.{insert_entry}
 use Rattle.std.specs.List.{insert}
 use Rattle.std.specs.List.Sorted.{IsStrictlySortedBy}
