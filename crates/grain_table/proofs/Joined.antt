@@ -116,9 +116,9 @@ length_filtered p (e ∷ es) = by (p e) (length_filtered p es)
 -- ---- A walk that changes each bucket.
 pub map_next : {X : Type 0} (f : X → X) (xs seen ys : List X) → seen ≡ xs → (i : ℕ) → i < length seen
     → ys ≡ map f (take i xs) ++ drop i xs
-    → (x y : X) → x ≡ get_or ys i x → y ≡ f x → set ys i y ≡ map f (take (i + 1) xs) ++ drop (i + 1) xs
+    → (x y : X) → x ≡ get_or ys i x → y ≡ f (get_or ys i x) → set ys i y ≡ map f (take (i + 1) xs) ++ drop (i + 1) xs
 map_next f xs seen ys sees i lt so_far x y is made =
-    ap (set ys i) made ∙ map_over_more f xs ys i x (let same = ap length sees in omega (arith, same)) so_far is
+    ap (set ys i) (made ∙ ap f (sym is)) ∙ map_over_more f xs ys i x (let same = ap length sees in omega (arith, same)) so_far is
 
 -- ---- The rest of a list, as a slice has it.
 pub range_from : {X : Type 0} (xs : List X) (n : ℕ) → take (length xs - n) (drop n xs) ≡ drop n xs
