@@ -18,7 +18,7 @@ use Rattle.grain_table.proofs.StillCut.{cut_set, cut_taken, passes_taken, reache
 
 -- ---- What passes of all, and of none.
 module _ (p : HashedGrain × ActivationId → Bool) where
-  pub all_pass : (es : Hashed) → AllByRecursion (λ e. p e ≡ true) es → filter p es ≡ es
+  all_pass : (es : Hashed) → AllByRecursion (λ e. p e ≡ true) es → filter p es ≡ es
   all_pass [] all = refl
   all_pass (e ∷ es) all = ap (λ b. cond b (e ∷ filter p es) (filter p es)) all.0 ∙ ap (λ l. e ∷ l) (all_pass es all.1)
 
