@@ -1,5 +1,5 @@
 -- Cuts rise, and tell of the hashes before and behind them.
-use Rattle.std.proofs.Common.{arith, ◌≡◌, ℕ, zero, suc, ◌<◌, ◌≤◌, List, [], ◌∷◌, length, take, drop, get_or}
+use Rattle.std.proofs.Common.{arith, ℕ, zero, suc, ◌<◌, ◌≤◌, List, [], ◌∷◌, length, take, drop, get_or}
 use Rattle.std.specs.List.{AllByRecursion}
 use Rattle.std.specs.List.Sorted.{IsNonDecreasing}
 use Rattle.grain_table.specs.Buckets.{AreCut, joined}
@@ -36,35 +36,42 @@ Reaches [] high index = Unit {0}
 Reaches (c ∷ cuts) high zero = high ≤ c
 Reaches (c ∷ cuts) high (suc index) = Reaches cuts high index
 
-pub passes : (cuts : List ℕ) (hash index : ℕ) → index ≤ length cuts → ((k d : ℕ) → 0 ≤ k → k < index → get_or cuts k d ≤ hash) → Passes cuts hash index
+pub passes : (cuts : List ℕ) (hash index : ℕ) → index ≤ length cuts → ((k d : ℕ) → 0 ≤ k → k < index → get_or cuts k d ≤ hash)
+    → Passes cuts hash index
 passes [] hash zero le each = tt
 passes [] hash (suc index) le each = absurd (omega arith)
 passes (c ∷ cuts) hash zero le each = tt
-passes (c ∷ cuts) hash (suc index) le each = (each 0 c (omega arith) (omega arith), passes cuts hash index (omega arith) (λ k d low lt. each (suc k) d (omega arith) (omega arith)))
+passes (c ∷ cuts) hash (suc index) le each =
+    (each 0 c (omega arith) (omega arith), passes cuts hash index (omega arith) (λ k d low lt. each (suc k) d (omega arith) (omega arith)))
 
-pub reaches : (cuts : List ℕ) (high index : ℕ) → ((k d : ℕ) → index ≤ k → k < length cuts → high ≤ get_or cuts k d) → Reaches cuts high index
+pub reaches : (cuts : List ℕ) (high index : ℕ) → ((k d : ℕ) → index ≤ k → k < length cuts → high ≤ get_or cuts k d)
+    → Reaches cuts high index
 reaches [] high index each = tt
 reaches (c ∷ cuts) high zero each = each 0 c (omega arith) (omega arith)
 reaches (c ∷ cuts) high (suc index) each = reaches cuts high index (λ k d low lt. each (suc k) d (omega arith) (omega arith))
 
 -- ---- Hashes before a cut, and behind it.
 -- the first buckets have hashes below
-pub front_below : (cuts : List ℕ) (buckets : List Hashed) → AreCut cuts buckets → (hash index : ℕ) → Passes cuts hash index → AreBelow hash (joined (take index buckets))
+pub front_below : (cuts : List ℕ) (buckets : List Hashed) → AreCut cuts buckets → (hash index : ℕ) → Passes cuts hash index
+    → AreBelow hash (joined (take index buckets))
 front_below [] buckets cut hash zero pass = tt
 front_below [] buckets cut hash (suc index) pass = absurd pass
 front_below (c ∷ cuts) [] cut hash index pass = absurd cut
 front_below (c ∷ cuts) (b ∷ buckets) cut hash zero pass = tt
 front_below (c ∷ cuts) (b ∷ buckets) cut hash (suc index) pass =
     let up = pass.0 in
-    all_append (λ e. e.0.hash < hash) b (joined (take index buckets)) (all_so (λ e. e.0.hash < c) (λ e. e.0.hash < hash) (λ e lt. omega arith) b cut.0)
+    all_append (λ e. e.0.hash < hash) b (joined (take index buckets))
+    (all_so (λ e. e.0.hash < c) (λ e. e.0.hash < hash) (λ e lt. omega arith) b cut.0)
     (front_below cuts buckets cut.3 hash index pass.1)
 
 -- and those behind the one at the index have none below
-pub back_from : (cuts : List ℕ) (buckets : List Hashed) → AreCut cuts buckets → (high index : ℕ) → Reaches cuts high index → AreFrom high (joined (drop (suc index) buckets))
+pub back_from : (cuts : List ℕ) (buckets : List Hashed) → AreCut cuts buckets → (high index : ℕ) → Reaches cuts high index
+    → AreFrom high (joined (drop (suc index) buckets))
 back_from [] [] cut high index reach = tt
 back_from [] (b ∷ []) cut high zero reach = tt
 back_from [] (b ∷ []) cut high (suc index) reach = tt
 back_from [] (b ∷ other ∷ buckets) cut high index reach = absurd (omega arith)
 back_from (c ∷ cuts) [] cut high index reach = absurd cut
-back_from (c ∷ cuts) (b ∷ buckets) cut high zero reach = all_so (λ e. c ≤ e.0.hash) (λ e. high ≤ e.0.hash) (λ e le. omega arith) (joined buckets) cut.2
+back_from (c ∷ cuts) (b ∷ buckets) cut high zero reach =
+    all_so (λ e. c ≤ e.0.hash) (λ e. high ≤ e.0.hash) (λ e le. omega arith) (joined buckets) cut.2
 back_from (c ∷ cuts) (b ∷ buckets) cut high (suc index) reach = back_from cuts buckets cut.3 high index reach

@@ -22,5 +22,6 @@ pub mod Joined
 pub mod AcrossBuckets
 pub mod StillCut
 pub mod PutIn
+pub mod TakenOut
 pub mod Stretches
 pub mod Searched

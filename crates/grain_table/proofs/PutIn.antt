@@ -25,7 +25,8 @@ module _ (cuts : List ℕ) (buckets : List Hashed) (cut : AreCut cuts buckets) (
   IsMore old new more = (length new ≡ length old + more) × (more ≤ 1)
 
   -- ---- In the bucket at the index.
-  module _ (reach : Reaches cuts (suc key.hash) index) (within : index < length buckets) (old new : Hashed) (is : old ≡ get_or buckets index old)
+  module _ (reach : Reaches cuts (suc key.hash) index) (within : index < length buckets) (old new : Hashed)
+      (is : old ≡ get_or buckets index old)
       {E : Type 0} (r : Result ℕ E) (entries : OnOk r (IsPut old new)) where
     pub put_entries : OnOk r (IsPut (joined buckets) (joined (set buckets index new)))
     put_entries =

@@ -38,7 +38,8 @@ module _ (key : HashedGrain) (es : Hashed) (sorted : IsStrictlySortedBy hashed_c
 
     pub get_there : (slot : HashedGrain × ActivationId) → slot ≡ get_or es index slot → Some slot.1 ≡ lookup (is_at (hashed_cmp key)) es
     get_there slot is =
-        ap (λ (e : HashedGrain × ActivationId). Some e.1) is ∙ sym (one_found key es sorted index front back inside slot (sym stands ∙ stood))
+        ap (λ (e : HashedGrain × ActivationId). Some e.1) is
+        ∙ sym (one_found key es sorted index front back inside slot (sym stands ∙ stood))
 
     pub insert_there : (v : ActivationId) → set es index (key, v) ≡ insert_entry hashed_cmp es key v
     insert_there v = sym (put_over key es sorted index front back inside (key, v) (sym stands ∙ stood) v)
@@ -68,8 +69,8 @@ module _ (es searched : Hashed) (searches : searched ≡ es) (hash index : ℕ)
   pub take_lower : take index es ≡ filter (λ e. nat_lt e.0.hash hash) es
   take_lower = kept_before es index hash lower upper
 
-  pub cut_there : (old front back : Hashed) → es ≡ old → front ≡ take index es → back ≡ drop index es → IsCutAt hash old front back
-  cut_there old front back is fronts backs = record {
+  pub cut_there : (old one other : Hashed) → es ≡ old → one ≡ take index es → other ≡ drop index es → IsCutAt hash old one other
+  cut_there old one other is fronts backs = record {
     whole = (λ i. fronts i ++ backs i) ∙ take-append-drop index es ∙ is;
     lower = subst (AreBelow hash) (sym fronts) lower;
     upper = subst (AreFrom hash) (sym backs) upper;

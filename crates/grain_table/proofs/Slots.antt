@@ -31,10 +31,12 @@ ties Less p tie = refl
 ties Equal p tie = sym (tie refl)
 ties Greater p tie = refl
 
-pub text_order : (grain : Grain) → IsGrain grain → (x : List ℕ) → x ≡ grain_text grain → (y : List ℕ) → IsGrainText y → slice_cmp nat_cmp x y ≡ text_cmp grain (grain_at_slash y)
+pub text_order : (grain : Grain) → IsGrain grain → (x : List ℕ) → x ≡ grain_text grain → (y : List ℕ) → IsGrainText y
+    → slice_cmp nat_cmp x y ≡ text_cmp grain (grain_at_slash y)
 text_order grain is x spelled y other =
     ties (slice_cmp nat_cmp x y) (grain_cmp grain (grain_at_slash y))
-    (λ tied. ap (λ g. grain_cmp g (grain_at_slash y)) (sym (grain_again x grain is spelled) ∙ ap grain_at_slash (exact_bytes x y tied)) ∙ tied_itself grain_cmp_total (grain_at_slash y))
+    (λ tied. ap (λ g. grain_cmp g (grain_at_slash y)) (sym (grain_again x grain is spelled) ∙ ap grain_at_slash (exact_bytes x y tied))
+    ∙ tied_itself grain_cmp_total (grain_at_slash y))
     ∙ (λ i. ordering_then (slice_cmp nat_cmp (spelled i) (other.spelled i)) (grain_cmp grain (grain_at_slash y)))
 
 -- ---- Where the hashes differ they decide, else the rest does.

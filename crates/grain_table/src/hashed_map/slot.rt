@@ -1,8 +1,6 @@
 //! One activation under its hashed grain, as a map keeps it.
-ghost use Rattle.std.specs.Prelude.{◌≡◌, ◌↔◌, IfOk, IsTrue};
+ghost use Rattle.std.specs.Prelude.{◌≡◌, IfOk};
 ghost use Rattle.std.specs.BTreeMap.{is_at};
-ghost use Rattle.hash_ring.specs.Hash.{hash_grain};
-ghost use Rattle.ring_range.specs.Range.{holds};
 ghost use Rattle.grain_table.specs.Buckets.{is_before};
 ghost use Rattle.grain_table.specs.Hashed.{hashed_cmp};
 

@@ -76,14 +76,15 @@ fn buckets_between<'a>(cuts: &[u32], buckets: &'a [Bucket], first: u32, end: u64
     ensures { filter (λ e. is_between first end e.0.hash) (joined result.now) ≡ filter (λ e. is_between first end e.0.hash) (joined buckets.now) }
 {
     let start = index_under(cuts, first);
-    let last = cuts_before(cuts, end).max(start);
+    let more = cuts_before(cuts, end).saturating_sub(start);
     if buckets.len() <= start {
         return &[];
     }
-    if buckets.len() <= last {
-        return &buckets[start..];
+    let behind = &buckets[start..];
+    if behind.len() <= more {
+        return behind;
     }
-    &buckets[start..last + 1]
+    &behind[..more + 1]
 }
 
 // Whether the hash is at the first or after it, and before the end.

@@ -13,5 +13,5 @@ buckets_between-requires c =
 pub returns : goal.returns
 returns c =
     let there = λ (es : Hashed). filter (λ e. is_between c.args.first c.args.end e.0.hash) es in
-    ap there c.of-entries.ensures ∙ c.buckets_between.ensures ∙ ap (λ (l : List Hashed). there (joined l)) c.deref-2.ensures.value
+    ap there c.of.ensures ∙ c.buckets_between.ensures ∙ ap (λ (l : List Hashed). there (joined l)) c.deref-2.ensures.value
     ∙ ap there c.self.view_is

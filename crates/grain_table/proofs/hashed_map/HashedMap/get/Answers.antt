@@ -8,8 +8,9 @@ use Rattle.grain_table.proofs.Cuts.{rising}
 use Rattle.grain_table.proofs.Searched.{passes_under, reaches_under}
 use Rattle.grain_table.proofs.hashed_map.HashedMap.get.Goals as goal
 
-pub index_under-requires : goal.index_under-requires
-index_under-requires c = subst IsNonDecreasing (sym c.deref.ensures.value) (rising c.self.inside.cuts.items c.self.inside.buckets.items c.self.invariant.cut)
+pub index_under-index-requires : goal.index_under-index-requires
+index_under-index-requires c =
+    subst IsNonDecreasing (sym c.deref.ensures.value) (rising c.self.inside.cuts.items c.self.inside.buckets.items c.self.invariant.cut)
 
 pub returns-then-index-len : goal.returns-then-index-len
 returns-then-index-len c =

@@ -7,4 +7,5 @@ use Rattle.grain_table.proofs.hashed_map.keep.keep_each_hashed_into.Given as goa
 -- the buckets so far have what stays
 abbrev pub invariant-buckets : goal.invariant-buckets
 invariant-buckets l =
-    l.bucket-items ≡ map (λ (bucket : Hashed). filter (λ e. holds l.range (hash_grain l.hashing e.0.grain)) bucket) (take l.bucket-index l.fn.buckets.items) ++ drop l.bucket-index l.fn.buckets.items
+    l.bucket-items ≡ map (λ (bucket : Hashed). filter (λ e. holds l.range (hash_grain l.hashing e.0.grain)) bucket)
+    (take l.bucket-index l.fn.buckets.items) ++ drop l.bucket-index l.fn.buckets.items

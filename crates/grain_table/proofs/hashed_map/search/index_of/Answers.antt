@@ -6,5 +6,6 @@ use Rattle.grain_table.proofs.hashed_map.search.index_of.Goals as goal
 
 pub returns-clause-split : goal.returns-clause-split
 returns-clause-split c =
-    c.partition_point.ensures.partitioned (is_before c.args.key.now) (always_returns_same _ (λ a r. r ≡ is_before c.args.key.now a.0.now) _ (λ a r f called. search rules))
+    c.partition_point.ensures.partitioned (is_before c.args.key.now)
+    (always_returns_same _ (λ a r. r ≡ is_before c.args.key.now a.0.now) _ (λ a r f called. search rules))
     (parted_before c.args.key.now c.args.slots.now c.requires)

@@ -13,7 +13,8 @@ pub invariant_of-self : goal.invariant_of-self
 invariant_of-self c =
     let test = λ (e : HashedGrain × ActivationId). not (is_dead_in c.args.view.now e.1.silo) in
     let left = filter_same _ test _ (λ x b f called. search rules) c.self.inside.slots.items c.retain.new.self.items c.retain.ensures.filtered in
-    subst (λ (es : Hashed). IsStrictlySortedBy hashed_cmp (keys_of es)) (sym (c.give_room_back.ensures ∙ left)) (sorted_passed test hashed_cmp c.self.inside.slots.items c.self.invariant)
+    subst (λ (es : Hashed). IsStrictlySortedBy hashed_cmp (keys_of es)) (sym (c.give_room_back.ensures ∙ left))
+    (sorted_passed test hashed_cmp c.self.inside.slots.items c.self.invariant)
 
 pub returns : goal.returns
 returns c =

@@ -7,8 +7,8 @@ use Rattle.grain_table.proofs.InOrder.{sorted_drop, sorted_take}
 use Rattle.grain_table.proofs.Searched.{cut_there}
 use Rattle.grain_table.proofs.hashed_map.bucket.Bucket.split_off.Goals as goal
 
-pub invariant_of-self : goal.invariant_of-self
-invariant_of-self c =
+pub invariant_of-self-2 : goal.invariant_of-self-2
+invariant_of-self-2 c =
     subst (λ (es : Hashed). IsStrictlySortedBy hashed_cmp (keys_of es)) (sym (c.shrink_to_fit.ensures.items ∙ c.in_ok-slots.ensures.items))
     (sorted_take c.first_from-index.result c.self.inside.slots.items c.self.invariant)
 

@@ -13,5 +13,8 @@ invariant_of-result c =
 pub returns : goal.returns
 returns c =
     let same = same_from_all_zip (λ x y. y ≡ x) (boxed_slice_items c.self.inside.text) (boxed_slice_items c.in_ok-text.text) c.in_ok-text.ensures.cases.0 (λ x y is. is) in
-    (λ i. (record { hash = c.self.inside.hash; grain = grain_at_slash (same i) }, record { silo = c.self.inside.silo; count = c.self.inside.count }))
+    (λ i. (
+      record { hash = c.self.inside.hash; grain = grain_at_slash (same i) },
+      record { silo = c.self.inside.silo; count = c.self.inside.count },
+    ))
     ∙ c.self.view_is

@@ -11,7 +11,8 @@ use Rattle.grain_table.proofs.hashed_map.slot.Slot.is_before.Goals as goal
 pub returns-then-self-hash : goal.returns-then-self-hash
 returns-then-self-hash c =
     sym
-    (apart_before c.args.key.now.hash c.self.inside.hash (text_cmp c.args.key.now.grain (grain_at_slash (boxed_slice_items c.self.inside.text)))
+    (apart_before c.args.key.now.hash c.self.inside.hash
+    (text_cmp c.args.key.now.grain (grain_at_slash (boxed_slice_items c.self.inside.text)))
     c.if-self-hash.true)
     ∙ ap (is_before c.args.key.now) c.self.view_is
 

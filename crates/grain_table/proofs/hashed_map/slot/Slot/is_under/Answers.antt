@@ -13,7 +13,8 @@ use Rattle.grain_table.proofs.hashed_map.slot.Slot.is_under.Goals as goal
 pub returns-then-self-hash : goal.returns-then-self-hash
 returns-then-self-hash c =
     sym
-    (apart_under c.args.key.now.hash c.self.inside.hash (text_cmp c.args.key.now.grain (grain_at_slash (boxed_slice_items c.self.inside.text)))
+    (apart_under c.args.key.now.hash c.self.inside.hash
+    (text_cmp c.args.key.now.grain (grain_at_slash (boxed_slice_items c.self.inside.text)))
     c.if-self-hash.true)
     ∙ ap (λ (e : HashedGrain × ActivationId). is_at (hashed_cmp c.args.key.now) e.0) c.self.view_is
 
