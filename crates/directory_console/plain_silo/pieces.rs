@@ -142,7 +142,7 @@ impl Pieces {
 }
 
 /// Brings entries into the order of their grains.
-fn sort(entries: &mut [Entry]) {
+pub fn sort(entries: &mut [Entry]) {
     entries.sort_unstable_by(|one, other| sides(&one.0).cmp(&sides(&other.0)));
 }
 
