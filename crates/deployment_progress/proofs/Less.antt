@@ -165,7 +165,7 @@ module _ (hashing : Hashing) (node : Node) (has : HasPieces hashing node) where
     forgoes = λ letter range body there seen never. still _ refl (λ range. refl) (λ range. refl);
     lags = λ letter range seen never. still node refl (λ range. refl) (λ range. refl);
     passed = λ letter range seen never. still node refl (λ range. refl) (λ range. refl);
-    reports = λ letter range body now seen never. still node refl (λ range. refl) (λ range. refl);
+    reports = λ letter range after body now seen never. still node refl (λ range. refl) (λ range. refl);
     gathers = λ letter page gathering taken is seen never. gathers letter page gathering taken is;
     installs = λ letter page entries taken is seen never. settles page.range taken.piece _ taken.has.found taken.has.same;
     drops =

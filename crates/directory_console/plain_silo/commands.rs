@@ -168,9 +168,9 @@ impl Process {
                     self.out.letter(self.name, *from, self.seen.into(), "ask").span(piece.range);
                     self.out.word(" ").number(gathered.next).word("\n");
                 }
-                State::Recovering { awaited, .. } => {
+                State::Recovering { awaited, told, .. } => {
                     for silo in awaited {
-                        self.out.letter(self.name, *silo, self.seen.into(), "query").span(piece.range).word("\n");
+                        self.out.query(self.name, *silo, self.seen.into(), piece.range, told.get(silo));
                     }
                 }
             }

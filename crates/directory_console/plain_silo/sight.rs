@@ -61,7 +61,7 @@ impl Process {
             match from.filter(|from| !self.views.is_dead(*from, version)) {
                 _ if self.pieces.are_settled_throughout(part) => State::Settled,
                 Some(from) => State::Awaiting { from, gathered: Gathered::default() },
-                None => State::Recovering { awaited: members.clone(), reported: Default::default() },
+                None => State::recovering(members.clone()),
             }
         };
         let mut pieces = Vec::new();

@@ -1,6 +1,6 @@
 -- The relation between a world of the event rule and one of the protocol: what the rule's world has, the protocol's shows.
 -- Each clause about one silo is over that silo's values alone, and over the letters ever sent.
-use Rattle.std.specs.Prelude.{◌≡◌, ⊤, ℕ, suc, ◌*◌, ◌<◌, ◌&&◌, ◌||◌, not, nat_lt, Bool, true, List, [], ◌∷◌, Option, Some, None, length, take, All}
+use Rattle.std.specs.Prelude.{◌≡◌, ⊤, ℕ, suc, ◌*◌, ◌<◌, ◌&&◌, ◌||◌, not, nat_lt, Bool, true, false, List, [], ◌∷◌, Option, Some, None, length, take, All}
 use Rattle.std.specs.Option.{option_map}
 use Rattle.silo_address.specs.Silo.{Silo}
 use Rattle.silo_address.specs.Grain.{Grain}

@@ -16,6 +16,7 @@ ghost use Rattle.node_plans.specs.Plans.{Fits, step_by};
 use crate::{Change, Node, Plan};
 use directory_letters::{Body, Letter};
 use directory_rules::Effect;
+use host_activations::PageAsked;
 use node_plans::{are_all_of, is_recovering, lie_in, rise_behind, take_report};
 use range_recovery::{RecoveryError, RecoveryProgress, Report};
 use ring_range::RingRange;
@@ -80,9 +81,13 @@ impl Node {
     ) -> Result<Report, AllocError>
         ensures { IfOk result (λ report. report ≡ report_of self.now range after) }
     {
-        let hashing = self.settings.hashing();
-        let most = self.settings.report_size();
-        let page = self.host.firm_page(alloc, hashing, &range, after, most)?;
+        let asked = PageAsked {
+            hashing: self.settings.hashing(),
+            range,
+            after,
+            most: self.settings.report_size(),
+        };
+        let page = self.host.firm_page(alloc, &asked)?;
         let silo = self.host.silo();
         let version = self.view.version();
         Ok(Report::new(version, range, silo, after, page.entries, page.last))

@@ -125,8 +125,12 @@ by_first_pages = record {
       (inl refl) r i;
   same_version = λ r i. of_members (λ r. (told_whole r).version ≡ 3) refl refl refl r i;
   own_report = λ r i. of_members (λ r. (told_whole r).sender ≡ r) refl refl refl r i;
-  some = λ r g i f. (ann, refl, of_members (λ r. (told_whole r).firm g ≢ None → (told_whole r).firm ann ≢ None) (λ f. absurd (f refl))
-      (λ f e. cc) (λ f. absurd (f refl)) r i f);
+  some = λ r g i f. (
+    ann,
+    refl,
+    of_members (λ r. (told_whole r).firm g ≢ None → (told_whole r).firm ann ≢ None) (λ f. absurd (f refl))
+        (λ f e. cc) (λ f. absurd (f refl)) r i f,
+  );
   from_member = λ g a u e. (only_told (λ r g. told_whole r) two refl refl g a e).0;
   from_page = λ g a u e. ((ann_alone_entered g a e).0, (only_told (λ r g. told_whole r) two refl refl g a e).1);
   complete = λ g r c u i page f. ann_is_entered g page;

@@ -47,6 +47,7 @@ use Rattle.directory_rules.specs.Sent.{gathering_of, recovery_of}
 use Rattle.directory_rules.specs.Host.{renewed, renewed_about, outstanding, requests_about, is_firm, is_asking, has_numbers, has_count, is_full_of_activations, is_full_of_finds, held_of, asking_under, closing_under, is_finding, is_outstanding}
 use Rattle.directory_rules.specs.Cache.{hint_of}
 use Rattle.directory_rules.specs.Input.{Input, Sees, Does, Receives, step}
+use Rattle.directory_rules.proofs.ReportCounts.{report_counts}
 use Rattle.directory_rules.proofs.Sights.{on_circle, compared, sight_owned}
 use Rattle.directory_rules.proofs.Ranges.{ranges, Rising, holding_in, held_by_ranges, changed_ranges, stands_at, rising_arcs}
 use Rattle.directory_rules.specs.declared.own_step.OwnStep.TheVariants.{Wake, Close, Cancel, Find, Forget, Nudge, NudgeGrain, NudgeRanges, Offer}

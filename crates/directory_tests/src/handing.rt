@@ -229,7 +229,7 @@ fn take_foreign(rt: &impl Abort, alloc: Global, node: &mut Node, letter: &Letter
     takes(rt, alloc, node, &stray, Effect::Ignored);
 }
 
-// The first silo's report with this entry alone.
+// The first silo's last report, with this entry alone.
 fn reported(
     rt: &impl Abort,
     alloc: Global,
@@ -239,7 +239,7 @@ fn reported(
 ) -> Box<Letter> {
     let activation = ActivationId { silo, count: 1 };
     let entries = list_of(rt, alloc, &Entry { grain, activation });
-    let report = Report::new(2, range(rt), letter.from(), entries);
+    let report = Report::new(2, range(rt), letter.from(), None, entries, true);
     let reported = Letter::new(letter.from(), letter.to(), 2, Body::Report(report));
     posted(rt, alloc, reported)
 }

@@ -14,3 +14,4 @@ pub mod Kept
 pub mod KeptFields
 pub mod Stretch
 pub mod Firm
+pub mod Page

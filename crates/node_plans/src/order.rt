@@ -1,14 +1,17 @@
 //! Entries in the order of their grains, as pages and reports have them (`docs/RULES.md#transfer`).
 ghost use Rattle.std.specs.List.{list_all};
-ghost use Rattle.std.specs.Prelude.{◌≡◌, ◌++◌, IfOk, OnOk, fold, true};
+ghost use Rattle.std.specs.Prelude.{◌≡◌, ◌∷◌, ◌++◌, [], IfOk, OnOk, fold, true};
 ghost use Rattle.silo_address.specs.Silo.{silo_eq};
+ghost use Rattle.hash_ring.specs.Hash.{hash_grain};
+ghost use Rattle.directory_rules.specs.Standing.{rise_behind};
 ghost use Rattle.directory_rules.specs.Table.{is_before_first, lie_in, rise_by_grain, table_of, with_entry};
 
 use directory_rules::Settings;
 use grain_table::Table;
 use hash_ring::Hashing;
+use host_activations::stands_behind;
 use ring_range::RingRange;
-use silo_address::{Entry, SiloAddress};
+use silo_address::{Entry, GrainId, SiloAddress};
 use std::alloc::{AllocError, Global};
 
 /// Whether the entries stand in the order of their grains, each grain once.
@@ -33,6 +36,27 @@ fn is_before_first(entry: &Entry, entries: &[Entry]) -> bool
         Some(next) => entry.grain < next.grain,
         None => true,
     }
+}
+
+/// Whether the entries stand behind that grain in the range, and each behind the one before it; behind none from the range's start on.
+pub fn rise_behind(
+    hashing: Hashing,
+    range: RingRange,
+    after: Option<GrainId>,
+    entries: &[Entry],
+) -> bool
+    ensures { result ≡ rise_behind (hash_grain hashing) (range.now ∷ []) after entries.now }
+{
+    let mut behind = after;
+    let mut rest = entries;
+    while let Some((entry, others)) = rest.split_first() {
+        if !stands_behind(hashing, &range, behind, entry.grain) {
+            return false;
+        }
+        behind = Some(entry.grain);
+        rest = others;
+    }
+    true
 }
 
 /// Whether entries go on in the order of their grains behind those gathered. It asks that these stand in it.

@@ -258,7 +258,7 @@ module _ (settings : Settings) (views : ViewsValue) (places : PlacesValue) (silo
     forgoes = λ letter range body there brings goes so. (sends, none_goes);
     lags = λ letter range brings goes so. (sends, back letter node (Behind_letter range) refl goes.1 tt);
     passed = λ letter range brings goes so. (sends, back letter node (Ahead_letter range) refl goes.1 tt);
-    reports = λ letter range body seen brings goes so. (sends, back letter node (Report_letter (tr.report_of node range)) refl goes.1 tt);
+    reports = λ letter range after body seen brings goes so. (sends, back letter node (Report_letter (tr.report_of node range after)) refl goes.1 tt);
     gathers =
         λ letter page gathering taken is brings goes so. (sends, one_goes _ (record { from = its.silo; to = goes.1.from; tells = tt }));
     installs =

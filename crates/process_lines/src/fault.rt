@@ -50,6 +50,9 @@ pub enum LineFault {
     /// A word should be a digest.
     #[error("a digest is 64 digits from 0 to 9 and a to f")]
     Digest,
+    /// A word should say whether a report is its silo's last.
+    #[error("a report is the last or there are more: last or more")]
+    End,
     /// A word should be a number of its range.
     #[error("a number is at most 18446744073709551615, a place at most 4294967295, in decimal digits without a leading zero")]
     NotANumber,
@@ -72,7 +75,7 @@ impl LineFault {
         }
     }
 
-    /// The number by which users know the fault: 921 to 931, 101 to 103 of a silo, 111 to 113 of a grain.
+    /// The number by which users know the fault: 921 to 932, 101 to 103 of a silo, 111 to 113 of a grain.
     pub fn number(self) -> u16
         ensures { result ≡ line_fault_number self }
     {
@@ -89,6 +92,7 @@ impl LineFault {
             LineFault::Activation => 929,
             LineFault::Range => 928,
             LineFault::Digest => 930,
+            LineFault::End => 932,
             LineFault::NotANumber => 923,
         }
     }

@@ -10,13 +10,14 @@ ghost use Rattle.process_lines.specs.Short.{HasEntries};
 
 use crate::entries::{are_pairs, entries_in};
 use crate::head::Head;
-use crate::words::{FourWords, digest_word, four_words, number_word, range_word};
+use crate::words::{FourWords, digest_word, four_words, grain_word, last_word, number_word, range_word};
 use crate::{LineError, LineFault};
 use directory_letters::{Body, Letter};
 use range_recovery::Report;
 use ring_range::RingRange;
 use script_lines::{only_two_words, only_word, split_word};
 use seal_snapshot::Page;
+use silo_address::GrainId;
 use std::alloc::Global;
 
 /// A range and the number of a page.
@@ -58,11 +59,43 @@ pub(crate) fn a_done(head: Result<Head, LineFault>, words: &[u8]) -> Result<Lett
     Ok(head.letter(Body::Done(range)))
 }
 
+/// A range, and perhaps the grain behind which is asked.
 pub(crate) fn a_query(head: Result<Head, LineFault>, words: &[u8]) -> Result<Letter, LineFault>
-    ensures { told (λ letter. letter) result ≡ rule.a_range letters.Query_letter (told head_of head) (words_in words.now) }
+    ensures { told (λ letter. letter) result ≡ rule.a_query (told head_of head) (words_in words.now) }
 {
-    let (head, range) = a_range(head, words)?;
-    Ok(head.letter(Body::Query(range)))
+    let Some((range, behind)) = split_word(words) else {
+        return Err(LineFault::WordCount);
+    };
+    let Some((after, rest)) = split_word(behind) else {
+        return query_of(head, range, None);
+    };
+    if split_word(rest).is_some() {
+        return Err(LineFault::WordCount);
+    }
+    query_of(head, range, Some(after))
+}
+
+/// A query of as many words as one may have.
+fn query_of(
+    head: Result<Head, LineFault>,
+    range: &[u8],
+    after: Option<&[u8]>,
+) -> Result<Letter, LineFault> {
+    let head = head?;
+    let range = range_word(range)?;
+    let after = after_word(after)?;
+    Ok(head.letter(Body::Query { range, after }))
+}
+
+/// The grain behind which is asked or told, if a word names one.
+fn after_word(word: Option<&[u8]>) -> Result<Option<GrainId>, LineFault> {
+    match word {
+        Some(word) => {
+            let grain = grain_word(word)?;
+            Ok(Some(grain))
+        }
+        None => Ok(None),
+    }
 }
 
 pub(crate) fn a_behind(head: Result<Head, LineFault>, words: &[u8]) -> Result<Letter, LineFault>
@@ -119,7 +152,8 @@ fn page_of(
     Ok(head.letter(Body::Page(page)))
 }
 
-/// A range and the entries.
+/// A range, perhaps the grain behind which is told, whether it is the silo's last, and the entries. The grain stands there where the words
+/// behind the range are pairs.
 pub(crate) fn a_report(
     alloc: Global,
     head: Result<Head, LineFault>,
@@ -131,12 +165,32 @@ pub(crate) fn a_report(
     let Some((range, behind)) = split_word(words) else {
         return Err(LineError::Fault(LineFault::WordCount));
     };
-    if !are_pairs(behind) {
+    let Some((first, others)) = split_word(behind) else {
         return Err(LineError::Fault(LineFault::WordCount));
+    };
+    if !are_pairs(behind) {
+        return report_of(alloc, head, range, None, first, others);
     }
+    let Some((last, entries)) = split_word(others) else {
+        return Err(LineError::Fault(LineFault::WordCount));
+    };
+    report_of(alloc, head, range, Some(first), last, entries)
+}
+
+/// A report whose entries are pairs of words.
+fn report_of(
+    alloc: Global,
+    head: Result<Head, LineFault>,
+    range: &[u8],
+    after: Option<&[u8]>,
+    last: &[u8],
+    entries: &[u8],
+) -> Result<Letter, LineError> {
     let head = head?;
     let range = range_word(range)?;
-    let entries = entries_in(alloc, behind)?;
-    let report = Report::new(head.version, range, head.from, entries);
+    let after = after_word(after)?;
+    let last = last_word(last)?;
+    let entries = entries_in(alloc, entries)?;
+    let report = Report::new(head.version, range, head.from, after, entries, last);
     Ok(head.letter(Body::Report(report)))
 }

@@ -140,6 +140,19 @@ fn spelled(digest: [u8; 32], word: &[u8]) -> Result<[u8; 32], LineFault>
     }
 }
 
+/// Reads whether a report is its silo's last.
+pub(crate) fn last_word(word: &[u8]) -> Result<bool, LineFault>
+    ensures { told (λ last. last) result ≡ rule.last_word word.now }
+{
+    if word == b"last".as_slice() {
+        return Ok(true);
+    }
+    if word == b"more".as_slice() {
+        return Ok(false);
+    }
+    Err(LineFault::End)
+}
+
 /// A digest's text.
 pub(crate) fn digest_text(digest: &[u8; 32]) -> [u8; 64]
     ensures { result ≡ encode_lower digest.now }

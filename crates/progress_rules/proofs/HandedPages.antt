@@ -236,7 +236,7 @@ module _ (node : Node) where
     forgoes = λ letter range body there. forgone letter range body;
     lags = λ letter range. sends (Receives letter) node _ _ refl refl (one_tells node _ tt);
     passed = λ letter range. sends (Receives letter) node _ _ refl refl (one_tells node _ tt);
-    reports = λ letter range body seen. sends (Receives letter) node _ _ refl refl (one_tells node _ tt);
+    reports = λ letter range after body seen. sends (Receives letter) node _ _ refl refl (one_tells node _ tt);
     gathers =
         λ letter page gathering taken is. sends (Receives letter) (with_gathering node gathering) _ _ refl refl
         (one_tells (with_gathering node gathering) _ tt);

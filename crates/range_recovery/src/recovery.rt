@@ -1,11 +1,8 @@
-ghost use Rattle.std.specs.Prelude.{◌≡◌, ◌↔◌, ◌==◌, ◌&&◌, length, IsTrue, IfOk, IfErr, OnOk, OnErr, Ok, Some, true, false, if◌then◌else◌};
+ghost use Rattle.std.specs.Prelude.{◌≡◌, ◌↔◌, ◌==◌, ◌&&◌, IsTrue, IfOk, IfErr, OnOk, OnErr, Ok, Some, true, false};
 ghost use Rattle.ring_range.specs.Range.{range_eq};
 ghost use Rattle.directory_rules.specs.Recovery.{new_recovery, recovered, told_by, with_last, with_more, with_report};
-ghost use Rattle.silo_address.specs.Grain.{grain_eq};
-ghost use Rattle.std.specs.Option.{option_eq};
 ghost use Rattle.range_recovery.specs.Silos.{has_reported, silos_in};
 ghost use Rattle.range_recovery.specs.Kept.{IsRecovery};
-ghost use Rattle.range_recovery.specs.declared.progress.RecoveryProgress.TheVariants.{Complete, Continues, More};
 ghost use Rattle.range_recovery.specs.Progress.{Reaches, Refuses, RefusesOrLacksMemory, after_one_more, progress_of};
 
 use crate::gather::{gather, take_out};
@@ -106,7 +103,6 @@ impl Recovery {
         if !self.is_asked_for(report) {
             return Err(RecoveryError::WrongVersion);
         }
-        self.silos.whole();
         let silo = report.silo();
         match self.silos.has_reported(&silo) {
             Some(false) => self.progress_of_awaited(report),
@@ -117,12 +113,14 @@ impl Recovery {
 
     // What would come of the report of a silo that is awaited.
     fn progress_of_awaited(&self, report: &Report) -> Result<RecoveryProgress, RecoveryError>
-        ensures judged { IfOk result (λ progress. progress ≡ (if report.now.last then after_one_more self.now else Continues)) }
-        ensures turn { IfOk result (λ progress. option_eq grain_eq report.now.after (told_by report.now.silo self.now) ≡ true) }
-        ensures refused { IfErr result (λ fault. fault ≡ RecoveryError.OutOfTurn) }
-        ensures no_turn { OnErr result (option_eq grain_eq report.now.after (told_by report.now.silo self.now) ≡ false) }
+        requires asked { ((report.now.version == self.now.version) && range_eq report.now.range self.now.range) ≡ true }
+        requires waits { has_reported (silos_in self.now) report.now.silo ≡ Some false }
+        ensures judged { IfOk result (λ progress. progress_of (recovered self.now report.now) ≡ Ok progress) }
+        ensures refused { IfErr result (Refuses self.now report.now) }
     {
-        if report.after() != self.told_by(&report.silo()) {
+        self.silos.whole();
+        let goes_on = report.after() == self.told_by(&report.silo());
+        if !goes_on {
             return Err(RecoveryError::OutOfTurn);
         }
         if report.is_last() {
@@ -162,13 +160,14 @@ impl Recovery {
         ensures unchanged { OnErr result (self.new ≡ self.old) }
     {
         let progress = self.progress_with(report)?;
-        let taken = match progress {
-            RecoveryProgress::Continues => self.take_more(report),
-            RecoveryProgress::More | RecoveryProgress::Complete => self.take_last(report),
+        let taken = if report.is_last() {
+            self.take_last(report)
+        } else {
+            self.take_more(report)
         };
         match taken {
             Ok(()) => Ok(progress),
-            Err(AllocError) => Err(RecoveryError::OutOfMemory),
+            Err(_) => Err(RecoveryError::OutOfMemory),
         }
     }
 
@@ -178,9 +177,10 @@ impl Recovery {
         ensures taken { OnOk result (self.new ≡ with_last self.old report.now) }
         ensures unchanged { OnErr result (self.new ≡ self.old) }
     {
-        drop(gather(self.alloc, &mut self.gathered, report.entries())?);
-        self.silos.mark(&report.silo());
-        drop(self.told.remove(&report.silo()));
+        let _new = gather(self.alloc, &mut self.gathered, report.entries())?;
+        let silo = report.silo();
+        self.silos.mark(&silo);
+        self.told.remove(&silo);
         Ok(())
     }
 
@@ -195,9 +195,9 @@ impl Recovery {
         };
         match self.told.insert(report.silo(), last) {
             Ok(_) => Ok(()),
-            Err(fault) => {
+            Err(_) => {
                 take_out(&mut self.gathered, new);
-                Err(fault)
+                Err(AllocError)
             }
         }
     }
@@ -214,6 +214,7 @@ impl Recovery {
         ensures { IsRecovery self.now }
     {
         self.silos.whole();
+        let _told = self.told.len();
         let gathered = &self.gathered;
         gathered.whole();
     }

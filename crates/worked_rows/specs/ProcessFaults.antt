@@ -119,7 +119,7 @@ faulty_lines = record {
       ∷ codes "fault 922"
       ∷ codes "fault 930"
       ∷ codes "fault 930"
-      ∷ codes "fault 922"
+      ∷ codes "fault 932"
       ∷ codes "pong once"
       ∷ codes "version 0"
       ∷ codes "silo 10.0.0.1:1000@1 unknown seen 0 held 0"

@@ -46,6 +46,11 @@ impl Range {
         hash.wrapping_sub(self.start) <= self.last
     }
 
+    /// How many steps forward from the start a hash comes.
+    pub fn steps_to(&self, hash: u32) -> u32 {
+        hash.wrapping_sub(self.start)
+    }
+
     /// The hash behind the last one.
     pub fn end(&self) -> u32 {
         self.start.wrapping_add(self.last).wrapping_add(1)

@@ -1,5 +1,5 @@
 use Rattle.std.proofs.Common.{rules}
-use Rattle.host_activations.proofs.activations.firm.is_firm.Goals as goal
+use Rattle.host_activations.proofs.activations.page.is_firm.Goals as goal
 
 pub returns-in-Asking : goal.returns-in-Asking
 returns-in-Asking c = search rules

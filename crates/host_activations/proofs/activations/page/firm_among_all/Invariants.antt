@@ -1,6 +1,6 @@
 use Rattle.std.proofs.Common.{drop, ◌≡◌, ◌++◌}
 use Rattle.host_activations.specs.Firm.{firm_counts}
-use Rattle.host_activations.proofs.activations.firm.firm_among_all.Given as goal
+use Rattle.host_activations.proofs.activations.page.firm_among_all.Given as goal
 
 -- with those that are left, all are listed
 abbrev pub invariant-loop-index : goal.invariant-loop-index

@@ -3,7 +3,7 @@ use Rattle.std.specs.List.{AllByRecursion}
 use Rattle.host_activations.specs.ByHash.{IsUnder}
 use Rattle.host_activations.specs.Firm.{firm_counts}
 use Rattle.host_activations.specs.Stretch.{standing_at}
-use Rattle.host_activations.proofs.activations.firm.list_stretch.Given as goal
+use Rattle.host_activations.proofs.activations.page.list_stretch.Given as goal
 
 -- with those that are left, all of the stretch are listed
 abbrev pub invariant-stretch : goal.invariant-stretch

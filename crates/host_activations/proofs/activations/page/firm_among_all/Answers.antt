@@ -1,6 +1,6 @@
 use Rattle.std.proofs.Common.{sym}
 use Rattle.host_activations.proofs.FirmCounts.{counts_on}
-use Rattle.host_activations.proofs.activations.firm.firm_among_all.Goals as goal
+use Rattle.host_activations.proofs.activations.page.firm_among_all.Goals as goal
 
 pub loop-index-preserved : goal.loop-index-preserved
 loop-index-preserved c =

@@ -1,0 +1,45 @@
+//! In which order reports tell what is firm in a range (`docs/RULES.md#recovery`).
+ghost use Rattle.std.specs.Prelude.{◌≡◌, ◌∷◌, []};
+ghost use Rattle.hash_ring.specs.Hash.{hash_grain};
+ghost use Rattle.directory_rules.specs.Standing.{stands_behind, steps_to};
+ghost use Rattle.ring_range.specs.Range.{distance};
+
+use hash_ring::Hashing;
+use ring_range::RingRange;
+use silo_address::GrainId;
+
+/// How many hashes of the range come before this one; all of them, where the range doesn't have it.
+pub fn steps_to(range: &RingRange, hash: u32) -> u64
+    ensures { result ≡ steps_to (range.now ∷ []) hash }
+{
+    if range.contains(hash) {
+        u64::from(distance(range.start(), hash))
+    } else {
+        range.size()
+    }
+}
+
+// How many steps forward from the start the hash comes.
+fn distance(start: u32, hash: u32) -> u32
+    ensures { result ≡ distance start hash }
+{
+    hash.wrapping_sub(start)
+}
+
+/// Whether the grain stands behind that one in the range: its hash does, or it has the same and the grain is above. Each grain stands
+/// behind none.
+pub fn stands_behind(
+    hashing: Hashing,
+    range: &RingRange,
+    after: Option<GrainId>,
+    grain: GrainId,
+) -> bool
+    ensures { result ≡ stands_behind (hash_grain hashing) (range.now ∷ []) after grain }
+{
+    let Some(after) = after else {
+        return true;
+    };
+    let steps = steps_to(range, hashing.hash_grain(&grain));
+    let steps_after = steps_to(range, hashing.hash_grain(&after));
+    (steps_after, after) < (steps, grain)
+}
