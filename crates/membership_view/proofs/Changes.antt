@@ -416,8 +416,10 @@ join_step views whole silo newest kept = record {
 
         on : (newer : Silo) → is_newer newer q ≡ true → IsSome (row_status views.version views.rows newer)
             → IsSome (row_status (views.version + 1) after newer)
-        on newer above there = absurd (not_lower (let high = lower_found newer (newer_shares silo q newer shares above) there in
-        let low = (newer_parts newer q above).1 in omega (high, low, arith)))
+        on newer above there =
+            let high = lower_found newer (newer_shares silo q newer shares above) there in
+            let low = (newer_parts newer q above).1 in
+            absurd (not_lower (omega (high, low, arith)))
 
         back : (newer : Silo) → is_newer newer q ≡ true → IsSome (row_status (views.version + 1) after newer)
             → IsSome (row_status views.version views.rows newer)
