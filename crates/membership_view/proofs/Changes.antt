@@ -35,10 +35,10 @@ at_itself : (silo : Silo) → is_at (silo_cmp silo) silo ≡ true
 at_itself silo = ap is_eq (tied_itself silo_cmp_total silo)
 
 -- the statuses in the current view, and in the next one
-now_is : (views : ViewsValue) → IsViews views → (q : Silo) → status_at views views.version q ≡ row_status views.version views.rows q
+pub now_is : (views : ViewsValue) → IsViews views → (q : Silo) → status_at views views.version q ≡ row_status views.version views.rows q
 now_is views whole q = status_at-made views whole.in_order views.version q (omega arith)
 
-next_is : (views : ViewsValue) (rows : List (Silo × Row)) → IsViews (next_views views rows) → (q : Silo)
+pub next_is : (views : ViewsValue) (rows : List (Silo × Row)) → IsViews (next_views views rows) → (q : Silo)
     → status_at (next_views views rows) (views.version + 1) q ≡ row_status (views.version + 1) rows q
 next_is views rows whole q = status_at-made (next_views views rows) whole.in_order (views.version + 1) q (omega arith)
 
@@ -53,7 +53,7 @@ still views whole q = by (found_row views.rows q) refl
     by (Some row) is = status_next views.version row (whole.in_time q row is)
 
 -- all but one silo are what they were
-others : (views : ViewsValue) (whole : IsViews views) (change : Row → Row) (silo : Silo) (row : Row) → row_of views silo ≡ Some row
+pub others : (views : ViewsValue) (whole : IsViews views) (change : Row → Row) (silo : Silo) (row : Row) → row_of views silo ≡ Some row
     → IsViews (next_views views (changed change silo views.rows)) → (q : Silo) → q ≢ silo
     → status_at (next_views views (changed change silo views.rows)) (views.version + 1) q ≡ status_at views views.version q
 others views whole change silo row found kept q ne =
@@ -65,7 +65,7 @@ others views whole change silo row found kept q ne =
     ∙ sym (now_is views whole q)
 
 -- and the one is what its changed row says
-itself : (views : ViewsValue) (change : Row → Row) (silo : Silo) (row : Row) → row_of views silo ≡ Some row
+pub itself : (views : ViewsValue) (change : Row → Row) (silo : Silo) (row : Row) → row_of views silo ≡ Some row
     → IsViews (next_views views (changed change silo views.rows))
     → status_at (next_views views (changed change silo views.rows)) (views.version + 1) silo ≡ status_in (views.version + 1) (change row)
 itself views change silo row found kept =
@@ -249,7 +249,7 @@ dies None h = cc
 dies (Some status) h = refl
 
 -- an older silo of the endpoint is Dead
-older_says : (views : ViewsValue) → IsViews views → (silo : Silo) → is_newest silo views.rows ≡ true → (q : Silo) → IsSameEndpoint silo q
+pub older_says : (views : ViewsValue) → IsViews views → (silo : Silo) → is_newest silo views.rows ≡ true → (q : Silo) → IsSameEndpoint silo q
     → q ≢ silo
     → row_status (views.version + 1) (joined_rows silo (views.version + 1) views.rows) q ≡ option_map (λ _. Dead)
     (row_status views.version views.rows q)
@@ -279,7 +279,7 @@ older_says views whole silo newest q same ne = elim (other_is silo (views.versio
     ]
 
 -- a silo of another endpoint is what it was
-foreign_says : (views : ViewsValue) → IsViews views → (silo : Silo) → is_newest silo views.rows ≡ true → (q : Silo)
+pub foreign_says : (views : ViewsValue) → IsViews views → (silo : Silo) → is_newest silo views.rows ≡ true → (q : Silo)
     → ¬ (IsSameEndpoint silo q)
     → row_status (views.version + 1) (joined_rows silo (views.version + 1) views.rows) q ≡ row_status views.version views.rows q
 foreign_says views whole silo newest q other = elim (other_is silo (views.version + 1) views.rows whole.in_order newest q ne) [

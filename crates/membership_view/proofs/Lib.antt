@@ -19,5 +19,6 @@ pub mod Searches
 pub mod Accepted
 pub mod Said
 pub mod DeadViews
+pub mod Absent
 pub mod KnownEndpoint
 pub mod Beginnings
