@@ -19,4 +19,4 @@ line_fault_number Activation = 929
 line_fault_number Range = 928
 line_fault_number Digest = 930
 line_fault_number NotANumber = 923
-line_fault_number Listed = 932
+line_fault_number Listed = 933

@@ -75,7 +75,7 @@ impl LineFault {
         }
     }
 
-    /// The number by which users know the fault: 921 to 932, 101 to 103 of a silo, 111 to 113 of a grain.
+    /// The number by which users know the fault: 921 to 933, 101 to 103 of a silo, 111 to 113 of a grain.
     pub fn number(self) -> u16
         ensures { result ≡ line_fault_number self }
     {
@@ -93,7 +93,7 @@ impl LineFault {
             LineFault::Range => 928,
             LineFault::Digest => 930,
             LineFault::NotANumber => 923,
-            LineFault::Listed => 932,
+            LineFault::Listed => 933,
         }
     }
 }
