@@ -41,7 +41,7 @@ module _ (f later : World) (before : ArePeopled f.views f.nodes) (after : ArePeo
       lives : is_some (node_of later silo) ≡ true
       lives =
           let was : is_member_in (view_at f.views f.views.version) silo ≡ true =
-              live_said f.views before.whole f.views.version (omega arith) silo ∙ sym (before.live silo) ∙ ap is_some there in
+          live_said f.views before.whole f.views.version (omega arith) silo ∙ sym (before.live silo) ∙ ap is_some there in
           let low = on.version in
           after.live silo ∙ sym (live_said later.views after.whole later.views.version (omega arith) silo)
           ∙ member_stays later.views after.whole silo f.views.version later.views.version low (omega arith)

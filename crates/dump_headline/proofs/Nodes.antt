@@ -57,7 +57,7 @@ module _ (hash : Grain → ℕ) (f : World) (facts : WorldFacts hash f) where
   unfolding dump_of
   not_dead silo node there =
       let live : is_live (status_of (view_at f.views f.views.version) silo) ≡ true =
-          live_said f.views facts.peopled.whole f.views.version (omega arith) silo ∙ sym (facts.peopled.live silo) ∙ ap is_some there in
+      live_said f.views facts.peopled.whole f.views.version (omega arith) silo ∙ sym (facts.peopled.live silo) ∙ ap is_some there in
       ap (λ view. not (is_dead_in view silo)) (dumped_view f facts.peopled.whole f.views.version (omega arith))
       ∙ ap not (live_not_dead (status_of (view_at f.views f.views.version) silo) live)
 

@@ -38,19 +38,19 @@ module _ (views : ViewsValue) (whole : IsViews views) (silo : Silo) (earlier lat
       let two = newer_parts it.newer silo it.is in
       let same = (Decides-shares silo it.newer).0 two.0 in
       let come : has_come row.0.dead newer.0.joined ≡ true =
-          whole.older_dead silo it.newer row.0 newer.0 row.1.0 newer.1.0 (sym same.0, sym same.1) two.1 in
+      whole.older_dead silo it.newer row.0 newer.0 row.1.0 newer.1.0 (sym same.0, sym same.1) two.1 in
       let joined : newer.0.joined ≤ earlier =
-          joined_since views.version earlier newer.0 (whole.in_time it.newer newer.0 newer.1.0)
-          (subst (λ o. IsSome o) (sym newer.1.1) refl) in
+      joined_since views.version earlier newer.0 (whole.in_time it.newer newer.0 newer.1.0)
+      (subst (λ o. IsSome o) (sym newer.1.1) refl) in
       let dead : status_in later row.0 ≡ Some Dead =
-          dead_by_come later row.0 (has_come_later row.0.dead newer.0.joined later (omega (joined, upto, arith)) come) in
+      dead_by_come later row.0 (has_come_later row.0.dead newer.0.joined later (omega (joined, upto, arith)) come) in
       cc (sym row.1.1 ∙ dead)
 
   stays_outlived : outlived_in earlier views.rows silo ≡ true → outlived_in later views.rows silo ≡ true
   stays_outlived is =
       let it = outlived_only earlier views.rows whole.in_order silo is in
       let was : IsSome (status_at views earlier it.newer) =
-          subst (λ o. IsSome o) (sym (status_at-made views whole.in_order earlier it.newer (omega (upto, made, arith)) ∙ it.there)) refl in
+      subst (λ o. IsSome o) (sym (status_at-made views whole.in_order earlier it.newer (omega (upto, made, arith)) ∙ it.there)) refl in
       let still = some_status (status_at views later it.newer) (rows_stay views whole it.newer earlier later upto made was) in
       outlived_if later views.rows whole.in_order silo it.newer still.0
       (sym (status_at-made views whole.in_order later it.newer made) ∙ still.1) it.is
@@ -74,7 +74,7 @@ module _ (views : ViewsValue) (whole : IsViews views) (silo : Silo) (earlier lat
           ap (λ o. or_outlived o (outlived_in later views.rows silo)) refl ∙ now (at later silo) refl outlived
       by (Some status) is b outlived h =
           let was : status_at views earlier silo ≡ Some Dead =
-              status_at-made views whole.in_order earlier silo (omega (upto, made, arith)) ∙ is ∙ h in
+          status_at-made views whole.in_order earlier silo (omega (upto, made, arith)) ∙ is ∙ h in
           let still = dead_stays_dead views whole silo earlier later upto made was in
           ap (λ o. or_outlived o (outlived_in later views.rows silo))
           (sym (status_at-made views whole.in_order later silo made) ∙ still)

@@ -81,9 +81,9 @@ known_last silo rows s newest last row found before greatest = by (shares_endpoi
     shares it =
         let earlier = before_newest silo rows newest it in
         let upto : is_gt (silo_cmp it.other last) ≡ false =
-            ap is_gt (silo_cmp_total.antisymm it.other last) ∙ upto_from (silo_cmp last it.other) (greatest it.other earlier (ap is_some it.found)) in
+        ap is_gt (silo_cmp_total.antisymm it.other last) ∙ upto_from (silo_cmp last it.other) (greatest it.other earlier (ap is_some it.found)) in
         let one : shares_endpoint it.other last ≡ true =
-            shares_between it.other last silo upto (ap is_gt before) (shares_back silo it.other it.shares) in
+        shares_between it.other last silo upto (ap is_gt before) (shares_back silo it.other it.shares) in
         shares_along silo it.other last it.shares one
 
     by : (b : Bool) → shares_endpoint silo last ≡ b → b ≡ is_known_endpoint silo rows

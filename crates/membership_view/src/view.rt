@@ -158,11 +158,7 @@ fn show_last(
 }
 
 // A silo that isn't listed, but would be at that index, is Dead where the row there is of its endpoint.
-fn outlived_at(
-    rows: &[(SiloAddress, Status)],
-    index: usize,
-    silo: &SiloAddress,
-) -> Option<Status>
+fn outlived_at(rows: &[(SiloAddress, Status)], index: usize, silo: &SiloAddress) -> Option<Status>
     ensures { result ≡ outlived_at rows.now index silo.now }
 {
     let (next, _) = rows.get(index)?;

@@ -197,7 +197,7 @@ module _ (d : Deployment) (silo : Silo) (s : SiloValue) (there : process_of d si
       by (Ok m) is =
           let its = decided_so m is in
           let so : told_view s.node.settings s.membership silo version (listing_of d.membership version) ≡ Ok m =
-              ap (λ q. told_view s.node.settings s.membership q version (listing_of d.membership version)) (sym own) ∙ its.1 in
+          ap (λ q. told_view s.node.settings s.membership q version (listing_of d.membership version)) (sym own) ∙ its.1 in
           let line = sentence (codes "view" ∷ decimal version ∷ codes "begins" ∷ []) in
           record {
             steps = deployment.Begin silo version ∷ [];
