@@ -15,7 +15,7 @@ use crate::words::place_word;
 use crate::{Asked, LineError, LineFault, number_word, silo_word};
 use directory_rules::Listed;
 use membership_view::Status;
-use script_lines::{split_word, status_word};
+use script_lines::split_word;
 use std::alloc::Global;
 use texts::first_position;
 
@@ -199,10 +199,10 @@ fn split_at(bytes: &[u8], mark: u8) -> Option<(&[u8], &[u8])>
 fn status_named(word: &[u8]) -> Option<Status>
     ensures { result ≡ rule.status_named word.now }
 {
-    for status in [Status::Active, Status::Leaving, Status::Dead] {
-        if word == status_word(status) {
-            return Some(status);
-        }
+    match word {
+        b"active" => Some(Status::Active),
+        b"leaving" => Some(Status::Leaving),
+        b"dead" => Some(Status::Dead),
+        _ => None,
     }
-    None
 }
