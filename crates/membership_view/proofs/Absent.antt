@@ -1,6 +1,7 @@
 -- Who isn't known stays so until it joins itself.
-use Rattle.std.proofs.Common.{◌≡◌, ◌≢◌, inl, inr, ◌+◌, ⊤, IsSome, Option, Some, None, Ok, true, refl, sym, ◌∙◌, ap, arith, subst, option_and_then}
+use Rattle.std.proofs.Common.{◌≡◌, ◌≢◌, inl, inr, ◌+◌, IsSome, Option, Some, None, Ok, true, refl, sym, ◌∙◌, ap, arith, subst, option_and_then}
 use Rattle.std.specs.Option.{option_map}
+use Rattle.std.specs.Prelude.{⊤}
 use Rattle.texts.proofs.Decided.{decided}
 use Rattle.silo_address.specs.Silo.{Silo}
 use Rattle.membership_view.specs.declared.row.Row.{Row}
@@ -25,7 +26,7 @@ IsNoJoinOf own (Die silo) = ⊤
 module _ (views next : ViewsValue) (whole : IsViews views) (own : Silo) (absent : status_at views views.version own ≡ None) where
   other_than : (silo : Silo) → IsSome (status_at views views.version silo) → own ≢ silo
   other_than silo there same =
-      let gone : IsSome None = subst (λ (o : Option Status). IsSome o) (ap (λ s. status_at views views.version s) (sym same) ∙ absent) there in
+      let gone : IsSome {T = Status} None = subst (λ (o : Option Status). IsSome o) (ap (λ s. status_at views views.version s) (sym same) ∙ absent) there in
       cc (gone)
 
   pub absent_stays : (way : Change) → IsNoJoinOf own way → after views way ≡ Ok next → status_at next next.version own ≡ None

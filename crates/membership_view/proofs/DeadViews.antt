@@ -1,5 +1,6 @@
 -- Who is Dead in a view stays so in all later ones, be it listed or left out.
 use Rattle.std.proofs.Common.{◌≡◌, ℕ, ◌≤◌, Bool, true, false, IsSome, Option, Some, None, refl, sym, ◌∙◌, ap, arith, subst, option_and_then}
+use Rattle.std.proofs.lemmas.Option.{same_Some}
 use Rattle.silo_address.specs.Silo.{Silo}
 use Rattle.membership_view.specs.declared.row.Row.{Row}
 use Rattle.membership_view.specs.declared.status.Status.{Status}
@@ -38,13 +39,13 @@ module _ (views : ViewsValue) (whole : IsViews views) (silo : Silo) (earlier lat
       let two = newer_parts it.newer silo it.is in
       let same = (Decides-shares silo it.newer).0 two.0 in
       let come : has_come row.0.dead newer.0.joined ≡ true =
-      whole.older_dead silo it.newer row.0 newer.0 row.1.0 newer.1.0 (sym same.0, sym same.1) two.1 in
+      whole.older_dead silo it.newer row.0 newer.0 row.1 newer.1 (sym same.0, sym same.1) two.1 in
       let joined : newer.0.joined ≤ earlier =
-      joined_since views.version earlier newer.0 (whole.in_time it.newer newer.0 newer.1.0)
-      (subst (λ o. IsSome o) (sym newer.1.1) refl) in
+      joined_since views.version earlier newer.0 (whole.in_time it.newer newer.0 newer.1)
+      (subst (λ o. IsSome o) (sym newer.2) refl) in
       let dead : status_in later row.0 ≡ Some Dead =
       dead_by_come later row.0 (has_come_later row.0.dead newer.0.joined later (omega (joined, upto, arith)) come) in
-      cc (sym row.1.1 ∙ dead)
+      same_Some status Dead (sym row.2 ∙ dead)
 
   stays_outlived : outlived_in earlier views.rows silo ≡ true → outlived_in later views.rows silo ≡ true
   stays_outlived is =

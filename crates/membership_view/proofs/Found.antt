@@ -22,7 +22,7 @@ none_where x h = cc
 
 module _ {K X : Type 0} {R : K → K → Ordering} (o : IsTotalOrder R) where
   -- a key that is found among keys above another is above it
-  found_above : (j q : K) (x : X) (es : List (K × X)) → AllByRecursion (λ y. R j y ≡ Less) (keys_of es) → lookup (is_at (R q)) es ≡ Some x
+  pub found_above : (j q : K) (x : X) (es : List (K × X)) → AllByRecursion (λ y. R j y ≡ Less) (keys_of es) → lookup (is_at (R q)) es ≡ Some x
       → R j q ≡ Less
   found_above j q x [] above found = cc
   found_above j q x (e ∷ es) above found = by (R q e.0) refl found (found_above j q x es above.1)

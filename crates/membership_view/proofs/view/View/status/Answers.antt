@@ -1,6 +1,7 @@
 use Rattle.std.proofs.Common.{sym, length, rules, subst, ap, ◌∙◌, ◌<◌}
 use Rattle.std.proofs.lemmas.List.Sorted.{answers_always}
 use Rattle.membership_view.specs.View.{is_outlived, or_outlived}
+use Rattle.membership_view.specs.Listing.{outlived_at}
 use Rattle.membership_view.proofs.Search.{lookup_hit, status_miss}
 use Rattle.membership_view.proofs.view.View.status.Goals as goal
 
@@ -14,4 +15,8 @@ returns-in-Ok c =
     (rw c.deref.ensures.value at at) c.index.ensures)))
 
 pub returns-in-Err : goal.returns-in-Err
-returns-in-Err c = ?
+returns-in-Err c =
+    let at = c.in-Err.ensures.position (λ y. y.0) (answers_always _ _ _ (λ f a r g called. search rules)) in
+    rw (← c.self.view_is)
+    (c.outlived_at.ensures ∙ ap (λ l. outlived_at l c.in-Err.index c.args.silo.now) c.deref-in-Err.ensures.value
+    ∙ status_miss c.self.inside.rows.items c.self.invariant c.args.silo.now c.in-Err.index (rw c.deref.ensures.value at at))
