@@ -161,13 +161,16 @@ lookup_listed q (a ∷ rest) s =
     own at =
         ap (λ k. is_spare (a ∷ rest) k a.1) (silo_cmp_exact q a.0 at) ∙ spare_same a rest a.0 a.1 (not_itself_newer a.0)
 
-    other : (b : Bool) → is_eq (silo_cmp q a.0) ≡ false → found_in q (listed_rows rest) ≡ unless_spare rest q (found_in q rest)
-        → found_in q (cond (not b) (a ∷ listed_rows rest) (listed_rows rest)) ≡ unless_spare (a ∷ rest) q (found_in q (a ∷ rest))
-    other true apart later =
+    passed : is_eq (silo_cmp q a.0) ≡ false → found_in q (listed_rows rest) ≡ unless_spare rest q (found_in q rest)
+        → found_in q (listed_rows rest) ≡ unless_spare (a ∷ rest) q (found_in q (a ∷ rest))
+    passed apart later =
         later ∙ unless_same a rest q (found_in q rest) behind
         ∙ ap (λ t. unless_spare (a ∷ rest) q (cond t (Some a.1) (found_in q rest))) (sym apart)
-    other false apart later =
-        ap (λ t. cond t (Some a.1) (found_in q (listed_rows rest))) apart ∙ other true apart later
+
+    other : (b : Bool) → is_eq (silo_cmp q a.0) ≡ false → found_in q (listed_rows rest) ≡ unless_spare rest q (found_in q rest)
+        → found_in q (cond (not b) (a ∷ listed_rows rest) (listed_rows rest)) ≡ unless_spare (a ∷ rest) q (found_in q (a ∷ rest))
+    other true apart later = passed apart later
+    other false apart later = ap (λ t. cond t (Some a.1) (found_in q (listed_rows rest))) apart ∙ passed apart later
 
     by : (r : Ordering) → silo_cmp q a.0 ≡ r → (b : Bool) → is_spare rest a.0 a.1 ≡ b
         → found_in q (listed_rows rest) ≡ unless_spare rest q (found_in q rest)
