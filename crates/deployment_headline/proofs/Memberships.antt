@@ -210,6 +210,9 @@ still_known settings m n (c ∷ cs) are leads q row found =
     let later = still_known settings next n cs its.are leads.2 q one.its one.found in
     record { its = later.its; found = later.found; joined = later.joined ∙ one.joined }
 
+abbrev joined_at : Option Row → ℕ
+joined_at o = unwrap_or (option_map (λ (r : Row). r.joined) o) 0
+
 -- who was told of its own join, which came after the version with which its views begin, sees by all changes what it sees by those
 pub still_seeable : (m n : Membership) (silo : Silo) (version : ℕ) → IsViews m.views → m.views.version ≤ n.views.version
     → ((row : Row) → row_of m.views silo ≡ Some row → (m.views.first < row.joined) × IsStill n.views silo row)
@@ -217,9 +220,6 @@ pub still_seeable : (m n : Membership) (silo : Silo) (version : ℕ) → IsViews
     → (m.views.first < version) × (version ≤ m.views.version) × (is_seeable n silo version ≡ true)
 still_seeable m n silo version whole upto own told seeable = by (row_of m.views silo) refl
   where
-    abbrev joined_at : Option Row → ℕ
-    joined_at o = unwrap_or (option_map (λ (r : Row). r.joined) o) 0
-
     within : version ≤ m.views.version
     within = leb-true version m.views.version (both (nat_le version m.views.version) (nat_le (joined_at (row_of m.views silo)) version) seeable).0
 

@@ -69,6 +69,10 @@ told_alive Active places silo alive = refl
 told_alive Leaving places silo alive = refl
 told_alive Dead places silo alive = absurd (alive refl)
 
+-- not there, or Dead
+abbrev IsOther : Option Status → Type 0
+IsOther o = (o ≡ None) ⊎ (o ≡ Some Dead)
+
 module _ (settings : Settings) (told : PlacesValue) where
   one_listed : (m next last : Membership) (e : Silo × Status) (rows : List (Silo × Status)) → Sorted (e ∷ rows)
       → IsListed settings m (listing told e) next → AreListed told next last rows → AreListed told m last (e ∷ rows)
@@ -79,20 +83,17 @@ module _ (settings : Settings) (told : PlacesValue) where
     points = later.points ∙ one.points;
     row = λ q.
         later.row q
-        ∙ ap (λ n. either (row_of next.views q) (option_map (beginning n) (found q))) first_same
-        ∙ ap (λ o. either o (option_map (beginning m.views.first) (found q))) (put q)
+        ∙ ap (λ n. either (row_of next.views q) (option_map (beginning n) (lookup (is_at (silo_cmp q)) rows))) first_same
+        ∙ ap (λ o. either o (option_map (beginning m.views.first) (lookup (is_at (silo_cmp q)) rows))) (put q)
         ∙ row_by q (silo_cmp q e.0) refl;
     alive = λ q status there lives. alive_by q status lives (silo_cmp q e.0) refl there;
     other = λ q none. other_by q (silo_cmp q e.0) refl none;
   }
     where
-      abbrev found : Silo → Option Status
-      found q = lookup (is_at (silo_cmp q)) rows
-
       first_same : next.views.first ≡ m.views.first
       first_same = ap (λ (v : ViewsValue). v.first) one.viewed.is
 
-      gone : (q : Silo) → silo_cmp q e.0 ≡ Equal → found q ≡ None
+      gone : (q : Silo) → silo_cmp q e.0 ≡ Equal → (lookup (is_at (silo_cmp q)) rows) ≡ None
       gone q at =
           lookup-none (is_at (silo_cmp q)) rows (none_past_head (eq_by_cmp_equiv silo_cmp_total) q e rows
           (IsDistinct-from_sorted silo_cmp (keys_of (e ∷ rows)) s) (ap is_eq at))
@@ -103,18 +104,18 @@ module _ (settings : Settings) (told : PlacesValue) where
           ∙ lookup-insert_entry silo_cmp_total e.0 (beginning m.views.first e.1) q m.views.rows
 
       row_by : (q : Silo) (r : Ordering) → silo_cmp q e.0 ≡ r
-          → either (cond (is_at (silo_cmp q) e.0) (Some (beginning m.views.first e.1)) (row_of m.views q)) (option_map (beginning m.views.first) (found q))
-          ≡ either (row_of m.views q) (option_map (beginning m.views.first) (cond (is_at (silo_cmp q) e.0) (Some e.1) (found q)))
+          → either (cond (is_at (silo_cmp q) e.0) (Some (beginning m.views.first e.1)) (row_of m.views q)) (option_map (beginning m.views.first) (lookup (is_at (silo_cmp q)) rows))
+          ≡ either (row_of m.views q) (option_map (beginning m.views.first) (cond (is_at (silo_cmp q) e.0) (Some e.1) (lookup (is_at (silo_cmp q)) rows)))
       row_by q Equal at =
           ap (λ o. either (cond (is_at (silo_cmp q) e.0) (Some (beginning m.views.first e.1)) (row_of m.views q)) (option_map (beginning m.views.first) o)) (gone q at)
           ∙ ap (λ b. cond (is_eq b) (Some (beginning m.views.first e.1)) (row_of m.views q)) at
-          ∙ sym (ap (λ b. either (row_of m.views q) (option_map (beginning m.views.first) (cond (is_eq b) (Some e.1) (found q)))) at)
+          ∙ sym (ap (λ b. either (row_of m.views q) (option_map (beginning m.views.first) (cond (is_eq b) (Some e.1) (lookup (is_at (silo_cmp q)) rows)))) at)
       row_by q Less at =
-          ap (λ b. either (cond (is_eq b) (Some (beginning m.views.first e.1)) (row_of m.views q)) (option_map (beginning m.views.first) (found q))) at
-          ∙ sym (ap (λ b. either (row_of m.views q) (option_map (beginning m.views.first) (cond (is_eq b) (Some e.1) (found q)))) at)
+          ap (λ b. either (cond (is_eq b) (Some (beginning m.views.first e.1)) (row_of m.views q)) (option_map (beginning m.views.first) (lookup (is_at (silo_cmp q)) rows))) at
+          ∙ sym (ap (λ b. either (row_of m.views q) (option_map (beginning m.views.first) (cond (is_eq b) (Some e.1) (lookup (is_at (silo_cmp q)) rows)))) at)
       row_by q Greater at =
-          ap (λ b. either (cond (is_eq b) (Some (beginning m.views.first e.1)) (row_of m.views q)) (option_map (beginning m.views.first) (found q))) at
-          ∙ sym (ap (λ b. either (row_of m.views q) (option_map (beginning m.views.first) (cond (is_eq b) (Some e.1) (found q)))) at)
+          ap (λ b. either (cond (is_eq b) (Some (beginning m.views.first e.1)) (row_of m.views q)) (option_map (beginning m.views.first) (lookup (is_at (silo_cmp q)) rows))) at
+          ∙ sym (ap (λ b. either (row_of m.views q) (option_map (beginning m.views.first) (cond (is_eq b) (Some e.1) (lookup (is_at (silo_cmp q)) rows)))) at)
 
       -- places
       placed_there : (q : Silo) → silo_cmp q e.0 ≡ Equal → e.1 ≢ Dead → places_of next.places q ≡ Some (told_places told last.places q)
@@ -131,14 +132,14 @@ module _ (settings : Settings) (told : PlacesValue) where
       ]
 
       alive_by : (q : Silo) (status : Status) → status ≢ Dead → (r : Ordering) → silo_cmp q e.0 ≡ r
-          → cond (is_at (silo_cmp q) e.0) (Some e.1) (found q) ≡ Some status → places_of last.places q ≡ Some (told_places told last.places q)
+          → cond (is_at (silo_cmp q) e.0) (Some e.1) (lookup (is_at (silo_cmp q)) rows) ≡ Some status → places_of last.places q ≡ Some (told_places told last.places q)
       alive_by q status lives Equal at there =
-          let same : e.1 ≡ status = same_Some e.1 status (sym (ap (λ b. cond (is_eq b) (Some e.1) (found q)) at) ∙ there) in
+          let same : e.1 ≡ status = same_Some e.1 status (sym (ap (λ b. cond (is_eq b) (Some e.1) (lookup (is_at (silo_cmp q)) rows)) at) ∙ there) in
           later.other q (inl (gone q at)) ∙ placed_there q at (λ dead. lives (sym same ∙ dead))
       alive_by q status lives Less at there =
-          later.alive q status (sym (ap (λ b. cond (is_eq b) (Some e.1) (found q)) at) ∙ there) lives
+          later.alive q status (sym (ap (λ b. cond (is_eq b) (Some e.1) (lookup (is_at (silo_cmp q)) rows)) at) ∙ there) lives
       alive_by q status lives Greater at there =
-          later.alive q status (sym (ap (λ b. cond (is_eq b) (Some e.1) (found q)) at) ∙ there) lives
+          later.alive q status (sym (ap (λ b. cond (is_eq b) (Some e.1) (lookup (is_at (silo_cmp q)) rows)) at) ∙ there) lives
 
       untouched : (q : Silo) → is_at (silo_cmp q) e.0 ≡ false → places_of next.places q ≡ places_of m.places q
       untouched q at = elim one.placed [
@@ -155,18 +156,15 @@ module _ (settings : Settings) (told : PlacesValue) where
         | inr its ↦ absurd (its.0 is)
       ]
 
-      abbrev IsOther : Silo → Option Status → Type 0
-      IsOther q o = (o ≡ None) ⊎ (o ≡ Some Dead)
-
-      beside : (q : Silo) → is_at (silo_cmp q) e.0 ≡ false → IsOther q (cond (is_at (silo_cmp q) e.0) (Some e.1) (found q))
+      beside : (q : Silo) → is_at (silo_cmp q) e.0 ≡ false → IsOther (cond (is_at (silo_cmp q) e.0) (Some e.1) (lookup (is_at (silo_cmp q)) rows))
           → places_of last.places q ≡ places_of m.places q
       beside q at none =
-          later.other q (subst (λ b. IsOther q (cond b (Some e.1) (found q))) at none) ∙ untouched q at
+          later.other q (subst (λ b. IsOther (cond b (Some e.1) (lookup (is_at (silo_cmp q)) rows))) at none) ∙ untouched q at
 
-      other_by : (q : Silo) (r : Ordering) → silo_cmp q e.0 ≡ r → IsOther q (cond (is_at (silo_cmp q) e.0) (Some e.1) (found q))
+      other_by : (q : Silo) (r : Ordering) → silo_cmp q e.0 ≡ r → IsOther (cond (is_at (silo_cmp q) e.0) (Some e.1) (lookup (is_at (silo_cmp q)) rows))
           → places_of last.places q ≡ places_of m.places q
       other_by q Equal at none =
-          elim (subst (λ b. IsOther q (cond (is_eq b) (Some e.1) (found q))) at none) [
+          elim (subst (λ b. IsOther (cond (is_eq b) (Some e.1) (lookup (is_at (silo_cmp q)) rows))) at none) [
             | inl nothing ↦ absurd (cc (nothing))
             | inr dead ↦ later.other q (inl (gone q at)) ∙ dead_there (same_Some e.1 Dead dead) q
           ]

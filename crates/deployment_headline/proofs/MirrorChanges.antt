@@ -237,17 +237,22 @@ module _ (settings : Settings) (m d : Membership) (are : Are settings m) (all : 
     join_known : (q : Silo) (row : Row) → row_of mine.views q ≡ Some row → (other : Row) × (row_of theirs.views q ≡ Some other) × ReadsAs first row other
     join_known q row found = by_silo q
         (λ same.
-        let here : row ≡ joining v = same_Some row (joining v) (sym found ∙ ap (λ s. row_of mine.views s) same ∙ mine_new) in
-        (joining v, ap (λ s. row_of theirs.views s) same ∙ theirs_new, record {
-          statuses = λ k from. ap (status_in k) here;
-          later = inr here;
-          lives = ap (λ (r : Row). is_none r.dead) here;
-        }))
+        let here : row ≡ joining v = same_Some row (joining v) (sym found ∙ ap (λ s. row_of mine.views s) same ∙ mine_new) in (
+          joining v,
+          ap (λ s. row_of theirs.views s) same ∙ theirs_new,
+          record {
+            statuses = λ k from. ap (status_in k) here;
+            later = inr here;
+            lives = ap (λ (r : Row). is_none r.dead) here;
+          },
+        ))
         (λ other.
         let was = map_some (λ r. replaced r q) (row_of m.views q) row (sym (mine_found q other) ∙ found) in
-        let its = is.known q was.0 was.1 in
-        (replaced its.0 q, theirs_found q other ∙ ap (λ o. option_map (λ r. replaced r q) o) its.1,
-        subst (λ r. ReadsAs first r (replaced its.0 q)) (sym was.2) (reads_on q was.0 its.0 was.1 its.2)))
+        let its = is.known q was.0 was.1 in (
+          replaced its.0 q,
+          theirs_found q other ∙ ap (λ o. option_map (λ r. replaced r q) o) its.1,
+          subst (λ r. ReadsAs first r (replaced its.0 q)) (sym was.2) (reads_on q was.0 its.0 was.1 its.2),
+        ))
 
     join_left_out : (q : Silo) (other : Row) → row_of theirs.views q ≡ Some other → row_of mine.views q ≡ None → WasLeftOut mine.views q other
     join_left_out q other found none = by_silo q
@@ -395,14 +400,15 @@ module _ (settings : Settings) (m d : Membership) (are : Are settings m) (all : 
         → (other : Row) × (row_of (after d).views q ≡ Some other) × ReadsAs first row other
     going_known q row found =
         let was = map_some (if_itself how silo q) (row_of m.views q) row (sym (found_after_change how silo q m.views.rows) ∙ found) in
-        let theirs = is.known q was.0 was.1 in
-        (if_itself how silo q theirs.0,
-        found_after_change how silo q d.views.rows ∙ ap (λ o. option_map (if_itself how silo q) o) theirs.1,
-        subst (λ r. ReadsAs first r (if_itself how silo q theirs.0)) (sym was.2)
-        (itself_mirrors first how silo q was.0 theirs.0 theirs.2 (λ same.
-        let mine : its.row ≡ was.0 = same_Some its.row was.0 (sym its.found ∙ ap (λ s. row_of m.views s) same ∙ was.1) in
-        let other : its.other ≡ theirs.0 = same_Some its.other theirs.0 (sym its.theirs ∙ ap (λ s. row_of d.views s) same ∙ theirs.1) in
-        subst (λ r. ReadsAs first (how r) (how theirs.0)) mine (subst (λ r. ReadsAs first (how its.row) (how r)) other reads))))
+        let theirs = is.known q was.0 was.1 in (
+          if_itself how silo q theirs.0,
+          found_after_change how silo q d.views.rows ∙ ap (λ o. option_map (if_itself how silo q) o) theirs.1,
+          subst (λ r. ReadsAs first r (if_itself how silo q theirs.0)) (sym was.2)
+              (itself_mirrors first how silo q was.0 theirs.0 theirs.2 (λ same.
+              let mine : its.row ≡ was.0 = same_Some its.row was.0 (sym its.found ∙ ap (λ s. row_of m.views s) same ∙ was.1) in
+              let other : its.other ≡ theirs.0 = same_Some its.other theirs.0 (sym its.theirs ∙ ap (λ s. row_of d.views s) same ∙ theirs.1) in
+              subst (λ r. ReadsAs first (how r) (how theirs.0)) mine (subst (λ r. ReadsAs first (how its.row) (how r)) other reads))),
+        )
 
     going_left_out : (q : Silo) (other : Row) → row_of (after d).views q ≡ Some other → row_of (after m).views q ≡ None
         → WasLeftOut (after m).views q other

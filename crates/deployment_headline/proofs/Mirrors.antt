@@ -103,22 +103,19 @@ module _ (m d : Membership) (whole : IsViews m.views) (all : IsViews d.views) (i
   outlived_back : (q : Silo) → outlived_in k theirs q ≡ true → outlived_in k mine q ≡ true
   outlived_back q at = by (row_of m.views it.newer) refl (row_of d.views it.newer) refl
     where
-      abbrev it : IsOutlived k theirs q
-      it = outlived_only k theirs all.in_order q at
-
-      by : (o : Option Row) → row_of m.views it.newer ≡ o → (p : Option Row) → row_of d.views it.newer ≡ p → outlived_in k mine q ≡ true
+      by : (o : Option Row) → row_of m.views (outlived_only k theirs all.in_order q at).newer ≡ o → (p : Option Row) → row_of d.views (outlived_only k theirs all.in_order q at).newer ≡ p → outlived_in k mine q ≡ true
       by (Some row) known p there =
-          let its = is.known it.newer row known in
-          let says = status_by mine it.newer row known ∙ its.2.statuses k from ∙ sym (status_by theirs it.newer its.0 its.1) ∙ it.there in
-          outlived_if k mine whole.in_order q it.newer it.status says it.is
+          let its = is.known (outlived_only k theirs all.in_order q at).newer row known in
+          let says = status_by mine (outlived_only k theirs all.in_order q at).newer row known ∙ its.2.statuses k from ∙ sym (status_by theirs (outlived_only k theirs all.in_order q at).newer its.0 its.1) ∙ (outlived_only k theirs all.in_order q at).there in
+          outlived_if k mine whole.in_order q (outlived_only k theirs all.in_order q at).newer (outlived_only k theirs all.in_order q at).status says (outlived_only k theirs all.in_order q at).is
       by None known (Some other) there =
-          let out = is.left_out it.newer other there known in
+          let out = is.left_out (outlived_only k theirs all.in_order q at).newer other there known in
           let some = some_by (status_in k out.row) (early_there out.row out.early) in
           outlived_if k mine whole.in_order q out.newer some.0 (status_by mine out.newer out.row out.found ∙ some.1)
-          (newer_along out.newer it.newer q out.is it.is)
+          (newer_along out.newer (outlived_only k theirs all.in_order q at).newer q out.is (outlived_only k theirs all.in_order q at).is)
       by None known None there =
-          let none : row_status k theirs it.newer ≡ None = ap (λ o. option_and_then (status_in k) o) there in
-          absurd (let never : None ≡ Some it.status = sym none ∙ it.there in cc (never))
+          let none : row_status k theirs (outlived_only k theirs all.in_order q at).newer ≡ None = ap (λ o. option_and_then (status_in k) o) there in
+          absurd (let never : None ≡ Some (outlived_only k theirs all.in_order q at).status = sym none ∙ (outlived_only k theirs all.in_order q at).there in cc (never))
 
   outlived_alike : (q : Silo) → outlived_in k mine q ≡ outlived_in k theirs q
   outlived_alike q = by (outlived_in k mine q) refl (outlived_in k theirs q) refl

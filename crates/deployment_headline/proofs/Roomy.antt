@@ -87,13 +87,10 @@ module _ (events letters : ℕ) where
       → listed (with_room events letters settings) m one ≡ listed settings m one
   listed_same settings m one = by one.status
     where
-      abbrev viewed : Result ViewsValue ℕ
-      viewed = after_listing m.views one.silo one.status
-
-      by : (status : Status) → listed_by status viewed (with_room events letters settings) m.places one.silo one.places
-          ≡ listed_by status viewed settings m.places one.silo one.places
-      by Active = joined_same viewed settings m.places one.silo one.places
-      by Leaving = joined_same viewed settings m.places one.silo one.places
+      by : (status : Status) → listed_by status (after_listing m.views one.silo one.status) (with_room events letters settings) m.places one.silo one.places
+          ≡ listed_by status (after_listing m.views one.silo one.status) settings m.places one.silo one.places
+      by Active = joined_same (after_listing m.views one.silo one.status) settings m.places one.silo one.places
+      by Leaving = joined_same (after_listing m.views one.silo one.status) settings m.places one.silo one.places
       by Dead = refl
 
   listed_all_same : (settings : Settings) (r : Result Membership ℕ) (rows : List Listed)
@@ -120,15 +117,12 @@ module _ (events letters : ℕ) where
   begins_at_same d silo version None = refl
   begins_at_same d silo version (Some s) = by (nat_le version d.membership.views.version)
     where
-      abbrev rows : List Listed
-      rows = listing_of d.membership version
-
-      by : (b : Bool) → (if b then begins (told_view (P s).node.settings (P s).membership silo version rows) (R d) silo (P s) else R d)
-          ≡ R (if b then begins (told_view s.node.settings s.membership silo version rows) d silo s else d)
+      by : (b : Bool) → (if b then begins (told_view (P s).node.settings (P s).membership silo version (listing_of d.membership version)) (R d) silo (P s) else R d)
+          ≡ R (if b then begins (told_view s.node.settings s.membership silo version (listing_of d.membership version)) d silo s else d)
       by false = refl
       by true =
-          ap (λ r. begins r (R d) silo (P s)) (view_same s silo version rows)
-          ∙ begins_same d silo s (told_view s.node.settings s.membership silo version rows)
+          ap (λ r. begins r (R d) silo (P s)) (view_same s silo version (listing_of d.membership version))
+          ∙ begins_same d silo s (told_view s.node.settings s.membership silo version (listing_of d.membership version))
 
   tells_same : (d : Deployment) (silo : Silo) (s : SiloValue) (index : ℕ) (o : Option Change)
       → tells o (R d) silo (P s) index ≡ R (tells o d silo s index)

@@ -12,6 +12,7 @@ use Rattle.silo_address.specs.Silo.{Silo, silo_cmp}
 use Rattle.silo_address.specs.Grain.{Grain}
 use Rattle.membership_view.specs.Views.{view_at}
 use Rattle.directory_rules.specs.Settings.{Settings, AreSettings}
+use Rattle.membership_view.specs.Whole.{IsViews}
 use Rattle.directory_rules.specs.State.{Letter, Node, Posted, World}
 use Rattle.directory_rules.specs.Event.{Event, IsEvent}
 use Rattle.directory_rules.specs.Mail.{letter_of}
@@ -235,6 +236,13 @@ pub processes_are_own : ProcessesAreOwn
 processes_are_own settings steps are named silo s there =
     let its = its_process (deployed settings steps) (sound_after (first_deployment settings) (sound_first settings (first_are settings are)) steps) silo s there in
     record { set_up = its.set_up; address = its.address }
+
+-- what a process was told is whole
+pub told_whole : (settings : Settings) (steps : List Step) → AreSettings settings → All IsStep steps → (silo : Silo) (s : SiloValue)
+    → process_of (deployed settings steps) silo ≡ Some s → IsViews s.membership.views
+told_whole settings steps are named silo s there =
+    (its_process (deployed settings steps) (sound_after (first_deployment settings) (sound_first settings (first_are settings are)) steps) silo s
+    there).told.are.whole
 
 pub limits_do_not_matter : LimitsDoNotMatter
 limits_do_not_matter settings steps events letters = deployed_same events letters settings steps

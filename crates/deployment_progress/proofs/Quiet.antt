@@ -13,6 +13,8 @@ use Rattle.silo_address.proofs.Same.{Decides-silo}
 use Rattle.membership_view.specs.declared.status.Status.{Status}
 use Rattle.membership_view.specs.declared.status.Status.TheVariants.{Active, Leaving, Dead}
 use Rattle.membership_view.specs.View.{ViewValue}
+use Rattle.membership_view.specs.View.{status_of}
+use Rattle.membership_view.specs.Whole.{IsViews}
 use Rattle.membership_view.specs.Views.{ViewsValue, status_at, joining_version}
 use Rattle.directory_rules.specs.declared.effect.Effect.TheVariants.{Ignored}
 use Rattle.directory_rules.specs.Input.{Input, Sees, Does, Receives, step, sight_of}
@@ -31,7 +33,8 @@ use Rattle.progress_rules.proofs.Covered.{view_kept}
 use Rattle.deployment_headline.specs.Deployment.{Deployment, process_of}
 use Rattle.deployment_headline.specs.Limits.{node_with_room}
 use Rattle.deployment_headline.specs.Steps.{Step, Decide, Tell, See, Do, Receive, IsStep, heard, took, tells, tells_at, does_at, sees_at, delivers, receives_at, after}
-use Rattle.deployment_headline.proofs.Memberships.{leads_to}
+use Rattle.deployment_headline.proofs.StepEvents.{told_agrees}
+use Rattle.directory_rules.proofs.People.{live_said}
 use Rattle.deployment_headline.proofs.Runs.{one_more}
 use Rattle.deployment_headline.proofs.Sound.{its_process}
 use Rattle.deployment_headline.proofs.Worlds.{its_node}
@@ -147,7 +150,7 @@ module _ (d : Deployment) where
     is_in silo s there =
         let m = s.membership in
         let its = its_process d (its_sound d r) silo s there in
-        let to = (leads_to d.settings m d.membership (drop m.views.version d.changes) its.told.are its.told.leads).0 in
+        let to = told_agrees d.settings d.changes d.membership m silo its.told in
         let within = (its_wholes d r silo s there).seen.within in
         let last = r.seen silo s there in
         let low = to.version in
@@ -157,10 +160,14 @@ module _ (d : Deployment) where
         subst (λ (v : ViewsValue). is_live (status_at v v.version silo) ≡ true) w.views
         (sym (w.peopled.live silo) ∙ ap (λ (o : Option Node). is_some o)
         (w.nodes silo ∙ ap (λ (o : Option SiloValue). option_map (node_with_room w.events w.letters) (option_map its_node o)) there)) in
-        let views : status_at d.membership.views m.views.version silo ≡ status_at m.views m.views.version silo = ap (λ (v : ViewValue). lookup (is_at (silo_cmp silo)) v.rows) (to.views m.views.version (omega arith)) in
-        let status : own_status s ≡ status_at d.membership.views d.membership.views.version silo =
-        ap (λ q. status_at m.views m.views.version q) its.address ∙ sym views ∙ ap (λ v. status_at d.membership.views v silo) version in
-        record { told = version; address = its.address; free = free_of (own_status s) (ap is_live status ∙ live) }
+        let all : IsViews d.membership.views = subst (λ (v : ViewsValue). IsViews v) w.views w.peopled.whole in
+        let own : is_live (status_at m.views m.views.version silo) ≡ true =
+        sym (live_said m.views its.told.are.whole m.views.version (omega arith) silo)
+        ∙ ap (λ (v : ViewValue). is_live (status_of v silo)) (sym (to.views m.views.version its.told.are.whole.first_upto (omega arith)))
+        ∙ live_said d.membership.views all m.views.version low silo
+        ∙ ap (λ v. is_live (status_at d.membership.views v silo)) version ∙ live in
+        let its_own : is_live (own_status s) ≡ true = ap (λ q. is_live (status_at m.views m.views.version q)) its.address ∙ own in
+        record { told = version; address = its.address; free = free_of (own_status s) its_own }
 
     pub does_is : (silo : Silo) (s : SiloValue) → process_of d silo ≡ Some s → (input : Input) → does s input ≡ step s.node input
     does_is silo s there input = ap (λ o. unless_barred o (step s.node input)) (is_in silo s there).free

@@ -1,6 +1,7 @@
 //! Membership as a world has it, or a silo by what it was told: all that changes of membership make.
 
 ghost use Rattle.std.specs.Prelude.{◌≡◌, ◌≤◌, ◌<◌, ◌↔◌, IfErr, IfOk, IsOk, IsSomeAnd, Ok, OnErr, OnOk};
+ghost use Rattle.membership_view.specs.Beginning.{after_listing, with_listed};
 ghost use Rattle.membership_view.specs.Changes.{after_join, with_join};
 ghost use Rattle.membership_view.specs.Refusal.{views_error_number};
 ghost use Rattle.membership_view.specs.Views.{most_known, view_at};
@@ -112,7 +113,7 @@ impl Membership {
         if let Err(refusal) = self.may_place_listed(settings, one) {
             return Err(ChangeRefusal::Ring(refusal));
         }
-        match self.put_listed(one) {
+        match self.put_listed(settings, one) {
             Ok(()) => Ok(()),
             Err(_) => Err(ChangeRefusal::OutOfMemory),
         }
@@ -130,8 +131,12 @@ impl Membership {
         }
     }
 
-    // A silo that may be listed is, with its places.
-    fn put_listed(&mut self, one: &Listed) -> Result<(), AllocError> {
+    // A silo that may be listed is, with its places. What is begun is lost where memory runs out.
+    fn put_listed(&mut self, settings: &Settings, one: &Listed) -> Result<(), AllocError>
+        requires lists { after_listing self.old.views one.now.silo one.now.status ≡ Ok (with_listed self.old.views one.now.silo one.now.status) }
+        requires placed { MayBeListed settings.now self.old.places (listed_of one.now) }
+        ensures { OnOk result (listed settings.now self.old (listed_of one.now) ≡ Ok self.new) }
+    {
         if one.status != Status::Dead {
             match self.places.add(one.silo, &one.places) {
                 Ok(()) => {}

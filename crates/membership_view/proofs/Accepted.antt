@@ -89,6 +89,9 @@ abbrev by_room : ViewsValue → Silo → Bool → Bool → Result ViewsValue ℕ
 by_room views silo newest room =
     if not newest then Err 201 else (if not room then Err 205 else Ok (next_views views (joined_rows silo (views.version + 1) views.rows)))
 
+abbrev Lives : Option Status → Type 0
+Lives o = IsSome o × (o ≢ Some Dead)
+
 pub steps_are_changes : StepsAreChanges
 steps_are_changes views whole (Join silo) view step = by (nat_lt (length views.rows) views.limit) refl
   where
@@ -133,12 +136,9 @@ steps_are_changes views whole (Die silo) view step =
           (changes_are_steps views (Die silo) next (record { whole = whole; is = is })) step,
     )
   where
-    abbrev IsLive : Option Status → Type 0
-    IsLive o = IsSome o × (o ≢ Some Dead)
-
     -- what the view says is what the row says, since it isn't Dead
     its : (o : Option Status) (b : Bool) → status_of (view_at views views.version) silo ≡ or_outlived o b
-        → status_at views views.version silo ≡ o → IsLive (status_at views views.version silo)
+        → status_at views views.version silo ≡ o → Lives (status_at views views.version silo)
     its None false says at = absurd (never (status_of (view_at views views.version) silo) says step.was)
       where
         never : (o : Option Status) → o ≡ None → IsSome o → ⊥
@@ -147,7 +147,7 @@ steps_are_changes views whole (Die silo) view step =
     its None true says at = absurd (step.was_not says)
     its (Some status) b says at = (subst (λ o. IsSome o) (sym at) refl, λ dead. step.was_not (says ∙ sym at ∙ dead))
 
-    by : (o : Option Status) → IsLive o → die_from o views silo ≡ Ok (next_views views (changed (dying (views.version + 1)) silo views.rows))
+    by : (o : Option Status) → Lives o → die_from o views silo ≡ Ok (next_views views (changed (dying (views.version + 1)) silo views.rows))
     by None live = absurd (cc (live.0))
     by (Some Active) live = refl
     by (Some Leaving) live = refl

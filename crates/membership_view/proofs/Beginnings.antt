@@ -20,15 +20,9 @@ use Rattle.membership_view.specs.Views.{ViewsValue, row_of}
 use Rattle.membership_view.specs.Beginning.{after_listing, beginning, is_known_endpoint, with_listed}
 use Rattle.membership_view.specs.Whole.{IsInTime, IsViews, changes_of}
 use Rattle.membership_view.specs.Laws.{ListingsAreKept}
-use Rattle.membership_view.proofs.Found.{any_from_found}
+use Rattle.membership_view.proofs.KnownEndpoint.{known_endpoint}
 use Rattle.membership_view.proofs.Order.{Decides-shares, shares_itself}
 use Rattle.membership_view.proofs.SameEndpoint.{found_row}
-
--- whoever has a row of the endpoint is known
-pub known_endpoint : (silo other : Silo) (rows : List (Silo × Row)) (row : Row) → found_row rows other ≡ Some row
-    → shares_endpoint silo other ≡ true → is_known_endpoint silo rows ≡ true
-known_endpoint silo other rows row found shares =
-    any_from_found silo_cmp_total (λ k _. shares_endpoint silo k) silo_cmp_exact rows other row found shares
 
 -- a silo that is listed: a later version, its endpoint isn't known, and there is room
 pub record IsListing (views : ViewsValue) (silo : Silo) (status : Status) (next : ViewsValue) : Type 0 where
@@ -38,7 +32,7 @@ pub record IsListing (views : ViewsValue) (silo : Silo) (status : Status) (next 
   pub is : next ≡ with_listed views silo status
 
 abbrev judged : ViewsValue → Silo → Status → Bool → Bool → Result ViewsValue ℕ
-judged views silo status no room = if no then Err 210 else (if not room then Err 205 else Ok (with_listed views silo status))
+judged views silo status bars room = if bars then Err 210 else (if not room then Err 205 else Ok (with_listed views silo status))
 
 pub listing_is : (views : ViewsValue) (silo : Silo) (status : Status) (next : ViewsValue) → after_listing views silo status ≡ Ok next
     → IsListing views silo status next
@@ -47,10 +41,10 @@ listing_is views silo status next h =
   where
     by : (b : Bool) → ((views.first == 0) || is_known_endpoint silo views.rows) ≡ b → (c : Bool) → nat_lt (length views.rows) views.limit ≡ c
         → judged views silo status b c ≡ Ok next → IsListing views silo status next
-    by true no room at h = absurd (cc (h))
-    by false no false at h = absurd (cc (h))
-    by false no true at h =
-        let two = or_parts (views.first == 0) (is_known_endpoint silo views.rows) no in
+    by true bars room at h = absurd (cc (h))
+    by false bars false at h = absurd (cc (h))
+    by false bars true at h =
+        let two = or_parts (views.first == 0) (is_known_endpoint silo views.rows) bars in
         let zero : (views.first ≡ 0) → ⊥ = eqb-false views.first 0 two.0 in
         record { later = above zero; apart = two.1; room = ltb-true (length views.rows) views.limit at; is = cc (h) }
       where

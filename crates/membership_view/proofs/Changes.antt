@@ -35,10 +35,10 @@ at_itself : (silo : Silo) → is_at (silo_cmp silo) silo ≡ true
 at_itself silo = ap is_eq (tied_itself silo_cmp_total silo)
 
 -- the statuses in the current view, and in the next one
-now_is : (views : ViewsValue) → IsViews views → (q : Silo) → status_at views views.version q ≡ row_status views.version views.rows q
+pub now_is : (views : ViewsValue) → IsViews views → (q : Silo) → status_at views views.version q ≡ row_status views.version views.rows q
 now_is views whole q = status_at-made views whole.in_order views.version q (omega arith)
 
-next_is : (views : ViewsValue) (rows : List (Silo × Row)) → IsViews (next_views views rows) → (q : Silo)
+pub next_is : (views : ViewsValue) (rows : List (Silo × Row)) → IsViews (next_views views rows) → (q : Silo)
     → status_at (next_views views rows) (views.version + 1) q ≡ row_status (views.version + 1) rows q
 next_is views rows whole q = status_at-made (next_views views rows) whole.in_order (views.version + 1) q (omega arith)
 
@@ -53,7 +53,7 @@ still views whole q = by (found_row views.rows q) refl
     by (Some row) is = status_next views.version row (whole.in_time q row is)
 
 -- all but one silo are what they were
-others : (views : ViewsValue) (whole : IsViews views) (change : Row → Row) (silo : Silo) (row : Row) → row_of views silo ≡ Some row
+pub others : (views : ViewsValue) (whole : IsViews views) (change : Row → Row) (silo : Silo) (row : Row) → row_of views silo ≡ Some row
     → IsViews (next_views views (changed change silo views.rows)) → (q : Silo) → q ≢ silo
     → status_at (next_views views (changed change silo views.rows)) (views.version + 1) q ≡ status_at views views.version q
 others views whole change silo row found kept q ne =
@@ -65,7 +65,7 @@ others views whole change silo row found kept q ne =
     ∙ sym (now_is views whole q)
 
 -- and the one is what its changed row says
-itself : (views : ViewsValue) (change : Row → Row) (silo : Silo) (row : Row) → row_of views silo ≡ Some row
+pub itself : (views : ViewsValue) (change : Row → Row) (silo : Silo) (row : Row) → row_of views silo ≡ Some row
     → IsViews (next_views views (changed change silo views.rows))
     → status_at (next_views views (changed change silo views.rows)) (views.version + 1) silo ≡ status_in (views.version + 1) (change row)
 itself views change silo row found kept =
@@ -108,11 +108,8 @@ outlived_still views change silo row whole found kept status is q =
     (λ newer above there. on newer there (is_at (silo_cmp silo) newer) refl)
     (λ newer above there. back newer there (is_at (silo_cmp silo) newer) refl)
   where
-    abbrev after : List (Silo × Row)
-    after = changed change silo views.rows
-
     same : (newer : Silo) → is_at (silo_cmp silo) newer ≡ false
-        → row_status (views.version + 1) after newer ≡ row_status views.version views.rows newer
+        → row_status (views.version + 1) (changed change silo views.rows) newer ≡ row_status views.version views.rows newer
     same newer at =
         row_status-changed (views.version + 1) change silo views.rows row found newer
         ∙ ap (λ b. if b then status_in (views.version + 1) (change row) else row_status (views.version + 1) views.rows newer) at
@@ -122,12 +119,12 @@ outlived_still views change silo row whole found kept status is q =
     its newer at = sym (silo_cmp_exact silo newer (Equal-from (silo_cmp silo newer) at))
 
     on : (newer : Silo) → IsSome (row_status views.version views.rows newer) → (b : Bool) → is_at (silo_cmp silo) newer ≡ b
-        → IsSome (row_status (views.version + 1) after newer)
+        → IsSome (row_status (views.version + 1) (changed change silo views.rows) newer)
     on newer there false at = subst (λ o. IsSome o) (sym (same newer at)) there
     on newer there true at =
-        subst (λ o. IsSome o) (sym (ap (λ k. row_status (views.version + 1) after k) (its newer at) ∙ sym (next_is views after kept silo) ∙ is)) refl
+        subst (λ o. IsSome o) (sym (ap (λ k. row_status (views.version + 1) (changed change silo views.rows) k) (its newer at) ∙ sym (next_is views (changed change silo views.rows) kept silo) ∙ is)) refl
 
-    back : (newer : Silo) → IsSome (row_status (views.version + 1) after newer) → (b : Bool) → is_at (silo_cmp silo) newer ≡ b
+    back : (newer : Silo) → IsSome (row_status (views.version + 1) (changed change silo views.rows) newer) → (b : Bool) → is_at (silo_cmp silo) newer ≡ b
         → IsSome (row_status views.version views.rows newer)
     back newer there false at = subst (λ o. IsSome o) (same newer at) there
     back newer there true at =
@@ -249,7 +246,7 @@ dies None h = cc
 dies (Some status) h = refl
 
 -- an older silo of the endpoint is Dead
-older_says : (views : ViewsValue) → IsViews views → (silo : Silo) → is_newest silo views.rows ≡ true → (q : Silo) → IsSameEndpoint silo q
+pub older_says : (views : ViewsValue) → IsViews views → (silo : Silo) → is_newest silo views.rows ≡ true → (q : Silo) → IsSameEndpoint silo q
     → q ≢ silo
     → row_status (views.version + 1) (joined_rows silo (views.version + 1) views.rows) q ≡ option_map (λ _. Dead)
     (row_status views.version views.rows q)
@@ -279,7 +276,7 @@ older_says views whole silo newest q same ne = elim (other_is silo (views.versio
     ]
 
 -- a silo of another endpoint is what it was
-foreign_says : (views : ViewsValue) → IsViews views → (silo : Silo) → is_newest silo views.rows ≡ true → (q : Silo)
+pub foreign_says : (views : ViewsValue) → IsViews views → (silo : Silo) → is_newest silo views.rows ≡ true → (q : Silo)
     → ¬ (IsSameEndpoint silo q)
     → row_status (views.version + 1) (joined_rows silo (views.version + 1) views.rows) q ≡ row_status views.version views.rows q
 foreign_says views whole silo newest q other = elim (other_is silo (views.version + 1) views.rows whole.in_order newest q ne) [
@@ -301,6 +298,10 @@ foreign_says views whole silo newest q other = elim (other_is silo (views.versio
 newer_shares : (silo q newer : Silo) → shares_endpoint silo q ≡ true → is_newer newer q ≡ true → shares_endpoint silo newer ≡ true
 newer_shares silo q newer shares is = shares_along silo q newer shares (newer_parts newer q is).0
 
+-- the rows once a silo has joined in the next version
+abbrev joined_next : ViewsValue → Silo → List (Silo × Row)
+joined_next views silo = joined_rows silo (views.version + 1) views.rows
+
 join_step : (views : ViewsValue) → IsViews views → (silo : Silo) → is_newest silo views.rows ≡ true
     → IsViews (next_views views (joined_rows silo (views.version + 1) views.rows))
     → Joins silo (view_at views views.version) (view_at (next_views views (joined_rows silo (views.version + 1) views.rows))
@@ -309,23 +310,20 @@ join_step views whole silo newest kept = record {
   rises = refl;
   newest = λ q same there. lower_said q same (row_status views.version views.rows q) refl
       (subst (λ o. IsSome o) (said views whole.in_order views.version q (omega arith)) there);
-  joined = said_next views after kept silo Active
-      (next_is views after kept silo
+  joined = said_next views (joined_next views silo) kept silo Active
+      (next_is views (joined_next views silo) kept silo
       ∙ joined_says (views.version + 1) silo views.rows newest (occupant silo views.rows) (λ old h. h) whole.in_order);
-  older = λ q same below. dead_after q same below (row_status (views.version + 1) after q) refl;
+  older = λ q same below. dead_after q same below (row_status (views.version + 1) (joined_next views silo) q) refl;
   others = λ q ne apart. elim (decided_shares q) [
     | inl shares ↦ nobody q ne shares apart
-    | inr other ↦ said_alike views after whole kept q
-        (next_is views after kept q ∙ foreign_says views whole silo newest q other ∙ sym (now_is views whole q))
-        (outlived_same views.version (views.version + 1) views.rows after whole.in_order kept.in_order q
+    | inr other ↦ said_alike views (joined_next views silo) whole kept q
+        (next_is views (joined_next views silo) kept q ∙ foreign_says views whole silo newest q other ∙ sym (now_is views whole q))
+        (outlived_same views.version (views.version + 1) views.rows (joined_next views silo) whole.in_order kept.in_order q
         (λ newer above there. subst (λ o. IsSome o) (sym (foreign_says views whole silo newest newer (foreign q newer other above))) there)
         (λ newer above there. subst (λ o. IsSome o) (foreign_says views whole silo newest newer (foreign q newer other above)) there))
   ];
 }
   where
-    abbrev after : List (Silo × Row)
-    after = joined_rows silo (views.version + 1) views.rows
-
     decided_shares : (q : Silo) → (shares_endpoint silo q ≡ true) ⊎ (¬ (IsSameEndpoint silo q))
     decided_shares q = by (shares_endpoint silo q) refl
       where
@@ -366,37 +364,37 @@ join_step views whole silo newest kept = record {
         (subst (λ o. IsSome (or_outlived o (outlived_in views.version views.rows q))) at there)
     lower_said q same (Some status) at there = lower_found q ((Decides-shares silo q).1 same) (subst (λ o. IsSome o) (sym at) refl)
 
-    joined_there : row_status (views.version + 1) after silo ≡ Some Active
+    joined_there : row_status (views.version + 1) (joined_next views silo) silo ≡ Some Active
     joined_there = joined_says (views.version + 1) silo views.rows newest (occupant silo views.rows) (λ old h. h) whole.in_order
 
     -- an older silo of the endpoint is Dead, by its row or by the silo that joined
     dead_after : (q : Silo) → IsSameEndpoint silo q → q.generation < silo.generation → (o : Option Status)
-        → row_status (views.version + 1) after q ≡ o → status_of (view_at (next_views views after) (views.version + 1)) q ≡ Some Dead
+        → row_status (views.version + 1) (joined_next views silo) q ≡ o → status_of (view_at (next_views views (joined_next views silo)) (views.version + 1)) q ≡ Some Dead
     dead_after q same below None at =
-        said (next_views views after) kept.in_order (views.version + 1) q (omega arith)
-        ∙ ap (λ o. or_outlived o (outlived_in (views.version + 1) after q)) at
-        ∙ ap (λ b. or_outlived None b) (outlived_if (views.version + 1) after kept.in_order q silo Active joined_there
+        said (next_views views (joined_next views silo)) kept.in_order (views.version + 1) q (omega arith)
+        ∙ ap (λ o. or_outlived o (outlived_in (views.version + 1) (joined_next views silo) q)) at
+        ∙ ap (λ b. or_outlived None b) (outlived_if (views.version + 1) (joined_next views silo) kept.in_order q silo Active joined_there
         (newer_by silo q (shares_back silo q ((Decides-shares silo q).1 same)) below))
     dead_after q same below (Some status) at =
-        said_next views after kept q Dead
-        (next_is views after kept q ∙ dead_row (row_status views.version views.rows q) (sym (older_says views whole silo newest q same ne) ∙ at)
+        said_next views (joined_next views silo) kept q Dead
+        (next_is views (joined_next views silo) kept q ∙ dead_row (row_status views.version views.rows q) (sym (older_says views whole silo newest q same ne) ∙ at)
         (older_says views whole silo newest q same ne))
       where
         ne : q ≢ silo
         ne is = let e : q.generation ≡ silo.generation = ap (λ (s : Silo). s.generation) is in omega (e, below, arith)
 
         dead_row : (o : Option Status) → option_map (λ _. Dead) o ≡ Some status
-            → row_status (views.version + 1) after q ≡ option_map (λ _. Dead) o → row_status (views.version + 1) after q ≡ Some Dead
+            → row_status (views.version + 1) (joined_next views silo) q ≡ option_map (λ _. Dead) o → row_status (views.version + 1) (joined_next views silo) q ≡ Some Dead
         dead_row None is says = absurd (cc (is))
         dead_row (Some its) is says = says
 
-    -- another one of the endpoint that isn't older isn't there, before or after
+    -- another one of the endpoint that isn't older isn't there, before or (joined_next views silo)
     nobody : (q : Silo) → q ≢ silo → shares_endpoint silo q ≡ true → ¬ (IsSameEndpoint silo q × (q.generation < silo.generation))
-        → status_of (view_at (next_views views after) (views.version + 1)) q ≡ status_of (view_at views views.version) q
+        → status_of (view_at (next_views views (joined_next views silo)) (views.version + 1)) q ≡ status_of (view_at views views.version) q
     nobody q ne shares apart =
-        said (next_views views after) kept.in_order (views.version + 1) q (omega arith)
-        ∙ ap (λ o. or_outlived o (outlived_in (views.version + 1) after q)) gone_after
-        ∙ ap (λ b. or_outlived None b) (outlived_same views.version (views.version + 1) views.rows after whole.in_order kept.in_order q on back)
+        said (next_views views (joined_next views silo)) kept.in_order (views.version + 1) q (omega arith)
+        ∙ ap (λ o. or_outlived o (outlived_in (views.version + 1) (joined_next views silo) q)) gone_after
+        ∙ ap (λ b. or_outlived None b) (outlived_same views.version (views.version + 1) views.rows (joined_next views silo) whole.in_order kept.in_order q on back)
         ∙ ap (λ o. or_outlived o (outlived_in views.version views.rows q)) (sym gone_before)
         ∙ sym (said views whole.in_order views.version q (omega arith))
       where
@@ -410,16 +408,18 @@ join_step views whole silo newest kept = record {
         gone_before : row_status views.version views.rows q ≡ None
         gone_before = none_if (row_status views.version views.rows q) (λ there. not_lower (lower_found q shares there))
 
-        gone_after : row_status (views.version + 1) after q ≡ None
+        gone_after : row_status (views.version + 1) (joined_next views silo) q ≡ None
         gone_after =
             older_says views whole silo newest q ((Decides-shares silo q).0 shares) ne ∙ ap (λ o. option_map (λ _. Dead) o) gone_before
 
         on : (newer : Silo) → is_newer newer q ≡ true → IsSome (row_status views.version views.rows newer)
-            → IsSome (row_status (views.version + 1) after newer)
-        on newer above there = absurd (not_lower (let high = lower_found newer (newer_shares silo q newer shares above) there in
-        let low = (newer_parts newer q above).1 in omega (high, low, arith)))
+            → IsSome (row_status (views.version + 1) (joined_next views silo) newer)
+        on newer above there =
+            let high = lower_found newer (newer_shares silo q newer shares above) there in
+            let low = (newer_parts newer q above).1 in
+            absurd (not_lower (omega (high, low, arith)))
 
-        back : (newer : Silo) → is_newer newer q ≡ true → IsSome (row_status (views.version + 1) after newer)
+        back : (newer : Silo) → is_newer newer q ≡ true → IsSome (row_status (views.version + 1) (joined_next views silo) newer)
             → IsSome (row_status views.version views.rows newer)
         back newer above there = by (row_status views.version views.rows newer) refl
           where
@@ -432,7 +432,7 @@ join_step views whole silo newest kept = record {
             by None at =
                 let none = older_says views whole silo newest newer ((Decides-shares silo newer).0 (newer_shares silo q newer shares above)) apart_from
                 ∙ ap (λ o. option_map (λ _. Dead) o) at in
-                absurd (never (row_status (views.version + 1) after newer) none there)
+                absurd (never (row_status (views.version + 1) (joined_next views silo) newer) none there)
               where
                 never : (o : Option Status) → o ≡ None → IsSome o → ⊥
                 never None is there = cc (there)

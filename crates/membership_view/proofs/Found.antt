@@ -22,7 +22,7 @@ none_where x h = cc
 
 module _ {K X : Type 0} {R : K → K → Ordering} (o : IsTotalOrder R) where
   -- a key that is found among keys above another is above it
-  found_above : (j q : K) (x : X) (es : List (K × X)) → AllByRecursion (λ y. R j y ≡ Less) (keys_of es) → lookup (is_at (R q)) es ≡ Some x
+  pub found_above : (j q : K) (x : X) (es : List (K × X)) → AllByRecursion (λ y. R j y ≡ Less) (keys_of es) → lookup (is_at (R q)) es ≡ Some x
       → R j q ≡ Less
   found_above j q x [] above found = cc
   found_above j q x (e ∷ es) above found = by (R q e.0) refl found (found_above j q x es above.1)
@@ -34,14 +34,14 @@ module _ {K X : Type 0} {R : K → K → Ordering} (o : IsTotalOrder R) where
       by Greater h found later = later found
 
   -- what is found behind the first entry is found
-  found_behind : (e : K × X) (es : List (K × X)) → IsStrictlySortedBy R (keys_of (e ∷ es)) → (q : K) (x : X)
+  pub found_behind : (e : K × X) (es : List (K × X)) → IsStrictlySortedBy R (keys_of (e ∷ es)) → (q : K) (x : X)
       → lookup (is_at (R q)) es ≡ Some x
       → lookup (is_at (R q)) (e ∷ es) ≡ Some x
   found_behind e es s q x found =
       let above : R e.0 q ≡ Less = found_above e.0 q x es (sorted_head R e.0 (keys_of es) s) found in
       ap (λ r. cond (is_eq r) (Some e.1) (lookup (is_at (R q)) es)) (o.antisymm q e.0 ∙ ap ordering_reverse above) ∙ found
 
-  found_first : (e : K × X) (es : List (K × X)) → lookup (is_at (R e.0)) (e ∷ es) ≡ Some e.1
+  pub found_first : (e : K × X) (es : List (K × X)) → lookup (is_at (R e.0)) (e ∷ es) ≡ Some e.1
   found_first e es = ap (λ r. cond (is_eq r) (Some e.1) (lookup (is_at (R e.0)) es)) (tied_itself o e.0)
 
   module _ (p : K → X → Bool) where

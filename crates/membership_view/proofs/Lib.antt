@@ -1,6 +1,7 @@
 pub mod Found
 pub mod Order
 pub mod Listed
+pub mod Reading
 pub mod Statuses
 pub mod Known
 pub mod SameEndpoint
@@ -17,4 +18,7 @@ pub mod WorkedOut
 pub mod Searches
 pub mod Accepted
 pub mod Said
+pub mod DeadViews
+pub mod Absent
+pub mod KnownEndpoint
 pub mod Beginnings

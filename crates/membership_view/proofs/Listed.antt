@@ -1,16 +1,16 @@
 -- What a view lists of all rows, and what it says of the silos that it leaves out.
-use Rattle.std.proofs.Common.{◌≡◌, ◌⊎◌, inl, inr, ℕ, ◌<◌, Bool, true, false, cond, not, ◌&&◌, ◌||◌, nat_lt, List, [], ◌∷◌, ◌++◌, filter, Option, Some, None, refl, sym, ◌∙◌, ap, arith, subst, if◌then◌else◌}
+use Rattle.std.proofs.Common.{◌≡◌, ◌⊎◌, inl, inr, ℕ, zero, suc, ◌<◌, Bool, true, false, cond, not, ◌&&◌, ◌||◌, nat_lt, List, [], ◌∷◌, ◌++◌, filter, Option, Some, None, refl, sym, ◌∙◌, ap, arith, subst, if◌then◌else◌}
 use Rattle.std.proofs.lemmas.Bool.{ltb-true, lt-ltb, and_parts, and_from, or_left, or_right, false_from_ne_true}
 use Rattle.std.proofs.lemmas.Bool.Decides.{nat_tests}
 use Rattle.std.proofs.lemmas.Cmp.{eq_by_cmp_equiv}
 use Rattle.std.proofs.lemmas.Map.{lookup-none}
 use Rattle.std.proofs.lemmas.Map.Entries.{none_past_head}
 use Rattle.std.proofs.lemmas.Map.Keys.{sorted_head, sorted_tail, IsDistinct-from_sorted}
-use Rattle.std.specs.List.{AllByRecursion, list_any}
+use Rattle.std.specs.List.{AllByRecursion, list_any, slice_get}
 use Rattle.std.specs.List.Sorted.{IsStrictlySortedBy}
 use Rattle.std.specs.Map.{lookup, keys_of}
 use Rattle.std.specs.BTreeMap.{is_at}
-use Rattle.std.specs.Ordering.{is_eq, is_gt, nat_cmp}
+use Rattle.std.specs.Ordering.{is_eq, is_gt, nat_cmp, ordering_reverse}
 use Rattle.std.specs.declared.cmp.Ordering.{Ordering}
 use Rattle.std.specs.declared.cmp.Ordering.TheVariants.{Less, Equal, Greater}
 use Rattle.texts.proofs.Orderings.{Equal-from}
@@ -19,7 +19,7 @@ use Rattle.silo_address.proofs.Order.{silo_cmp_exact, silo_cmp_total}
 use Rattle.membership_view.specs.declared.status.Status.{Status}
 use Rattle.membership_view.specs.declared.status.Status.TheVariants.{Active, Leaving, Dead}
 use Rattle.membership_view.specs.View.{shares_endpoint, is_newer, is_outlived, is_spare, listed_rows, or_outlived}
-use Rattle.membership_view.specs.Listing.{before_by}
+use Rattle.membership_view.specs.Listing.{before_by, outlived_at}
 use Rattle.membership_view.proofs.Found.{found_above}
 use Rattle.membership_view.proofs.Order.{shares_back, shares_along, shares_between, by_generation}
 
@@ -137,6 +137,10 @@ unless_same a rest q None apart = refl
 unless_same a rest q (Some status) apart =
     ap (λ b. if b then None else Some status) (sym (spare_same a rest q status (apart status refl)))
 
+-- what the rows say of a silo
+abbrev found_in : Silo → List (Silo × Status) → Option Status
+found_in q rows = lookup (is_at (silo_cmp q)) rows
+
 pub lookup_listed : (q : Silo) (rows : List (Silo × Status)) → Sorted rows
     → lookup (is_at (silo_cmp q)) (listed_rows rows) ≡ unless_spare rows q (lookup (is_at (silo_cmp q)) rows)
 lookup_listed q [] s = refl
@@ -144,14 +148,11 @@ lookup_listed q (a ∷ rest) s =
     ap (λ l. lookup (is_at (silo_cmp q)) l) (listed-cons a rest s)
     ∙ by (silo_cmp q a.0) refl (is_spare rest a.0 a.1) refl (lookup_listed q rest (sorted_tail silo_cmp a.0 (keys_of rest) s))
   where
-    abbrev found : List (Silo × Status) → Option Status
-    found rows = lookup (is_at (silo_cmp q)) rows
-
-    behind : (status : Status) → found rest ≡ Some status → is_newer a.0 q ≡ false
+    behind : (status : Status) → found_in q rest ≡ Some status → is_newer a.0 q ≡ false
     behind status at =
         not_newer a.0 q (found_above silo_cmp_total a.0 q status rest (sorted_head silo_cmp a.0 (keys_of rest) s) at)
 
-    gone : silo_cmp q a.0 ≡ Equal → found rest ≡ None
+    gone : silo_cmp q a.0 ≡ Equal → found_in q rest ≡ None
     gone at =
         lookup-none (is_at (silo_cmp q)) rest (none_past_head (eq_by_cmp_equiv silo_cmp_total) q a rest
         (IsDistinct-from_sorted silo_cmp (keys_of (a ∷ rest)) s) (ap is_eq at))
@@ -160,27 +161,30 @@ lookup_listed q (a ∷ rest) s =
     own at =
         ap (λ k. is_spare (a ∷ rest) k a.1) (silo_cmp_exact q a.0 at) ∙ spare_same a rest a.0 a.1 (not_itself_newer a.0)
 
-    other : (b : Bool) → is_eq (silo_cmp q a.0) ≡ false → found (listed_rows rest) ≡ unless_spare rest q (found rest)
-        → found (cond (not b) (a ∷ listed_rows rest) (listed_rows rest)) ≡ unless_spare (a ∷ rest) q (found (a ∷ rest))
-    other true apart later =
-        later ∙ unless_same a rest q (found rest) behind
-        ∙ ap (λ t. unless_spare (a ∷ rest) q (cond t (Some a.1) (found rest))) (sym apart)
-    other false apart later =
-        ap (λ t. cond t (Some a.1) (found (listed_rows rest))) apart ∙ other true apart later
+    passed : is_eq (silo_cmp q a.0) ≡ false → found_in q (listed_rows rest) ≡ unless_spare rest q (found_in q rest)
+        → found_in q (listed_rows rest) ≡ unless_spare (a ∷ rest) q (found_in q (a ∷ rest))
+    passed apart later =
+        later ∙ unless_same a rest q (found_in q rest) behind
+        ∙ ap (λ t. unless_spare (a ∷ rest) q (cond t (Some a.1) (found_in q rest))) (sym apart)
+
+    other : (b : Bool) → is_eq (silo_cmp q a.0) ≡ false → found_in q (listed_rows rest) ≡ unless_spare rest q (found_in q rest)
+        → found_in q (cond (not b) (a ∷ listed_rows rest) (listed_rows rest)) ≡ unless_spare (a ∷ rest) q (found_in q (a ∷ rest))
+    other true apart later = passed apart later
+    other false apart later = ap (λ t. cond t (Some a.1) (found_in q (listed_rows rest))) apart ∙ passed apart later
 
     by : (r : Ordering) → silo_cmp q a.0 ≡ r → (b : Bool) → is_spare rest a.0 a.1 ≡ b
-        → found (listed_rows rest) ≡ unless_spare rest q (found rest)
-        → found (cond (not b) (a ∷ listed_rows rest) (listed_rows rest)) ≡ unless_spare (a ∷ rest) q (found (a ∷ rest))
+        → found_in q (listed_rows rest) ≡ unless_spare rest q (found_in q rest)
+        → found_in q (cond (not b) (a ∷ listed_rows rest) (listed_rows rest)) ≡ unless_spare (a ∷ rest) q (found_in q (a ∷ rest))
     by Less at b is later = other b (ap is_eq at) later
     by Greater at b is later = other b (ap is_eq at) later
     by Equal at true is later =
         later ∙ ap (λ o. unless_spare rest q o) (gone at)
         ∙ ap (λ t. if t then None else Some a.1) (sym (own at ∙ is))
-        ∙ ap (λ t. unless_spare (a ∷ rest) q (cond t (Some a.1) (found rest))) (sym (ap is_eq at))
+        ∙ ap (λ t. unless_spare (a ∷ rest) q (cond t (Some a.1) (found_in q rest))) (sym (ap is_eq at))
     by Equal at false is later =
-        ap (λ t. cond t (Some a.1) (found (listed_rows rest))) (ap is_eq at)
+        ap (λ t. cond t (Some a.1) (found_in q (listed_rows rest))) (ap is_eq at)
         ∙ ap (λ t. if t then None else Some a.1) (sym (own at ∙ is))
-        ∙ ap (λ t. unless_spare (a ∷ rest) q (cond t (Some a.1) (found rest))) (sym (ap is_eq at))
+        ∙ ap (λ t. unless_spare (a ∷ rest) q (cond t (Some a.1) (found_in q rest))) (sym (ap is_eq at))
 
 -- so a silo is what its row says, and else Dead where it is outlived
 pub status_listed : (q : Silo) (rows : List (Silo × Status)) → Sorted rows
@@ -218,24 +222,39 @@ none_outlive : (q : Silo) (rows : List (Silo × Status)) → AllByRecursion (λ 
 none_outlive q [] apart = refl
 none_outlive q (e ∷ es) apart = ap (λ b. b || is_outlived q es) apart.0 ∙ none_outlive q es apart.1
 
--- whether a row is outlived, the one behind it tells
+-- whether a silo is outlived by the rows behind it, the first of these tells
+pub outlived_front : (a : Silo) (x : Silo × Status) (rest : List (Silo × Status)) → silo_cmp a x.0 ≡ Less
+    → AllByRecursion (λ k. silo_cmp x.0 k ≡ Less) (keys_of rest) → is_outlived a (x ∷ rest) ≡ shares_endpoint a x.0
+outlived_front a x rest less above = by (shares_endpoint a x.0) refl
+  where
+    apart : shares_endpoint a x.0 ≡ false → is_newer x.0 a ≡ false
+    apart not = false_from_ne_true (is_newer x.0 a) (λ is. let yes : shares_endpoint a x.0 ≡ true = (newer_parts x.0 a is).0 in cc)
+
+    by : (b : Bool) → shares_endpoint a x.0 ≡ b → is_outlived a (x ∷ rest) ≡ b
+    by true shares = or_left (is_newer x.0 a) (is_outlived a rest) (newer_behind a x.0 shares less)
+    by false not =
+        ap (λ b. b || is_outlived a rest) (apart not) ∙ none_outlive a rest (none_newer a x.0 (keys_of rest) less not above)
+
 pub outlived_next : (a x : Silo × Status) (rest : List (Silo × Status)) → Sorted (a ∷ x ∷ rest)
     → is_outlived a.0 (x ∷ rest) ≡ shares_endpoint a.0 x.0
-outlived_next a x rest s = by (shares_endpoint a.0 x.0) refl
-  where
-    less : silo_cmp a.0 x.0 ≡ Less
-    less = (sorted_head silo_cmp a.0 (keys_of (x ∷ rest)) s).0
+outlived_next a x rest s =
+    outlived_front a.0 x rest (sorted_head silo_cmp a.0 (keys_of (x ∷ rest)) s).0
+    (sorted_head silo_cmp x.0 (keys_of rest) (sorted_tail silo_cmp a.0 (keys_of (x ∷ rest)) s))
 
-    above : AllByRecursion (λ k. silo_cmp x.0 k ≡ Less) (keys_of rest)
-    above = sorted_head silo_cmp x.0 (keys_of rest) (sorted_tail silo_cmp a.0 (keys_of (x ∷ rest)) s)
-
-    apart : shares_endpoint a.0 x.0 ≡ false → is_newer x.0 a.0 ≡ false
-    apart not = false_from_ne_true (is_newer x.0 a.0) (λ is. let yes : shares_endpoint a.0 x.0 ≡ true = (newer_parts x.0 a.0 is).0 in cc)
-
-    by : (b : Bool) → shares_endpoint a.0 x.0 ≡ b → is_outlived a.0 (x ∷ rest) ≡ b
-    by true shares = or_left (is_newer x.0 a.0) (is_outlived a.0 rest) (newer_behind a.0 x.0 shares less)
-    by false not =
-        ap (λ b. b || is_outlived a.0 rest) (apart not) ∙ none_outlive a.0 rest (none_newer a.0 x.0 (keys_of rest) less not above)
+-- so it is at the index where a silo would stand
+pub outlived_at_gap : (silo : Silo) (es : List (Silo × Status)) (index : ℕ) → Sorted es
+    → ((j : ℕ) (e : Silo × Status) → j < index → slice_get es j ≡ Some e → silo_cmp silo e.0 ≡ Greater)
+    → ((e : Silo × Status) → slice_get es index ≡ Some e → silo_cmp silo e.0 ≡ Less)
+    → outlived_at es index silo ≡ or_outlived None (is_outlived silo es)
+outlived_at_gap silo [] index s before there = refl
+outlived_at_gap silo (e ∷ es) zero s before there =
+    ap (λ b. if b then Some Dead else None)
+    (sym (outlived_front silo e es (there e refl) (sorted_head silo_cmp e.0 (keys_of es) s)))
+outlived_at_gap silo (e ∷ es) (suc index) s before there =
+    outlived_at_gap silo es index (sorted_tail silo_cmp e.0 (keys_of es) s) (λ j x below at. before (suc j) x (omega (below, arith)) at)
+    (λ x at. there x at)
+    ∙ ap (λ b. if b || is_outlived silo es then Some Dead else None)
+    (sym (not_newer e.0 silo (silo_cmp_total.antisymm e.0 silo ∙ ap ordering_reverse (before 0 e (omega arith) refl))))
 
 -- the first of two rows, and then the others
 pub listed_two : (a x : Silo × Status) (rest : List (Silo × Status)) → Sorted (a ∷ x ∷ rest)

@@ -66,7 +66,7 @@ newest_next silo rows s next row found inside first = by (shares_endpoint silo n
     by false apart true newest = refl
     by false apart false newest = let e : is_newest silo rows ≡ true = newest_from silo rows s (lower apart) in cc
 
-upto_from : (r : Ordering) → is_lt r ≡ false → is_gt (ordering_reverse r) ≡ false
+pub upto_from : (r : Ordering) → is_lt r ≡ false → is_gt (ordering_reverse r) ≡ false
 upto_from Less h = cc
 upto_from Equal h = refl
 upto_from Greater h = refl

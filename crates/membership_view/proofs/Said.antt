@@ -188,12 +188,15 @@ views_say_no_more views whole silo version none = elim (cases_lt views.version v
         let it = outlived_only version views.rows whole.in_order silo at in
         let two = newer_parts it.newer silo it.is in
         let same = (Decides-shares silo it.newer).0 two.0 in
-        inr (says made true at, record {
-          newer = it.newer;
-          same = (sym same.0, sym same.1);
-          later = two.1;
-          there = subst (λ o. IsSome o) (sym (status_at-made views whole.in_order version it.newer made ∙ it.there)) refl;
-        })
+        inr (
+          says made true at,
+          record {
+            newer = it.newer;
+            same = (sym same.0, sym same.1);
+            later = two.1;
+            there = subst (λ o. IsSome o) (sym (status_at-made views whole.in_order version it.newer made ∙ it.there)) refl;
+          },
+        )
 
 -- a view is in order of address
 pub view_in_order : (views : ViewsValue) → InOrder views.rows → (version : ℕ) → IsByAddress (view_at views version)

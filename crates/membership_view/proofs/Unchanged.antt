@@ -81,6 +81,17 @@ views_stay views change next accepts version h =
     ∙ view_at-same views is.rows version h (rows_in-same version is.rows views.rows kept.in_order accepts.whole.in_order
     (is.same version h))
 
+-- nor does what rows say of a version that was made
+pub statuses_stay : (views : ViewsValue) (change : Change) (next : ViewsValue) → Accepts views change next → (version : ℕ) → version ≤ views.version
+    → (silo : Silo) → status_at next version silo ≡ status_at views version silo
+statuses_stay views change next accepts version h silo =
+    let is = is_next views change next accepts in
+    let kept : IsViews (next_views views is.rows) = subst (λ v. IsViews v) is.is (views_are_kept views change next accepts) in
+    ap (λ v. status_at v version silo) is.is
+    ∙ status_at-made (next_views views is.rows) kept.in_order version silo (omega (h, arith))
+    ∙ is.same version h silo
+    ∙ sym (status_at-made views accepts.whole.in_order version silo h)
+
 -- by the row: what holds of a row's statuses from version to version holds of the views
 by_row : (views : ViewsValue) → IsViews views → (silo : Silo) (version : ℕ) → version ≤ views.version
     → status_at views version silo ≡ option_and_then (status_in version) (row_of views silo)

@@ -1,5 +1,5 @@
 -- What holds of all views, told by views and statuses alone.
-use Rattle.std.specs.Prelude.{◌≡◌, ◌≢◌, ◌↔◌, ◌⊎◌, ℕ, ◌+◌, ◌<◌, ◌≤◌, ◌^◌, [], IsTrue, IsSome, Some, Ok, Err}
+use Rattle.std.specs.Prelude.{None, ◌≡◌, ◌≢◌, ◌↔◌, ◌⊎◌, ℕ, ◌+◌, ◌<◌, ◌≤◌, ◌^◌, [], IsTrue, IsSome, Some, Ok, Err}
 use Rattle.silo_address.specs.Silo.{Silo, IsSameEndpoint}
 use Rattle.membership_view.specs.declared.status.Status.TheVariants.{Dead}
 use Rattle.membership_view.specs.View.{ViewValue, status_of}

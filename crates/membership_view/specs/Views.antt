@@ -41,6 +41,10 @@ row_of views silo = lookup (is_at (silo_cmp silo)) views.rows
 abbrev pub rows_in : ℕ → List (Silo × Row) → List (Silo × Status)
 rows_in version rows = filter_map (λ e. option_map (λ status. (e.0, status)) (status_in version e.1)) rows
 
+-- each silo that is known, with what it is in the current version
+abbrev pub known_now : ViewsValue → List (Silo × Status)
+known_now views = rows_in views.version views.rows
+
 -- the view of a version; nobody is in one that has not been made yet, nor in one before the first
 abbrev pub view_at : ViewsValue → ℕ → ViewValue
 view_at views version =

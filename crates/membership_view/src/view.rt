@@ -140,7 +140,8 @@ fn show_before(
     if status == Status::Dead && silo.same_endpoint(next) {
         return Ok(());
     }
-    shown.push((silo, status))
+    shown.push((silo, status))?;
+    Ok(())
 }
 
 // The last silo's row is shown, if there is one.
@@ -150,18 +151,14 @@ fn show_last(
 ) -> Result<(), AllocError>
     ensures { OnOk result (shown.new.items ≡ shown.old.items ++ last_of row) }
 {
-    match row {
-        Some(row) => shown.push(row),
-        None => Ok(()),
+    if let Some(row) = row {
+        shown.push(row)?;
     }
+    Ok(())
 }
 
 // A silo that isn't listed, but would be at that index, is Dead where the row there is of its endpoint.
-fn outlived_at(
-    rows: &[(SiloAddress, Status)],
-    index: usize,
-    silo: &SiloAddress,
-) -> Option<Status>
+fn outlived_at(rows: &[(SiloAddress, Status)], index: usize, silo: &SiloAddress) -> Option<Status>
     ensures { result ≡ outlived_at rows.now index silo.now }
 {
     let (next, _) = rows.get(index)?;

@@ -118,7 +118,7 @@ impl Views {
         if self.first == 0 || endpoint::is_known(&self.rows, silo) {
             return Err(ViewsError::NotListable);
         }
-        if self.rows.len() >= self.limit {
+        if self.limit <= self.rows.len() {
             return Err(ViewsError::RowsFull);
         }
         Ok(())

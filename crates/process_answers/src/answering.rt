@@ -6,6 +6,7 @@ ghost use Rattle.process_rules.specs.Answer.{answered, answered_as};
 ghost use Rattle.process_answers.specs.Answering.{IsAnswered};
 
 use crate::JoinToken;
+use crate::begins::answer_begin;
 use crate::changes::{Change, answer_change};
 use crate::dump::write_dump;
 use crate::figures::write_figures;
@@ -104,6 +105,7 @@ fn answer_asked(
             version,
             silo: dead,
         } => answer_change(silo, *version, &Change::Die(dead), out),
+        Asked::Begin { version, rows } => answer_begin(silo, *version, rows.as_slice(), out),
         Asked::See { version } => answer_see(silo, *version, out),
         Asked::Do(step) => answer_step(silo, step, out),
         Asked::Receive(letter) => answer_letter(silo, letter, out),

@@ -1,5 +1,5 @@
 -- How what the code read is what the rule reads.
-use Rattle.std.specs.Prelude.{◌≡◌, ℕ, Result, Ok, Err, IsOk}
+use Rattle.std.specs.Prelude.{◌≡◌, ⊤, ℕ, Result, Ok, Err, IsOk}
 use Rattle.process_rules.specs.ReadLetter as rule
 use Rattle.process_lines.specs.declared.fault.LineFault.{LineFault}
 use Rattle.process_lines.specs.declared.fault.LineError.{LineError}
@@ -21,6 +21,12 @@ Fails OutOfMemory rule = IsOk rule
 abbrev pub Reads : {A B : Type 0} → (A → B) → Result A LineError → Result B ℕ → Type 0
 Reads view (Ok value) rule = rule ≡ Ok (view value)
 Reads view (Err error) rule = Fails error rule
+
+-- so, but for memory, which may run out at any time
+abbrev pub ReadsUnlessMemory : {A B : Type 0} → (A → B) → Result A LineError → Result B ℕ → Type 0
+ReadsUnlessMemory view (Ok value) rule = rule ≡ Ok (view value)
+ReadsUnlessMemory view (Err (Fault fault)) rule = rule ≡ Err (line_fault_number fault)
+ReadsUnlessMemory view (Err OutOfMemory) rule = ⊤
 
 -- what stands in front of a kind, as the rule has it
 abbrev pub head_of : Head → rule.Head

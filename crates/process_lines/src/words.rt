@@ -17,6 +17,9 @@ use script_lines::{only_three_words, split_word};
 use silo_address::{ActivationError, ActivationId, Entry, GrainId, SiloAddress};
 use texts::number_up_to;
 
+/// The highest place.
+const HIGHEST_PLACE: u64 = 4_294_967_295;
+
 /// Four words, and what stands behind them.
 #[derive(Clone, Copy)]
 pub(crate) struct FourWords<'a> {
@@ -80,6 +83,16 @@ pub fn number_word(word: &[u8]) -> Result<u64, LineFault>
 {
     match number_up_to(word, u64::MAX) {
         Ok(number) => Ok(number),
+        Err(_) => Err(LineFault::NotANumber),
+    }
+}
+
+/// Reads a place: a number up to 2^32 - 1, else 923.
+pub(crate) fn place_word(word: &[u8]) -> Result<u32, LineFault>
+    ensures { told (λ place. place) result ≡ script.hash_word word.now }
+{
+    match number_up_to(word, HIGHEST_PLACE) {
+        Ok(place) => Ok(place as u32),
         Err(_) => Err(LineFault::NotANumber),
     }
 }

@@ -93,19 +93,19 @@ comma = 44
 abbrev pub status_named : List ℕ → Option Status
 status_named word = find (λ status. bytes_eq word (status_word status)) (status.Active ∷ status.Leaving ∷ status.Dead ∷ [])
 
--- a silo, its status and its places, once the status is known: 932 where it names none
+-- a silo, its status and its places, once the status is known: 933 where it names none
 abbrev pub listed_as : Option Status → (silo : List ℕ) → (places : List (List ℕ)) → Result Listed ℕ
-listed_as None silo places = Err 932
+listed_as None silo places = Err 933
 listed_as (Some status) silo places = do
   silo ← silo_word silo
   places ← places_in places
   Ok (record { silo = silo; status = status; places = places })
 
--- by what stands between its colons, of which one is the silo's own: 932 where these are too few or too many
+-- by what stands between its colons, of which one is the silo's own: 933 where these are too few or too many
 abbrev pub listed_of : List (List ℕ) → Result Listed ℕ
 listed_of (host ∷ port ∷ status ∷ []) = listed_as (status_named status) (host ++ colon ∷ port) []
 listed_of (host ∷ port ∷ status ∷ places ∷ []) = listed_as (status_named status) (host ++ colon ∷ port) (pieces_at comma places)
-listed_of pieces = Err 932
+listed_of pieces = Err 933
 
 -- a silo of a view
 abbrev pub listed_word : List ℕ → Result Listed ℕ

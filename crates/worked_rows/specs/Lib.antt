@@ -17,6 +17,7 @@ pub mod SecondSilo
 pub mod Recovery
 pub mod MissingSnapshot
 pub mod Refused
+pub mod Begun
 pub mod Tokens
 pub mod Questions
 pub mod Deadlines

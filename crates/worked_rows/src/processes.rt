@@ -6,6 +6,7 @@ ghost use Rattle.worked_rows.specs.SecondSilo as second;
 ghost use Rattle.worked_rows.specs.Recovery as recovering;
 ghost use Rattle.worked_rows.specs.MissingSnapshot as missing;
 ghost use Rattle.worked_rows.specs.Refused as refused;
+ghost use Rattle.worked_rows.specs.Begun as begun;
 ghost use Rattle.worked_rows.specs.Tokens as tokens;
 ghost use Rattle.worked_rows.specs.Questions as questions;
 ghost use Rattle.worked_rows.specs.Deadlines as deadlines;
@@ -40,6 +41,12 @@ pub fn a_snapshot_missing()
 #[tactic(auto, using(crate::proofs::ProcessesComputed::refused_changes))]
 pub fn refused_changes()
     ensures { Writes refused.refused_changes }
+{}
+
+/// A silo is told a view in place of all changes up to it: what is refused before and after that, its join, and its first sight.
+#[tactic(auto, using(crate::proofs::ProcessesComputed::a_view_told))]
+pub fn a_view_told()
+    ensures { Writes begun.a_view_told }
 {}
 
 /// A process that was started with a token is told of its silo's join by a line that carries it, and of all else by any.
