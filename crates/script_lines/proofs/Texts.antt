@@ -25,7 +25,12 @@ pub digit_put : (bytes : List ℕ) (end digit mark : ℕ) → digit < 10 → 1 <
 digit_put bytes end digit mark small some within =
     let next : end - 2 + 1 ≡ end - 1 = omega arith in
     let long = length-set bytes (end - 1) mark in
-    rw (drop-set (set bytes (end - 1) mark) (end - 2) (48 + digit) (omega arith), next, mark_put bytes end mark (omega arith) within, decimal_digit digit small) refl
+    rw (
+      drop-set (set bytes (end - 1) mark) (end - 2) (48 + digit) (omega arith),
+      next,
+      mark_put bytes end mark (omega arith) within,
+      decimal_digit digit small,
+    ) refl
 
 -- how many digits the numbers of a silo take at most
 pub short_generation : (written : ℕ) (silo : Silo) → IsSilo silo → written ≡ silo.generation → length (decimal written) ≤ 10

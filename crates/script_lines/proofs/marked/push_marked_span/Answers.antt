@@ -3,7 +3,8 @@ use Rattle.std.proofs.lemmas.Fmt.{length-decimal-le}
 use Rattle.script_lines.proofs.marked.push_marked_span.Goals as goal
 
 pub put_number-behind-requires-clause-room : goal.put_number-behind-requires-clause-room
-put_number-behind-requires-clause-room c = omega (arith, length-decimal-le 20 c.args.span.now.last (omega arith) (omega arith) (omega arith))
+put_number-behind-requires-clause-room c =
+    omega (arith, length-decimal-le 20 c.args.span.now.last (omega arith) (omega arith) (omega arith))
 
 pub overflow_sub-bytes : goal.overflow_sub-bytes
 overflow_sub-bytes c = omega (arith, length-decimal-le 20 c.args.span.now.last (omega arith) (omega arith) (omega arith))

@@ -69,10 +69,14 @@ returns-clause-put c =
     (c.put_number-start-2.ensures.put
     ∙ ap (λ n. decimal n ++ at_sign ∷ drop c.put_number-start.result c.put_number-start.new.bytes) (c.from-2.ensures ∙ c.port.ensures))
     (c.put_number-start-3.ensures.put
-    ∙ ap (λ n. decimal n ++ colon ∷ drop c.put_number-start-2.result c.put_number-start-2.new.bytes) (c.from-3.ensures ∙ ap (λ ip. slice_index ip 3) c.ip.ensures))
+    ∙ ap (λ n. decimal n ++ colon ∷ drop c.put_number-start-2.result c.put_number-start-2.new.bytes)
+    (c.from-3.ensures ∙ ap (λ ip. slice_index ip 3) c.ip.ensures))
     (c.put_number-start-4.ensures.put
-    ∙ ap (λ n. decimal n ++ dot ∷ drop c.put_number-start-3.result c.put_number-start-3.new.bytes) (c.from-4.ensures ∙ ap (λ ip. slice_index ip 2) c.ip.ensures))
+    ∙ ap (λ n. decimal n ++ dot ∷ drop c.put_number-start-3.result c.put_number-start-3.new.bytes)
+    (c.from-4.ensures ∙ ap (λ ip. slice_index ip 2) c.ip.ensures))
     (c.put_number-start-5.ensures.put
-    ∙ ap (λ n. decimal n ++ dot ∷ drop c.put_number-start-4.result c.put_number-start-4.new.bytes) (c.from-5.ensures ∙ ap (λ ip. slice_index ip 1) c.ip.ensures))
+    ∙ ap (λ n. decimal n ++ dot ∷ drop c.put_number-start-4.result c.put_number-start-4.new.bytes)
+    (c.from-5.ensures ∙ ap (λ ip. slice_index ip 1) c.ip.ensures))
     (c.put_number.ensures.put
-    ∙ ap (λ n. decimal n ++ dot ∷ drop c.put_number-start-5.result c.put_number-start-5.new.bytes) (c.from-6.ensures ∙ ap (λ ip. slice_index ip 0) c.ip.ensures))
+    ∙ ap (λ n. decimal n ++ dot ∷ drop c.put_number-start-5.result c.put_number-start-5.new.bytes)
+    (c.from-6.ensures ∙ ap (λ ip. slice_index ip 0) c.ip.ensures))
