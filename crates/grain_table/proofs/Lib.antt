@@ -19,3 +19,4 @@ pub mod Slots
 pub mod InOrder
 pub mod AcrossBuckets
 pub mod Searched
+pub mod ShortTexts

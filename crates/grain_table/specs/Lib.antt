@@ -2,3 +2,4 @@ pub mod Table
 pub mod Hashed
 pub mod Buckets
 pub mod Stretch
+pub mod ShortText

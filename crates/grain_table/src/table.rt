@@ -9,6 +9,7 @@ ghost use Rattle.grain_table.specs.Hashed.{IsKeyOf};
 mod count;
 mod keep;
 mod list;
+mod list_short;
 mod lying;
 mod order;
 mod put;
