@@ -23,17 +23,20 @@ use Rattle.grain_table.proofs.Order.{hashed_cmp_exact, hashed_cmp_total}
 
 module _ (hashing : Hashing) where
   -- under another hash than its own no grain is found
-  not_hashed : (key : HashedGrain) → (key.hash ≡ hash_grain hashing key.grain → ⊥) → (es : Hashed) → AllByRecursion (IsKeyOf hashing) (keys_of es) → lookup (is_at (hashed_cmp key)) es ≡ None
+  not_hashed : (key : HashedGrain) → (key.hash ≡ hash_grain hashing key.grain → ⊥) → (es : Hashed)
+      → AllByRecursion (IsKeyOf hashing) (keys_of es) → lookup (is_at (hashed_cmp key)) es ≡ None
   not_hashed key other [] keys = refl
   not_hashed key other (e ∷ es) keys = by (is_at (hashed_cmp key) e.0) refl (not_hashed key other es keys.1)
     where
-      by : (b : Bool) → is_at (hashed_cmp key) e.0 ≡ b → lookup (is_at (hashed_cmp key)) es ≡ None → cond b (Some e.1) (lookup (is_at (hashed_cmp key)) es) ≡ None
+      by : (b : Bool) → is_at (hashed_cmp key) e.0 ≡ b → lookup (is_at (hashed_cmp key)) es ≡ None
+          → cond b (Some e.1) (lookup (is_at (hashed_cmp key)) es) ≡ None
       by true at behind =
           let its : key ≡ e.0 = hashed_cmp_exact key e.0 (Equal-from (hashed_cmp key e.0) at) in
           absurd (other (subst (λ (k : HashedGrain). k.hash ≡ hash_grain hashing k.grain) (sym its) keys.0.hash_is))
       by false at behind = behind
 
-  entry_tells : (grain : Grain) (one other : Option ActivationId) → option_map (entry_of grain) one ≡ option_map (entry_of grain) other → one ≡ other
+  entry_tells : (grain : Grain) (one other : Option ActivationId) → option_map (entry_of grain) one ≡ option_map (entry_of grain) other
+      → one ≡ other
   entry_tells grain None None same = refl
   entry_tells grain None (Some b) same = cc
   entry_tells grain (Some a) None same = cc
@@ -43,10 +46,14 @@ module _ (hashing : Hashing) where
   pub kept_alike : (es fs : Hashed) → AreHashed hashing es → AreHashed hashing fs → by_grain es ≡ by_grain fs → es ≡ fs
   kept_alike es fs are also same = same_entries hashed_cmp_total hashed_cmp_exact es fs are.in_order also.in_order found
     where
-      under : (grain : Grain) → lookup (is_at (hashed_cmp (key_of hashing grain))) es ≡ lookup (is_at (hashed_cmp (key_of hashing grain))) fs
-      under grain = entry_tells grain _ _ (sym (found_by_grain hashing es are.keys grain) ∙ ap (entry_at grain) same ∙ found_by_grain hashing fs also.keys grain)
+      under : (grain : Grain) → lookup (is_at (hashed_cmp (key_of hashing grain))) es ≡ lookup (is_at (hashed_cmp (key_of hashing grain)))
+          fs
+      under grain =
+          entry_tells grain _ _ (sym (found_by_grain hashing es are.keys grain) ∙ ap (entry_at grain) same
+          ∙ found_by_grain hashing fs also.keys grain)
 
-      by : (key : HashedGrain) (b : Bool) → Decides b (key.hash ≡ hash_grain hashing key.grain) → lookup (is_at (hashed_cmp key)) es ≡ lookup (is_at (hashed_cmp key)) fs
+      by : (key : HashedGrain) (b : Bool) → Decides b (key.hash ≡ hash_grain hashing key.grain)
+          → lookup (is_at (hashed_cmp key)) es ≡ lookup (is_at (hashed_cmp key)) fs
       by key true decides =
           let its : key_of hashing key.grain ≡ key = λ i. record { hash = sym (decides.0 refl) i; grain = key.grain } in
           subst (λ k. lookup (is_at (hashed_cmp k)) es ≡ lookup (is_at (hashed_cmp k)) fs) its (under key.grain)

@@ -17,6 +17,11 @@ pub mod Listed
 pub mod KeysSame
 pub mod Slots
 pub mod InOrder
+pub mod Cuts
+pub mod Joined
 pub mod AcrossBuckets
+pub mod StillCut
+pub mod PutIn
+pub mod Stretches
 pub mod Searched
 pub mod ShortTexts

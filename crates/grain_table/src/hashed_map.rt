@@ -133,7 +133,10 @@ impl HashedMap {
             let Some((other_key, other_activation)) = others.next() else {
                 return false;
             };
-            if !key.same(&other_key) || activation != other_activation {
+            if !key.same(&other_key) {
+                return false;
+            }
+            if activation != other_activation {
                 return false;
             }
         }

@@ -137,13 +137,16 @@ impl Bucket {
         Ok(Bucket { slots })
     }
 
-    /// Keeps what stands under lower hashes.
-    pub(super) fn keep_before(&mut self, end: u64)
-        ensures { self.new ≡ filter (λ e. nat_lt e.0.hash end) self.old }
+    /// Keeps what stands under lower hashes, and answers by how many entries there are fewer.
+    pub(super) fn keep_before(&mut self, end: u64) -> usize
+        ensures entries { self.new ≡ filter (λ e. nat_lt e.0.hash end) self.old }
+        ensures fewer { length self.new + result ≡ length self.old }
     {
         let index = first_from(&self.slots, end);
+        let fewer = self.slots.len() - index;
         self.slots.truncate(index);
         self.slots.shrink_to_fit();
+        fewer
     }
 
     /// An equal bucket. Fails only when memory runs out.

@@ -1,5 +1,5 @@
 //! A full bucket is cut in two.
-ghost use Rattle.std.specs.Prelude.{◌≡◌, ◌<◌, length};
+ghost use Rattle.std.specs.Prelude.{◌≡◌, ◌<◌, ◌≤◌, length};
 ghost use Rattle.grain_table.specs.Buckets.{AreCut, joined};
 
 use super::bucket::Bucket;
@@ -26,6 +26,7 @@ pub(super) fn cut_full(
 // The same, of the bucket at an index.
 fn cut_at(cuts: &mut Vec<u32>, buckets: &mut Vec<Bucket>, index: usize) -> Result<(), AllocError>
     requires cut { AreCut cuts.old.items buckets.old.items }
+    requires bound { index ≤ length cuts.old.items }
     requires within { index < length buckets.old.items }
     ensures entries { joined buckets.new.items ≡ joined buckets.old.items }
     ensures cut { AreCut cuts.new.items buckets.new.items }

@@ -7,19 +7,18 @@ ghost use Rattle.grain_table.specs.Buckets.{joined};
 use super::HashedMap;
 use super::bucket::Bucket;
 use super::slot::Slot;
-use super::stretch::is_between;
 use crate::hashed_grain::HashedGrain;
 use silo_address::ActivationId;
 use std::marker::Model;
 
-/// Some slots of a map, in its order.
+/// The entries of some buckets of a map, in its order.
 #[derive(Drop)]
-pub(super) struct Slots<'a> {
+pub(crate) struct Entries<'a> {
     left: &'a [Slot],
     later: &'a [Bucket],
 }
 
-impl<'a> Model for Slots<'a> {
+impl<'a> Model for Entries<'a> {
     ghost use Rattle.std.specs.Prelude.{◌++◌};
     ghost use Rattle.grain_table.specs.Buckets.{joined};
     ghost use Rattle.grain_table.specs.Hashed.{Hashed};
@@ -29,19 +28,19 @@ impl<'a> Model for Slots<'a> {
     ghost view = { λ s. s.left.now ++ joined s.later.now };
 }
 
-impl<'a> Slots<'a> {
+impl<'a> Entries<'a> {
     /// Those of these buckets.
-    pub(super) fn of(buckets: &'a [Bucket]) -> Slots<'a>
+    pub(super) fn of(buckets: &'a [Bucket]) -> Entries<'a>
         ensures { result ≡ joined buckets.now }
     {
-        Slots {
+        Entries {
             left: &[],
             later: buckets,
         }
     }
 
-    // Takes the first one.
-    fn take(&mut self) -> Option<&'a Slot>
+    /// Takes the slot of the first one, whose grain isn't read.
+    pub(super) fn take_slot(&mut self) -> Option<&'a Slot>
         ensures { MatchOption result ((self.old ≡ []) × (self.new ≡ [])) (λ slot. self.old ≡ slot.now ∷ self.new) }
     {
         'empty: while self.left.is_empty() {
@@ -55,24 +54,6 @@ impl<'a> Slots<'a> {
     }
 }
 
-/// Some entries of a map, in its order: those under hashes from the first one on and before the end.
-#[derive(Drop)]
-pub(crate) struct Entries<'a> {
-    pub(super) slots: Slots<'a>,
-    pub(super) first: u32,
-    pub(super) end: u64,
-}
-
-impl<'a> Model for Entries<'a> {
-    ghost use Rattle.std.specs.Prelude.{filter};
-    ghost use Rattle.grain_table.specs.Hashed.{Hashed};
-    ghost use Rattle.grain_table.specs.Stretch.{is_between};
-
-    ghost Value = { Hashed };
-
-    ghost view = { λ s. filter (λ e. is_between s.first s.end e.0.hash) s.slots };
-}
-
 impl<'a> Iterator for Entries<'a> {
     type Item = (HashedGrain, ActivationId);
 
@@ -81,12 +62,10 @@ impl<'a> Iterator for Entries<'a> {
     ghost remaining = { λ s. at_most (length s) };
 
     fn next(&mut self) -> Option<(HashedGrain, ActivationId)> {
-        'slots: while let Some(slot) = self.slots.take() {
-            if is_between(self.first, self.end, slot.hash()) {
-                return Some((slot.key(), slot.activation()));
-            }
+        match self.take_slot() {
+            Some(slot) => Some((slot.key(), slot.activation())),
+            None => None,
         }
-        None
     }
 }
 
@@ -95,10 +74,6 @@ impl HashedMap {
     pub(crate) fn iter(&self) -> Entries<'_>
         ensures { result ≡ self.now }
     {
-        Entries {
-            slots: Slots::of(&self.buckets),
-            first: 0,
-            end: u64::MAX,
-        }
+        Entries::of(&self.buckets)
     }
 }

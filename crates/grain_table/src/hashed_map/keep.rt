@@ -1,5 +1,5 @@
 //! Some entries of a map stay, and the others go.
-ghost use Rattle.std.specs.Prelude.{◌≡◌, ◌≤◌, filter, length, map, nat_lt, not};
+ghost use Rattle.std.specs.Prelude.{◌≡◌, ◌≤◌, ◌+◌, filter, length, map, nat_lt, not};
 ghost use Rattle.directory_rules.specs.Members.{is_dead_in};
 ghost use Rattle.hash_ring.specs.Hash.{hash_grain};
 ghost use Rattle.ring_range.specs.Range.{holds};
@@ -18,8 +18,7 @@ impl HashedMap {
         ensures { self.new ≡ filter (λ e. nat_lt e.0.hash end) self.old }
     {
         let most = self.len;
-        drop_behind(&mut self.cuts, &mut self.buckets, end);
-        self.len = count(&self.buckets, most);
+        self.len -= drop_behind(&mut self.cuts, &mut self.buckets, end, most);
     }
 
     /// Keeps what stands under hashes of the range.
@@ -50,18 +49,22 @@ impl HashedMap {
     }
 }
 
-// Takes out what stands under the end or higher hashes.
-fn drop_behind(cuts: &mut Vec<u32>, buckets: &mut Vec<Bucket>, end: u64)
-    requires { AreCut cuts.old.items buckets.old.items }
+// Takes out what stands under the end or higher hashes, of at most so many entries, and answers by how many there are fewer.
+fn drop_behind(cuts: &mut Vec<u32>, buckets: &mut Vec<Bucket>, end: u64, most: usize) -> usize
+    requires cut { AreCut cuts.old.items buckets.old.items }
+    requires most { length (joined buckets.old.items) ≤ most }
     ensures entries { joined buckets.new.items ≡ filter (λ e. nat_lt e.0.hash end) (joined buckets.old.items) }
     ensures cut { AreCut cuts.new.items buckets.new.items }
+    ensures fewer { length (joined buckets.new.items) + result ≡ length (joined buckets.old.items) }
 {
     let index = cuts_before(cuts, end);
+    if buckets.len() <= index {
+        return 0;
+    }
+    let behind = count(&buckets[index + 1..], most);
     cuts.truncate(index);
     buckets.truncate(index + 1);
-    if index < buckets.len() {
-        buckets[index].keep_before(end);
-    }
+    behind + buckets[index].keep_before(end)
 }
 
 fn keep_each_in(buckets: &mut Vec<Bucket>, range: &RingRange)

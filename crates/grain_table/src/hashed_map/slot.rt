@@ -12,7 +12,7 @@ use std::alloc::{AllocError, Global};
 use std::boxed::BoxedSlice;
 use std::marker::Model;
 
-/// An activation under its hashed grain, in 40 bytes and as many on the heap as the grain's text has. The hash is in place, so that
+/// An activation under its hashed grain, in 48 bytes and as many on the heap as the grain's text has. The hash is in place, so that
 /// a search looks at the text mostly of one grain.
 #[derive(Drop)]
 pub(super) struct Slot {

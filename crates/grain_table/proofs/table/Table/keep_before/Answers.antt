@@ -15,5 +15,6 @@ invariant_of-self c =
 pub returns : goal.returns
 returns c =
     ap (λ (es : Hashed). record { hashing = c.self.inside.hashing; entries = by_grain es }) c.keep_before.ensures
-    ∙ ap (λ table. record { hashing = c.self.inside.hashing; entries = table }) (passed_by_grain c.self.inside.hashing (λ h. nat_lt h c.args.end) c.self.inside.map c.self.invariant.are)
+    ∙ ap (λ table. record { hashing = c.self.inside.hashing; entries = table })
+    (passed_by_grain c.self.inside.hashing (λ h. nat_lt h c.args.end) c.self.inside.map c.self.invariant.are)
     ∙ ap (λ (v : TableValue). record v { entries = filter (λ e. nat_lt (hash_grain v.hashing e.0) c.args.end) v.entries }) c.self.view_is

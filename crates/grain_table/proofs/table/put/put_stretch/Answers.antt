@@ -16,5 +16,5 @@ entries-init c =
       hashing_is = refl;
       whole = ap (λ l. put_in c.args.table.entries (entries_under l)) is;
       keys = subst (λ (l : Hashed). AllByRecursion (IsKeyOf c.args.table.hashing) (keys_of l)) (sym is)
-          (passed_are_hashed c.args.table.hashing (λ e. is_between c.args.first c.args.end e.0.hash) es c.requires.hashed).keys;
+          (passed_are_hashed c.args.table.hashing (λ e. is_between c.args.first c.args.end e.0.hash) es c.requires).keys;
     }

@@ -1,9 +1,0 @@
-use Rattle.std.proofs.Common.{◌≡◌, filter, length}
-use Rattle.grain_table.specs.Stretch.{is_between}
-use Rattle.grain_table.proofs.hashed_map.entries.EntriesIterator.next.Given as goal
-
-abbrev pub invariant-slots : goal.invariant-slots
-invariant-slots l = filter (λ e. is_between l.self-inside.first l.self-inside.end e.0.hash) l.self-inside.slots ≡ l.fn.self
-
-abbrev pub decreases-slots : goal.decreases-slots
-decreases-slots l = length l.self-inside.slots
