@@ -15,7 +15,7 @@ returns-then-is_before_first c =
     c.rise_by_grain-then-is_before_first.ensures
     ∙ ap (λ b. b && rise_by_grain ys) (sym before)
     ∙ ap (λ (e : Entry). is_before_first e ys && rise_by_grain ys) (c.entry-last.ensures ∙ c.index-gathered-gathered.is)
-    ∙ sym (goes_on_behind xs ys last some c.requires)
+    ∙ sym (goes_on_behind xs ys c.index-gathered-gathered.result some c.requires)
 
 pub returns-else-is_before_first : goal.returns-else-is_before_first
 returns-else-is_before_first c =
@@ -27,4 +27,4 @@ returns-else-is_before_first c =
     c.if-is_before_first.false
     ∙ ap (λ b. b && rise_by_grain ys) (sym before)
     ∙ ap (λ (e : Entry). is_before_first e ys && rise_by_grain ys) (c.entry-last.ensures ∙ c.index-gathered-gathered.is)
-    ∙ sym (goes_on_behind xs ys last some c.requires)
+    ∙ sym (goes_on_behind xs ys c.index-gathered-gathered.result some c.requires)
