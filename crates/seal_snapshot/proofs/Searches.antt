@@ -143,7 +143,7 @@ answer_missing shelf seen version range asker page new fail =
     answer_seen shelf seen version range asker page None new (find_none version range asker shelf fail)
 
 -- ---- a page tells the digest of its snapshot
-digest_in : Answer → List ℕ
+abbrev digest_in : Answer → List ℕ
 digest_in (Hands_page page) = page.digest
 digest_in Has_none = []
 digest_in Is_behind = []
