@@ -34,8 +34,8 @@ pub(crate) fn listed(
 {
     if !tidy {
         let kept = kept_entries(alloc, pieces, tidy, hashing, view, range)?;
-        let entries = kept.in_order(alloc)?;
-        return short_entries(alloc, &entries);
+        let full = kept.in_order(alloc)?;
+        return short_entries(alloc, &full);
     }
     let mut entries = met_listed(alloc, pieces, hashing, view, range)?;
     entries.sort_unstable();

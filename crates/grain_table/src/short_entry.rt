@@ -1,9 +1,10 @@
 //! Entries in little memory.
 ghost use Rattle.std.proofs.Common.{rules};
-ghost use Rattle.std.specs.Cmp.{partial_equiv_from_equiv, partial_order_from_own_ties};
+ghost use Rattle.std.specs.Cmp.{partial_equiv_from_equiv, partial_order_from_own_ties, partial_order_from_total};
 ghost use Rattle.std.specs.Cmp.Rules.{comparing};
 ghost use Rattle.std.specs.Ordering.{as_partial_cmp};
 ghost use Rattle.std.specs.Prelude.{◌≡◌, IfOk};
+ghost use Rattle.silo_address.proofs.Order.{entry_cmp_total};
 ghost use Rattle.silo_address.specs.Activation.{entry_cmp, entry_eq};
 ghost use Rattle.silo_address.specs.Grain.{grain_cmp, grain_eq, grain_text};
 
@@ -162,7 +163,7 @@ impl Eq for ShortEntry {
 impl Ord for ShortEntry {
     ghost cmp = { entry_cmp };
 
-    ghost total = { Prim.search (comparing, rules) };
+    ghost total = { entry_cmp_total };
 
     ghost matches_partial_cmp = { Prim.search (comparing, rules) };
 
@@ -180,7 +181,7 @@ impl Ord for ShortEntry {
 impl PartialOrd for ShortEntry {
     ghost partial_cmp = { as_partial_cmp entry_cmp };
 
-    ghost laws = { partial_order_from_own_ties (Prim.search (comparing, rules)) (Prim.search (comparing, rules)) };
+    ghost laws = { partial_order_from_own_ties (partial_order_from_total entry_cmp_total) (Prim.search (comparing, rules)) };
 
     fn partial_cmp(&self, other: &ShortEntry) -> Option<Ordering> {
         Some(self.cmp(other))
