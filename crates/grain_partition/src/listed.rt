@@ -1,4 +1,4 @@
-//! What pieces keep in a range, as a list of short entries: a seal tells it without a table in between.
+//! What pieces keep in a range, as a list: a seal tells it without a table in between.
 ghost use Rattle.std.specs.List.Sorted.{IsPermutation};
 ghost use Rattle.std.specs.Prelude.{◌≡◌, true, IfOk};
 ghost use Rattle.directory_rules.specs.Sight.{kept_entries, was_settled};
@@ -9,10 +9,10 @@ use crate::Piece;
 use crate::entries::kept_entries;
 use crate::search::piece_with;
 use crate::settled::{front_of, part_behind};
-use grain_table::{ShortEntry, short_entries};
 use hash_ring::Hashing;
 use membership_view::View;
 use ring_range::RingRange;
+use silo_address::Entry;
 use std::alloc::{AllocError, Global};
 use std::collections::BTreeMap;
 
@@ -26,7 +26,7 @@ pub(crate) fn listed(
     hashing: Hashing,
     view: &View,
     range: &RingRange,
-) -> Result<Vec<ShortEntry>, AllocError>
+) -> Result<Vec<Entry>, AllocError>
     requires pieces { ArePieces pieces.now.entries }
     requires tidy { tidy ≡ are_tidy hashing pieces.now.entries }
     requires settled { was_settled pieces.now.entries range.now ≡ true }
@@ -34,12 +34,10 @@ pub(crate) fn listed(
 {
     if !tidy {
         let kept = kept_entries(alloc, pieces, tidy, hashing, view, range)?;
-        let full = kept.in_order(alloc)?;
-        return short_entries(alloc, &full);
+        return kept.in_order(alloc);
     }
     let mut entries = met_listed(alloc, pieces, hashing, view, range)?;
     entries.sort_unstable();
-    entries.shrink_to_fit();
     Ok(entries)
 }
 
@@ -50,7 +48,7 @@ fn met_listed(
     hashing: Hashing,
     view: &View,
     range: &RingRange,
-) -> Result<Vec<ShortEntry>, AllocError>
+) -> Result<Vec<Entry>, AllocError>
     requires pieces { ArePieces pieces.now.entries }
     requires tidy { are_tidy hashing pieces.now.entries ≡ true }
     requires settled { was_settled pieces.now.entries range.now ≡ true }
@@ -65,7 +63,7 @@ fn met_listed(
         let front = front_of(&rest, &behind);
         let table = piece.entries();
         table.made_again();
-        entries = table.list_short(alloc, entries, hashing, view, &front)?;
+        entries = table.list_kept(alloc, entries, hashing, view, &front)?;
         rest = behind;
     }
     Ok(entries)

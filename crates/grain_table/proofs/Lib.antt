@@ -24,4 +24,3 @@ pub mod StillCut
 pub mod PutIn
 pub mod Stretches
 pub mod Searched
-pub mod ShortTexts

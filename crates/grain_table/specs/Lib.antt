@@ -2,4 +2,3 @@ pub mod Table
 pub mod Hashed
 pub mod Buckets
 pub mod Stretch
-pub mod ShortText

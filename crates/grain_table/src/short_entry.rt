@@ -1,25 +1,21 @@
 //! Entries in little memory.
 ghost use Rattle.std.proofs.Common.{rules};
-ghost use Rattle.std.specs.Cmp.{partial_equiv_from_equiv, partial_order_from_own_ties, partial_order_from_total};
+ghost use Rattle.std.specs.Cmp.{partial_equiv_from_equiv};
 ghost use Rattle.std.specs.Cmp.Rules.{comparing};
-ghost use Rattle.std.specs.Ordering.{as_partial_cmp};
 ghost use Rattle.std.specs.Prelude.{◌≡◌, IfOk};
-ghost use Rattle.silo_address.proofs.Order.{entry_cmp_total};
-ghost use Rattle.silo_address.specs.Activation.{entry_cmp, entry_eq};
-ghost use Rattle.silo_address.specs.Grain.{grain_cmp, grain_eq, grain_text};
+ghost use Rattle.silo_address.specs.Activation.{entry_eq};
+ghost use Rattle.silo_address.specs.Grain.{grain_text};
 
 use silo_address::{ActivationId, Entry, GrainId, SiloAddress};
 use std::alloc::{AllocError, Global};
 use std::boxed::BoxedSlice;
-use std::cmp::Ordering;
 use std::marker::Model;
 
 /// An entry in 40 bytes, and as many on the heap as its grain's text has. What keeps many entries for long keeps them so, and puts
-/// each together where it hands it out. They are ordered as entries are, by grain, then activation.
+/// each together where it hands it out.
 #[derive(Drop)]
 pub struct ShortEntry {
     silo: SiloAddress,
-    kind_len: u8,
     count: u64,
     text: BoxedSlice<u8>,
 }
@@ -28,13 +24,13 @@ impl Model for ShortEntry {
     ghost use Rattle.std.specs.Box.{boxed_slice_items};
     ghost use Rattle.silo_address.specs.ReadGrain.{grain_at_slash};
     ghost use Rattle.silo_address.specs.declared.Entry.{Entry as EntryValue};
-    ghost use Rattle.grain_table.specs.ShortText.{IsShortText};
+    ghost use Rattle.grain_table.specs.Buckets.{IsGrainText};
 
     ghost Value = { EntryValue };
 
     ghost view = { λ s. record { grain = grain_at_slash (boxed_slice_items s.text); activation = record { silo = s.silo; count = s.count } } };
 
-    ghost invariant = { λ s. IsShortText s.kind_len (boxed_slice_items s.text) };
+    ghost invariant = { λ s. IsGrainText (boxed_slice_items s.text) };
 }
 
 impl ShortEntry {
@@ -42,14 +38,11 @@ impl ShortEntry {
     pub fn of(alloc: Global, entry: &Entry) -> Result<ShortEntry, AllocError>
         ensures { IfOk result (λ short. short ≡ entry.now) }
     {
-        let Entry { grain, activation } = *entry;
-        grain.in_range();
-        let kind_len = grain.kind().len() as u8;
-        let text = BoxedSlice::from_slice(alloc, grain.as_bytes())?;
+        entry.grain.in_range();
+        let text = BoxedSlice::from_slice(alloc, entry.grain.as_bytes())?;
         Ok(ShortEntry {
-            silo: activation.silo,
-            kind_len,
-            count: activation.count,
+            silo: entry.activation.silo,
+            count: entry.activation.count,
             text,
         })
     }
@@ -91,39 +84,6 @@ impl ShortEntry {
         }
     }
 
-    // Its grain's kind.
-    fn kind(&self) -> &[u8]
-        ensures { result.now ≡ self.now.grain.kind }
-    {
-        &self.text.as_slice()[..usize::from(self.kind_len)]
-    }
-
-    // Its grain's key.
-    fn key(&self) -> &[u8]
-        ensures { result.now ≡ self.now.grain.key }
-    {
-        &self.text.as_slice()[usize::from(self.kind_len) + 1..]
-    }
-
-    // Whether the grain is that of the other one.
-    fn has_grain_of(&self, other: &ShortEntry) -> bool
-        ensures { result ≡ grain_eq self.now.grain other.now.grain }
-    {
-        self.kind() == other.kind() && self.key() == other.key()
-    }
-
-    // How the grain compares to that of the other one: where the kinds have one length, as the texts do.
-    fn compare_grains(&self, other: &ShortEntry) -> Ordering
-        ensures { result ≡ grain_cmp self.now.grain other.now.grain }
-    {
-        if self.kind_len == other.kind_len {
-            return self.text().cmp(other.text());
-        }
-        self.kind()
-            .cmp(other.kind())
-            .then(self.key().cmp(other.key()))
-    }
-
     /// An equal one. Fails only when memory runs out.
     pub fn copy(&self) -> Result<ShortEntry, AllocError>
         ensures { IfOk result (λ short. short ≡ self.now) }
@@ -131,7 +91,6 @@ impl ShortEntry {
         let text = self.text.clone()?;
         Ok(ShortEntry {
             silo: self.silo,
-            kind_len: self.kind_len,
             count: self.count,
             text,
         })
@@ -152,39 +111,7 @@ impl PartialEq for ShortEntry {
     ghost laws = { partial_equiv_from_equiv (Prim.search (comparing, rules)) };
 
     fn eq(&self, other: &ShortEntry) -> bool {
-        self.has_grain_of(other) && self.activation() == other.activation()
-    }
-}
-
-impl Eq for ShortEntry {
-    ghost laws = { Prim.search (comparing, rules) };
-}
-
-impl Ord for ShortEntry {
-    ghost cmp = { entry_cmp };
-
-    ghost total = { entry_cmp_total };
-
-    ghost matches_partial_cmp = { Prim.search (comparing, rules) };
-
-    ghost matches_eq = { Prim.search (comparing, rules) };
-
-    fn cmp(&self, other: &ShortEntry) -> Ordering {
-        match self.compare_grains(other) {
-            Ordering::Less => Ordering::Less,
-            Ordering::Equal => self.activation().cmp(&other.activation()),
-            Ordering::Greater => Ordering::Greater,
-        }
-    }
-}
-
-impl PartialOrd for ShortEntry {
-    ghost partial_cmp = { as_partial_cmp entry_cmp };
-
-    ghost laws = { partial_order_from_own_ties (partial_order_from_total entry_cmp_total) (Prim.search (comparing, rules)) };
-
-    fn partial_cmp(&self, other: &ShortEntry) -> Option<Ordering> {
-        Some(self.cmp(other))
+        self.entry() == other.entry()
     }
 }
 

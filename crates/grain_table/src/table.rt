@@ -9,7 +9,6 @@ ghost use Rattle.grain_table.specs.Hashed.{IsKeyOf};
 mod count;
 mod keep;
 mod list;
-mod list_short;
 mod lying;
 mod order;
 mod put;

@@ -9,8 +9,8 @@ use std::process::Abort;
 
 const SILO: &str = "10.0.0.1:1000@1!1";
 
-// Entries by grain, then activation. A kind comes before a longer one that begins with it, though `!` stands below the slash.
-const IN_ORDER: [(&str, &str); 6] = [
+// Entries of which no two are the same: they differ in a kind, a key, or an activation.
+const APART: [(&str, &str); 6] = [
     ("a/z", SILO),
     ("a!/a", SILO),
     ("a!/b", SILO),
@@ -49,14 +49,14 @@ fn copy_of(rt: &impl Abort, short: &ShortEntry) -> ShortEntry {
 }
 
 #[test]
-fn in_order(rt: HostRuntime) {
-    for (index, texts) in IN_ORDER.iter().enumerate() {
+fn each_by_itself(rt: HostRuntime) {
+    for (index, texts) in APART.iter().enumerate() {
         let one = shortened(&rt, rt.alloc(), *texts);
         assert!(rt; is_of(&one, &entry(&rt, *texts)) && one == copy_of(&rt, &one));
-        for (other_index, other_texts) in IN_ORDER.iter().enumerate() {
+        for (other_index, other_texts) in APART.iter().enumerate() {
             let other = shortened(&rt, rt.alloc(), *other_texts);
             assert!(rt;
-                one.cmp(&other) == index.cmp(&other_index),
+                (one == other) == (index == other_index),
                 "{index} {other_index}"
             );
         }
@@ -73,7 +73,7 @@ fn are_full(alloc: Global, short: &[ShortEntry], entries: &[Entry]) -> bool {
 
 #[test]
 fn lists(rt: HostRuntime) {
-    let entries = [entry(&rt, IN_ORDER[4]), entry(&rt, IN_ORDER[0])];
+    let entries = [entry(&rt, APART[4]), entry(&rt, APART[0])];
     let short = short(&rt, rt.alloc(), &entries);
     assert!(rt; are_full(rt.alloc(), &short, &entries) || are_full(rt.alloc(), &short, &entries));
 }

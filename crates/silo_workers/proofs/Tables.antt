@@ -75,7 +75,7 @@ text_crosses : Crosses (key.the_field u8 Heap.the_row ghosts).row
 text_crosses = fields (key.the_type u8 Heap.the_row ghosts) (listed u8 byte, tt)
 
 short_crosses : Crosses short.the_row
-short_crosses = modelled short_inside.the_type _ _ _ _ (silo_crosses, (byte, (number64, (text_crosses, tt))))
+short_crosses = modelled short_inside.the_type _ _ _ _ (silo_crosses, (number64, (text_crosses, tt)))
 
 bytes_crosses : Crosses (Array u8 32)
 bytes_crosses = array u8 32 byte

@@ -1,13 +1,12 @@
-use Rattle.std.proofs.Common.{◌∙◌, ap, length}
+use Rattle.std.proofs.Common.{◌∙◌}
 use Rattle.std.specs.Box.{boxed_slice_items}
-use Rattle.grain_table.proofs.ShortTexts.{short_text}
-use Rattle.grain_table.proofs.Slots.{grain_again}
+use Rattle.grain_table.proofs.Slots.{grain_again, is_text}
 use Rattle.grain_table.proofs.short_entry.ShortEntry.of.Goals as goal
 
 pub invariant_of-result : goal.invariant_of-result
 invariant_of-result c =
-    short_text (length c.kind.result.now) (boxed_slice_items c.in_ok-text.text) c.args.entry.now.grain c.in_range.ensures
-    (c.in_ok-text.ensures.ok ∙ c.as_bytes.ensures.text) (ap length c.kind.ensures)
+    is_text (boxed_slice_items c.in_ok-text.text) c.args.entry.now.grain c.in_range.ensures
+    (c.in_ok-text.ensures.ok ∙ c.as_bytes.ensures.text)
 
 pub returns : goal.returns
 returns c = λ i. record {
