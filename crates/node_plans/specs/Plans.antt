@@ -26,11 +26,12 @@ use Rattle.host_activations.specs.Renewal.{renewal_of}
 use Rattle.host_activations.specs.declared.asked.OutstandingRequest.{OutstandingRequest}
 use Rattle.lookup_cache.specs.Used.{used}
 use Rattle.seal_snapshot.specs.Progress.{progress_of}
+use Rattle.seal_snapshot.specs.Shelf.{IsDigestFor}
 use Rattle.seal_snapshot.specs.declared.progress.GatheringProgress.TheVariants.{More}
 use Rattle.node_plans.specs.declared.plan.Plan.{Plan}
 use Rattle.node_plans.specs.declared.plan.Sight.{Sight}
 use Rattle.node_plans.specs.declared.plan.Change.{Change}
-use Rattle.node_plans.specs.declared.plan.Change.TheVariants.{Nothing, Sees, Renews, RenewsAbout, Starts, Closes, Asks, Serves, Confirms, Yields, Ends, EndsFind, Learns, UsesHint, Forgets, Discards, Gathers, GathersAnew, Installs, Recovers, Counts}
+use Rattle.node_plans.specs.declared.plan.Change.TheVariants.{Nothing, Sees, Renews, RenewsAbout, Starts, Closes, Asks, Serves, Confirms, Yields, Ends, EndsFind, Learns, UsesHint, Forgets, Discards, Digests, Gathers, GathersAnew, Installs, Recovers, Counts}
 
 -- without the activation, if there is one
 abbrev pub without : Option (Grain × Held) → Node → Node
@@ -83,6 +84,7 @@ changed (Learns number entry) node = record node { host = without_find node.host
 changed (UsesHint grain) node = record node { cache = used node.cache grain }
 changed (Forgets grain activation) node = record node { cache = without_pair node.cache grain activation }
 changed (Discards version range to) node = record node { shelf = shelf_without node.shelf version range to }
+changed (Digests version range to digest) node = node
 changed (Gathers page) node = with_gathering node (with_page (gathering_of node page.range) page)
 changed (GathersAnew range) node = with_gathering node (new_gathering (gathering_of node range).version range)
 changed (Installs range entries) node = with_settled node range entries.entries
@@ -119,8 +121,8 @@ pub record FitsSight (sight : Sight) (node : Node) : Type 0 where
   pub recoveries : sight.recoveries.entries ≡ new_recoveries sight.view (pieces_by sight node)
   pub renewal : MayRenew node sight.renewal
 
--- what a change asks of its node: entries and recoveries are for a piece that is there, and a report counts where the piece
--- recovers
+-- what a change asks of its node: a digest is the snapshot's, entries and recoveries are for a piece that is there, and a report counts
+-- where the piece recovers
 abbrev pub Fits : Change → Node → Type 0
 Fits Nothing node = Unit {0}
 Fits (Sees sight) node = FitsSight sight.value node
@@ -138,6 +140,7 @@ Fits (Learns number entry) node = Unit {0}
 Fits (UsesHint grain) node = Unit {0}
 Fits (Forgets grain activation) node = Unit {0}
 Fits (Discards version range to) node = Unit {0}
+Fits (Digests version range to digest) node = IsDigestFor version range to node.shelf digest
 Fits (Gathers page) node = GoesOn node page
 Fits (GathersAnew range) node = Unit {0}
 Fits (Installs range entries) node = HasPiece range node.holding.pieces

@@ -7,7 +7,7 @@ ghost use Rattle.directory_rules.specs.Standing.{rise_behind};
 ghost use Rattle.directory_rules.specs.Table.{is_before_first, lie_in, rise_by_grain, table_of, with_entry};
 
 use directory_rules::Settings;
-use grain_table::Table;
+use grain_table::{ShortEntry, Table};
 use hash_ring::Hashing;
 use host_activations::stands_behind;
 use ring_range::RingRange;
@@ -60,15 +60,15 @@ pub fn rise_behind(
 }
 
 /// Whether entries go on in the order of their grains behind those gathered. It asks that these stand in it.
-pub fn go_on(gathered: &[Entry], entries: &[Entry]) -> bool
+pub fn go_on(gathered: &[ShortEntry], entries: &[Entry]) -> bool
     requires { rise_by_grain gathered.now ≡ true }
     ensures { result ≡ rise_by_grain (gathered.now ++ entries.now) }
 {
     if gathered.is_empty() {
         return rise_by_grain(entries);
     }
-    let last = &gathered[gathered.len() - 1];
-    is_before_first(last, entries) && rise_by_grain(entries)
+    let last = gathered[gathered.len() - 1].entry();
+    is_before_first(&last, entries) && rise_by_grain(entries)
 }
 
 /// The table of entries gathered and of those of the last page. It asks that they stand in the order of their grains. Fails only when
@@ -76,14 +76,14 @@ pub fn go_on(gathered: &[Entry], entries: &[Entry]) -> bool
 pub fn table_of(
     alloc: Global,
     settings: &Settings,
-    gathered: &[Entry],
+    gathered: &[ShortEntry],
     entries: &[Entry],
 ) -> Result<Table, AllocError>
     requires { rise_by_grain (gathered.now ++ entries.now) ≡ true }
     ensures { IfOk result (λ table. table.entries ≡ table_of (gathered.now ++ entries.now)) }
 {
     let mut table = Table::new(alloc, settings.hashing());
-    put_all(&mut table, gathered)?;
+    put_all_short(&mut table, gathered)?;
     put_all(&mut table, entries)?;
     Ok(table)
 }
@@ -94,6 +94,16 @@ fn put_all(table: &mut Table, entries: &[Entry]) -> Result<(), AllocError>
 {
     for entry in entries {
         table.insert(entry)?;
+    }
+    Ok(())
+}
+
+// The same, of entries that are kept short.
+fn put_all_short(table: &mut Table, entries: &[ShortEntry]) -> Result<(), AllocError>
+    ensures { OnOk result (table.new ≡ record table.old { entries = fold with_entry table.old.entries entries.now }) }
+{
+    for entry in entries {
+        table.insert(&entry.entry())?;
     }
     Ok(())
 }

@@ -37,6 +37,7 @@ mod rules;
 mod samples;
 #[cfg(test)]
 mod shelf;
+mod short_entries;
 #[cfg(test)]
 mod tables;
 #[cfg(test)]

@@ -1,4 +1,5 @@
 -- Tables, and what is made of their entries, cross.
+use denote.Array.{Array}
 use denote.Builtin.{u8, u32}
 use Rattle.silo_workers.proofs.Parts.{Crosses, fields, structure, modelled, variants, array, byte, number32, number64, truth}
 use Rattle.silo_workers.proofs.Holders.{heap_field_crosses, optional, listed, mapped, gathered}
@@ -14,6 +15,8 @@ use Rattle.range_moves.specs.contracts.arc.RingArc as arc
 use Rattle.directory_rules.specs.contracts.piece_state.PieceState as state
 use Rattle.grain_table.specs.contracts.hashed_map.HashedMap as hashed_map
 use Rattle.grain_table.specs.contracts.hashed_map.HashedMap.TheInside as hashed_map_inside
+use Rattle.grain_table.specs.contracts.short_entry.ShortEntry as short
+use Rattle.grain_table.specs.contracts.short_entry.ShortEntry.TheInside as short_inside
 use Rattle.grain_table.specs.contracts.table.Table as table
 use Rattle.grain_table.specs.contracts.table.Table.TheInside as table_inside
 use Rattle.range_recovery.specs.contracts.awaited.Awaited as awaited
@@ -68,11 +71,23 @@ report_crosses =
     modelled report_inside.the_type _ _ _ _ (number64, (range_crosses, (silo_crosses, (listed entry.the_row entry_crosses, tt))))
 
 -- ---- snapshots
+text_crosses : Crosses (key.the_field u8 Heap.the_row ghosts).row
+text_crosses = fields (key.the_type u8 Heap.the_row ghosts) (listed u8 byte, tt)
+
+short_crosses : Crosses short.the_row
+short_crosses = modelled short_inside.the_type _ _ _ _ (silo_crosses, (number64, (text_crosses, tt)))
+
+bytes_crosses : Crosses (Array u8 32)
+bytes_crosses = array u8 32 byte
+
 pub snapshot_crosses : Crosses snapshot.the_row
 snapshot_crosses =
     modelled snapshot_inside.the_type _ _ _ _ (
       number64,
-      (range_crosses, (silo_crosses, (silo_crosses, (listed entry.the_row entry_crosses, (array u8 32 byte, tt))))),
+      (
+        range_crosses,
+        (silo_crosses, (silo_crosses, (listed short.the_row short_crosses, (optional (Array u8 32) bytes_crosses, tt)))),
+      ),
     )
 
 pub page_crosses : Crosses page.the_row
@@ -94,8 +109,11 @@ hasher_crosses = fields hasher.the_type (fields digest.the_type (array u32 8 num
 pub gathering_crosses : Crosses gathering.the_row
 gathering_crosses =
     modelled gathering_inside.the_type _ _ _ _ (
-      number64,
-      (range_crosses, (number64, (optional whole.the_row whole_crosses, (listed entry.the_row entry_crosses, (hasher_crosses, tt))))),
+      heap_field_crosses,
+      (
+        number64,
+        (range_crosses, (number64, (optional whole.the_row whole_crosses, (listed short.the_row short_crosses, (hasher_crosses, tt))))),
+      ),
     )
 
 -- ---- pieces
