@@ -68,7 +68,7 @@ type JoinOptions struct {
 // Join makes this endpoint's next generation a member, and says which silo that is. An older generation is fenced first, as by a death.
 func (s *Sequence) Join(ctx context.Context, options JoinOptions) (directory.Silo, error) {
 	var sent clock.Time // of the first try that may have been carried out
-	tried := false
+	isUnsure := false
 	for ctx.Err() == nil {
 		moved := s.Moved()
 		if err := s.Fault(); err != nil {
@@ -78,25 +78,26 @@ func (s *Sequence) Join(ctx context.Context, options JoinOptions) (directory.Sil
 		switch {
 		case attempt.err != nil:
 			return "", attempt.err
-		case attempt.isMine && tried: // decided, though the store's answer was lost
+		case attempt.isMine: // decided, though the store's answer was lost
 			s.refresh(ctx, attempt.change.Silo, &sent)
 			options.Sent(sent)
 			return attempt.change.Silo, nil
 		case attempt.waits != "" && options.Waits != nil:
 			options.Waits(attempt.waits, attempt.left)
 		case attempt.isReady && attempt.waits == "":
-			if !tried {
-				sent, tried = s.now(), true
-			}
+			now := s.now()
 			made, err := s.propose(ctx, attempt.change, attempt.transaction)
-			if made {
-				options.Sent(sent)
+			switch {
+			case made: // by this try, since by an earlier one it would have been refused
+				options.Sent(now)
 				s.await(ctx, attempt.change.Version)
 				return attempt.change.Silo, nil
-			}
-			if err == nil {
-				tried = false // it surely wasn't
-			} else {
+			case err == nil: // refused: there is news, be it that an earlier try was carried out
+				s.testNews()
+			case !isUnsure:
+				sent, isUnsure = now, true
+				fallthrough
+			default:
 				log.Printf("warning: the join isn't confirmed: %v", err)
 			}
 		}
@@ -192,6 +193,8 @@ func (s *Sequence) decide(ctx context.Context, wanted func(*directory.Views) (di
 		}
 		if err != nil {
 			log.Printf("warning: %v isn't confirmed: %v", change, err)
+		} else {
+			s.testNews()
 		}
 		s.wait(ctx, moved, s.timing.Retry)
 	}
@@ -240,6 +243,7 @@ func (s *Sequence) await(ctx context.Context, version uint64) {
 			return
 		}
 		s.wait(ctx, moved, s.timing.Retry)
+		s.testNews()
 	}
 }
 

@@ -40,6 +40,7 @@ type Sequence struct {
 	fault    error
 	caughtUp bool
 	moved    chan struct{} // closed, and made anew, when something was read
+	read     clock.Time    // when that was
 	reread   func()        // ends the watch that there is
 }
 
@@ -111,6 +112,20 @@ func (s *Sequence) Reread() {
 	}
 }
 
+// testNews has all read again where news has to come by the watch, and none does.
+func (s *Sequence) testNews() {
+	s.mu.Lock()
+	isLate := s.now().Sub(s.read) > s.timing.Call
+	if isLate {
+		s.read = s.now()
+	}
+	s.mu.Unlock()
+	if isLate {
+		log.Print("warning: the watch of the store tells nothing: all is read again")
+		s.Reread()
+	}
+}
+
 // BeatSeen is when this agent last saw a silo's beat change, by its own clock.
 func (s *Sequence) BeatSeen(silo directory.Silo) clock.Time {
 	s.mu.Lock()
@@ -151,6 +166,7 @@ func (s *Sequence) take(events []Event) {
 }
 
 func (s *Sequence) announce() {
+	s.read = s.now()
 	close(s.moved)
 	s.moved = make(chan struct{})
 }

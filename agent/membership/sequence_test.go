@@ -342,3 +342,35 @@ func (d *deaf) Watch(ctx context.Context, after Revision, tell func([]Event)) er
 		}
 	})
 }
+
+// A join is known though its answer was lost, another try was refused before it was known, and the watch tells nothing: so all is read again.
+func TestJoinWithoutNews(t *testing.T) {
+	for lost := int32(0); lost < 4; lost++ {
+		h := &hands{}
+		store := deafAndLossy{&deaf{memorystore.New(), 1}, h, lost, new(int32)}
+		s := follow(t, store, h)
+		if silo := join(t, s, 1001); silo != "10.0.0.1:1001@1" || s.Version() != 1 {
+			t.Errorf("%s joined, with version %d", silo, s.Version())
+		}
+	}
+}
+
+// deafAndLossy carries out each second one of the first transactions, and loses their answers; each takes a while.
+type deafAndLossy struct {
+	*deaf
+	hands *hands
+	lost  int32
+	calls *int32
+}
+
+func (d deafAndLossy) Commit(ctx context.Context, transaction Transaction) (made bool, err error) {
+	call := atomic.AddInt32(d.calls, 1)
+	d.hands.advance(2 * timing.Call)
+	if call > d.lost || call%2 == 1 {
+		made, err = d.deaf.Commit(ctx, transaction)
+	}
+	if call <= d.lost {
+		return false, errors.New("the answer is lost")
+	}
+	return made, err
+}

@@ -46,6 +46,8 @@ func statusOf(socket string) (s status, err error) {
 		return s, err
 	}
 	defer client.Close()
+	patience := time.AfterFunc(5*time.Second, func() { client.Close() }) // an agent that joins doesn't answer
+	defer patience.Stop()
 	words, err := client.Ask("status")
 	if err != nil {
 		return s, err
