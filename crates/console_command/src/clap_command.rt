@@ -2,7 +2,7 @@ ghost use Rattle.std.specs.Prelude.{◌≡◌, IfOk, false};
 ghost use Rattle.clap.specs.Walk.{rule_of};
 ghost use Rattle.clap.specs.Simple.{app_of};
 ghost use Rattle.clap.specs.declared.builder.command.Command.TheViews.{out-Command};
-ghost use Rattle.console_command.specs.ClapCommand.{OfCommand, address_rule, bare_silo_app, check_app, join_rule, option_rule, options_app, player_app, players_app, points_rule, cache_rule, hashing_rule, silo_app};
+ghost use Rattle.console_command.specs.ClapCommand.{OfCommand, address_rule, bare_silo_app, check_app, join_rule, option_rule, options_app, player_app, players_app, points_rule, cache_rule, hashing_rule, activations_rule, report_size_rule, silo_app};
 
 use clap::builder::ValueParser;
 use clap::{Arg, ArgAction, Command, value_parser};
@@ -50,7 +50,7 @@ fn with_players<'a>(alloc: Global, hashings: &'a [&'a str]) -> Result<Command<'a
         .subcommand(player(alloc, "threads", THREADS, hashings)?)
 }
 
-// `NAME [--hashing HASHING] [--points N] [--cache N]`, which plays a script.
+// `NAME [--hashing HASHING] [--points N] [--cache N] [--activations N] [--report-size N]`, which plays a script.
 fn player<'a>(
     alloc: Global,
     name: &'a str,
@@ -64,10 +64,12 @@ fn player<'a>(
         .about(about)
         .arg(hashing(alloc, hashings))?
         .arg(points(alloc))?
-        .arg(cache(alloc))
+        .arg(cache(alloc))?
+        .arg(activations(alloc))?
+        .arg(report_size(alloc))
 }
 
-// `silo ADDR [--join TOKEN] [--hashing HASHING] [--points N] [--cache N]`, which is a silo's process.
+// `silo ADDR [--join TOKEN]` with the same options, which is a silo's process.
 fn silo<'a>(alloc: Global, hashings: &'a [&'a str]) -> Result<Command<'a>, AllocError>
     ensures app { IfOk result (λ c. app_of c ≡ silo_app hashings.entry) }
     ensures local { IfOk result (λ c. (out-Command c).has_globals ≡ false) }
@@ -75,7 +77,9 @@ fn silo<'a>(alloc: Global, hashings: &'a [&'a str]) -> Result<Command<'a>, Alloc
     bare_silo(alloc)?
         .arg(hashing(alloc, hashings))?
         .arg(points(alloc))?
-        .arg(cache(alloc))
+        .arg(cache(alloc))?
+        .arg(activations(alloc))?
+        .arg(report_size(alloc))
 }
 
 // The same, without the options that a player has too.
@@ -147,6 +151,26 @@ fn cache<'a>(alloc: Global) -> Arg<'a>
     let numbers = value_parser!(u32).range(1..=65536);
     option(alloc, "cache", "CACHE", numbers, "1024").help(
         "How many hints a silo's cache keeps, from 1 to 65536",
+    )
+}
+
+fn activations<'a>(alloc: Global) -> Arg<'a>
+    ensures rule { rule_of result ≡ activations_rule }
+    ensures local { result.global ≡ false }
+{
+    let numbers = value_parser!(u32).range(1..=16777216);
+    option(alloc, "activations", "ACTIVATIONS", numbers, "1000000").help(
+        "How many activations a silo may hold, from 1 to 16777216",
+    )
+}
+
+fn report_size<'a>(alloc: Global) -> Arg<'a>
+    ensures rule { rule_of result ≡ report_size_rule }
+    ensures local { result.global ≡ false }
+{
+    let numbers = value_parser!(u32).range(1..=64);
+    option(alloc, "report-size", "ENTRIES", numbers, "64").help(
+        "How many entries a silo tells in one report, from 1 to 64",
     )
 }
 
