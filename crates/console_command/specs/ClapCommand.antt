@@ -45,10 +45,13 @@ activations_rule = option_rule (codes "activations") (parser.Signed (pos 1) (pos
 abbrev pub report_size_rule : Rule
 report_size_rule = option_rule (codes "report-size") (parser.Signed (pos 1) (pos 64)) (codes "64")
 
--- with `[--hashing HASHING] [--points N] [--cache N] [--activations N] [--report-size N]`
+-- with what all silos share: `[--hashing HASHING] [--points N] [--cache N]`
+abbrev pub with_shared : NameList → App → App
+with_shared names bare = with_rule (with_rule (with_rule bare (hashing_rule names)) points_rule) cache_rule
+
+-- and with a silo's limits: `[--activations N] [--report-size N]`
 abbrev pub with_options : NameList → App → App
-with_options names bare =
-    with_rule (with_rule (with_rule (with_rule (with_rule bare (hashing_rule names)) points_rule) cache_rule) activations_rule) report_size_rule
+with_options names bare = with_rule (with_rule (with_shared names bare) activations_rule) report_size_rule
 
 -- `NAME` with these options, which plays a script
 abbrev pub player_app : Text → NameList → App

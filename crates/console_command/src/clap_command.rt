@@ -1,8 +1,8 @@
 ghost use Rattle.std.specs.Prelude.{◌≡◌, IfOk, false};
 ghost use Rattle.clap.specs.Walk.{rule_of};
-ghost use Rattle.clap.specs.Simple.{app_of};
+ghost use Rattle.clap.specs.Simple.{app_of, new_app};
 ghost use Rattle.clap.specs.declared.builder.command.Command.TheViews.{out-Command};
-ghost use Rattle.console_command.specs.ClapCommand.{OfCommand, address_rule, bare_silo_app, check_app, join_rule, option_rule, options_app, player_app, players_app, points_rule, cache_rule, hashing_rule, activations_rule, report_size_rule, silo_app};
+ghost use Rattle.console_command.specs.ClapCommand.{OfCommand, address_rule, bare_silo_app, check_app, join_rule, option_rule, options_app, player_app, players_app, points_rule, cache_rule, hashing_rule, activations_rule, report_size_rule, silo_app, with_shared};
 
 use clap::builder::ValueParser;
 use clap::{Arg, ArgAction, Command, value_parser};
@@ -60,13 +60,26 @@ fn player<'a>(
     ensures app { IfOk result (λ c. app_of c ≡ player_app name.entry.now hashings.entry) }
     ensures local { IfOk result (λ c. (out-Command c).has_globals ≡ false) }
 {
+    shared_player(alloc, name, about, hashings)?
+        .arg(activations(alloc))?
+        .arg(report_size(alloc))
+}
+
+// The same, without a silo's limits.
+fn shared_player<'a>(
+    alloc: Global,
+    name: &'a str,
+    about: &'a str,
+    hashings: &'a [&'a str],
+) -> Result<Command<'a>, AllocError>
+    ensures app { IfOk result (λ c. app_of c ≡ with_shared hashings.entry (new_app name.entry.now)) }
+    ensures local { IfOk result (λ c. (out-Command c).has_globals ≡ false) }
+{
     Command::new(alloc, name)
         .about(about)
         .arg(hashing(alloc, hashings))?
         .arg(points(alloc))?
-        .arg(cache(alloc))?
-        .arg(activations(alloc))?
-        .arg(report_size(alloc))
+        .arg(cache(alloc))
 }
 
 // `silo ADDR [--join TOKEN]` with the same options, which is a silo's process.
@@ -74,12 +87,20 @@ fn silo<'a>(alloc: Global, hashings: &'a [&'a str]) -> Result<Command<'a>, Alloc
     ensures app { IfOk result (λ c. app_of c ≡ silo_app hashings.entry) }
     ensures local { IfOk result (λ c. (out-Command c).has_globals ≡ false) }
 {
+    shared_silo(alloc, hashings)?
+        .arg(activations(alloc))?
+        .arg(report_size(alloc))
+}
+
+// The same, without a silo's limits.
+fn shared_silo<'a>(alloc: Global, hashings: &'a [&'a str]) -> Result<Command<'a>, AllocError>
+    ensures app { IfOk result (λ c. app_of c ≡ with_shared hashings.entry bare_silo_app) }
+    ensures local { IfOk result (λ c. (out-Command c).has_globals ≡ false) }
+{
     bare_silo(alloc)?
         .arg(hashing(alloc, hashings))?
         .arg(points(alloc))?
-        .arg(cache(alloc))?
-        .arg(activations(alloc))?
-        .arg(report_size(alloc))
+        .arg(cache(alloc))
 }
 
 // The same, without the options that a player has too.
