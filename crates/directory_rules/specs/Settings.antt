@@ -39,7 +39,7 @@ directory_settings hashing points cache = record {
   places = 128;
   events = 1000000;
   letters = 1000000;
-  activations = 65536;
+  activations = 1000000;
   finds = 65536;
   report_size = page_size;
   last_number = 1152921504606846976;
@@ -57,7 +57,7 @@ pub record AreSettings (settings : Settings) : Type 0 where
   pub events_above : 1 ≤ settings.events
   pub letters_above : 1 ≤ settings.letters
   pub activations_above : 1 ≤ settings.activations
-  pub activations_within : settings.activations ≤ 65536
+  pub activations_within : settings.activations ≤ 16777216
   pub finds_above : 1 ≤ settings.finds
   pub finds_within : settings.finds ≤ 65536
   pub report_above : 1 ≤ settings.report_size

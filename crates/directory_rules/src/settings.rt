@@ -14,6 +14,9 @@ const MOST_SILOS: usize = (1 << 62) - 1;
 /// The greatest number of letters ever sent in a played cluster.
 const MOST_LETTERS: u64 = 1_000_000;
 
+/// The greatest number of activations that a silo may hold.
+const MOST_ACTIVATIONS: usize = 1 << 24;
+
 /// The greatest number of entries in a report, and how many it has unless another number is chosen.
 const MOST_REPORTED: usize = 64;
 
@@ -69,7 +72,7 @@ impl Settings {
             places: 128,
             events: 1_000_000,
             letters: MOST_LETTERS,
-            activations: 65_536,
+            activations: 1_000_000,
             finds: 65_536,
             report_size: MOST_REPORTED,
             last_number: LAST_NUMBER,
@@ -96,6 +99,21 @@ impl Settings {
             return None;
         }
         Some(Settings { letters, ..self })
+    }
+
+    /// The same settings, but for at most so many activations that a silo may hold, 1 to 2^24. `None` where the number is out of its
+    /// range.
+    pub fn with_activations(self, activations: usize) -> Option<Settings>
+        ensures exact { IfSome result (λ settings. settings ≡ record self { activations = activations }) }
+        ensures in_range { IsSome result ↔ ((1 ≤ activations) × (activations ≤ 16777216)) }
+    {
+        if activations == 0 || activations > MOST_ACTIVATIONS {
+            return None;
+        }
+        Some(Settings {
+            activations,
+            ..self
+        })
     }
 
     /// The same settings, but for at most so many entries in a report, 1 to 64. `None` where the number is out of its range.
@@ -176,7 +194,7 @@ impl Settings {
         self.letters
     }
 
-    /// How many activations a silo may hold, 1 to 65536.
+    /// How many activations a silo may hold, 1 to 2^24.
     pub fn activations(&self) -> usize
         ensures { result ≡ self.now.activations }
     {

@@ -7,7 +7,7 @@ use super::ring::Range;
 use std::collections::{BTreeMap, VecDeque};
 
 /// How many activations a silo may hold, and how many finds it may have outstanding.
-const MOST_ACTIVATIONS: usize = 65_536;
+const MOST_ACTIVATIONS: usize = 1_000_000;
 const MOST_FINDS: usize = 65_536;
 
 /// Of fewer activations than these a report is made by looking at each.
