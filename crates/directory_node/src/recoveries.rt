@@ -195,7 +195,12 @@ impl Node {
         report.version() == letter.version()
             && report.silo() == letter.from()
             && self.recovers(letter.version(), report.range())
-            && rise_behind(self.settings.hashing(), report.range(), report.after(), report.entries())
+            && rise_behind(
+                self.settings.hashing(),
+                report.range(),
+                report.after(),
+                report.entries(),
+            )
             && lie_in(self.settings.hashing(), report.range(), report.entries())
             && are_all_of(letter.from(), report.entries())
             && (report.is_last() || !report.entries().is_empty())

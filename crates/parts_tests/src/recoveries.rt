@@ -148,7 +148,12 @@ fn reports_go_on(rt: HostRuntime) {
     let second = page(&rt, rt.alloc(), A, Some(told), &MANY[2..4]);
     take(&rt, &mut recovery, &second, RecoveryProgress::Continues);
     assert!(rt; recovery.gathered().len() == 4);
-    take(&rt, &mut recovery, &report(&rt, rt.alloc(), B, &[]), RecoveryProgress::More);
+    take(
+        &rt,
+        &mut recovery,
+        &report(&rt, rt.alloc(), B, &[]),
+        RecoveryProgress::More,
+    );
 }
 
 // Whether the report is of A, with so many entries, and is copied.

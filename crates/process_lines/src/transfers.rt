@@ -10,7 +10,9 @@ ghost use Rattle.process_lines.specs.Short.{HasEntries};
 
 use crate::entries::{are_pairs, entries_in};
 use crate::head::Head;
-use crate::words::{FourWords, digest_word, four_words, grain_word, last_word, number_word, range_word};
+use crate::words::{
+    FourWords, digest_word, four_words, grain_word, last_word, number_word, range_word,
+};
 use crate::{LineError, LineFault};
 use directory_letters::{Body, Letter};
 use range_recovery::Report;

@@ -74,10 +74,8 @@ fn push_body(out: &mut Vec<u8>, body: &Body) -> Result<(), AllocError>
         Body::Reply { number, reply } => push_numbered_reply(out, *number, reply),
         Body::Ask { range, page } => push_ask(out, range, *page),
         Body::Page(page) => push_page(out, page),
-        Body::Missing(range)
-        | Body::Done(range)
-        | Body::Behind(range)
-        | Body::Ahead(range) => push_range(out, range),
+        Body::Missing(range) | Body::Done(range) | Body::Behind(range) | Body::Ahead(range) =>
+            push_range(out, range),
         Body::Query { range, after } => push_query(out, range, *after),
         Body::Report(report) => push_report(out, report),
         Body::Offer(entry) => push_placed(out, entry),
