@@ -59,6 +59,7 @@ fn byte_before(bytes: &[u8], mark: u8) -> Option<(u32, &[u8])>
 }
 
 /// The number of at most `most` before this mark, and the bytes after the mark.
+#[inline(always)]
 fn number_before(bytes: &[u8], mark: u8, most: u32) -> Option<(u32, &[u8])>
     requires { is_other mark ≡ true }
     ensures found { IfSome result (λ found. (found.0 ≤ most) × (bytes.now ≡ decimal found.0 ++ mark ∷ found.1.now)) }
@@ -69,6 +70,7 @@ fn number_before(bytes: &[u8], mark: u8, most: u32) -> Option<(u32, &[u8])>
 }
 
 /// The number at the front, and the bytes after the mark, if this mark is where the number ends.
+#[inline(always)]
 fn before_mark(bytes: &[u8], number: u32, end: usize, mark: u8) -> Option<(u32, &[u8])>
     requires numeral { IsNumeral (front_digits bytes.now) }
     requires number { number ≡ front_value bytes.now }
@@ -87,6 +89,7 @@ fn before_mark(bytes: &[u8], number: u32, end: usize, mark: u8) -> Option<(u32, 
 }
 
 /// The number of at most `most` that the bytes are, if they are one.
+#[inline(always)]
 fn only_number(bytes: &[u8], most: u32) -> Option<u32>
     ensures found { IfSome result (λ number. (number ≤ most) × (bytes.now ≡ decimal number)) }
     ensures only { (number : ℕ) → number ≤ most → bytes.now ≡ decimal number → result ≡ Some number }
@@ -100,6 +103,7 @@ fn only_number(bytes: &[u8], most: u32) -> Option<u32>
 }
 
 /// The number at the front, and where it ends, if it is at most `most`.
+#[inline(always)]
 fn first_number(bytes: &[u8], most: u32) -> Option<(u32, usize)>
     ensures { SomeIff result (IsNumberFirst most bytes.now) (front_value bytes.now, front_end bytes.now) }
 {
@@ -114,6 +118,7 @@ fn first_number(bytes: &[u8], most: u32) -> Option<(u32, usize)>
 }
 
 /// What the digits at the front write, and where they end, if it is at most `most`.
+#[inline(always)]
 fn first_digits(bytes: &[u8], most: u32) -> Option<(u32, usize)>
     ensures { SomeIff result (front_value bytes.now ≤ most) (front_value bytes.now, front_end bytes.now) }
 {

@@ -4,7 +4,7 @@ use Rattle.silo_workers.proofs.Parts.{Crosses, fields, structure, modelled, vari
 use Rattle.silo_workers.proofs.Holders.{optional, boxed, listed}
 use Rattle.silo_workers.proofs.Names.{silo_crosses, grain_crosses}
 use Rattle.silo_workers.proofs.Letters.{why_crosses, effect_crosses, kind_crosses}
-use Rattle.silo_workers.proofs.Hosts.{name_crosses}
+use Rattle.silo_workers.proofs.Hosts.{name_field_crosses}
 use Rattle.silo_address.specs.contracts.silo.SiloAddress as silo
 use Rattle.directory_rules.specs.contracts.own_step.OwnStep as own_step
 use Rattle.directory_rules.specs.contracts.event.Event as event
@@ -59,7 +59,7 @@ did_crosses = search (short_activation_crosses, variants) depth 30 parts 0 fits 
 
 stepped_crosses : Crosses stepped.the_row
 stepped_crosses =
-    modelled stepped_inside.the_type _ _ _ _ (name_crosses, (silo_crosses, (did_crosses, (number32, (asked_crosses, tt)))))
+    modelled stepped_inside.the_type _ _ _ _ (name_field_crosses, (silo_crosses, (did_crosses, (number32, (asked_crosses, tt)))))
 
 whole_crosses : Crosses whole.the_row
 whole_crosses = structure whole.the_type (fields whole.the_type (event_crosses, (outcome_crosses, tt)))
