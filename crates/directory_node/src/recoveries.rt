@@ -16,7 +16,7 @@ ghost use Rattle.node_plans.specs.Plans.{Fits, step_by};
 use crate::{Change, Node, Plan};
 use directory_letters::{Body, Letter};
 use directory_rules::Effect;
-use host_activations::PageAsked;
+use host_activations::{FirmPage, PageAsked};
 use node_plans::{are_all_of, is_recovering, lie_in, rise_behind, take_report};
 use range_recovery::{RecoveryError, RecoveryProgress, Report};
 use ring_range::RingRange;
@@ -87,10 +87,10 @@ impl Node {
             after,
             most: self.settings.report_size(),
         };
-        let page = self.host.firm_page(alloc, &asked)?;
+        let FirmPage { entries, last } = self.host.firm_page(alloc, &asked)?;
         let silo = self.host.silo();
         let version = self.view.version();
-        Ok(Report::new(version, range, silo, after, page.entries, page.last))
+        Ok(Report::new(version, range, silo, after, entries, last))
     }
 
     // A report comes. Where its silo has more to tell, it is answered by one query.
