@@ -1,5 +1,5 @@
 -- What a silo knows that began with a view, beside what all changes decided made: from that version on, both have the same views and rings.
-use Rattle.std.proofs.Common.{arith, ◌≡◌, ◌⊎◌, inl, inr, ℕ, ◌+◌, ◌≤◌, Bool, true, false, cond, not, List, [], ◌∷◌, ◌++◌, IsSome, is_some, is_none, refl, sym, ap, ◌∙◌, subst, option_and_then, nat_le, if◌then◌else◌}
+use Rattle.std.proofs.Common.{arith, ◌≡◌, ◌⊎◌, inl, inr, ℕ, ◌≤◌, Bool, true, false, List, [], ◌∷◌, ◌++◌, IsSome, is_none, refl, sym, ap, ◌∙◌, subst, option_and_then, if◌then◌else◌}
 use Rattle.std.specs.Prelude.{Option, Some, None, flat_map}
 use Rattle.std.specs.Map.{lookup, keys_of}
 use Rattle.std.specs.BTreeMap.{is_at}
@@ -12,15 +12,15 @@ use Rattle.membership_view.specs.declared.row.Row.{Row}
 use Rattle.membership_view.specs.declared.status.Status.{Status}
 use Rattle.membership_view.specs.declared.status.Status.TheVariants.{Active, Leaving, Dead}
 use Rattle.membership_view.specs.Row.{has_come, status_in, was_dead}
-use Rattle.membership_view.specs.View.{ViewValue, active_silos, is_newer, is_spare, listed_rows, status_of}
+use Rattle.membership_view.specs.View.{active_silos, is_newer, is_spare, listed_rows, status_of}
 use Rattle.membership_view.specs.Views.{ViewsValue, row_of, rows_in, view_at}
 use Rattle.membership_view.specs.Whole.{IsViews}
 use Rattle.membership_view.proofs.After.{row_status}
 use Rattle.membership_view.proofs.Found.{same_entries}
 use Rattle.membership_view.proofs.Listed.{lookup_listed, newer_along, sorted_listed, unless_spare}
-use Rattle.membership_view.proofs.Said.{IsOutlived, active_lived, outlived_if, outlived_in, outlived_only, said_alive, view_in_order}
+use Rattle.membership_view.proofs.Said.{active_lived, outlived_if, outlived_in, outlived_only, said_alive, view_in_order}
 use Rattle.membership_view.proofs.Statuses.{dead_by_come, has_come_later, there_from}
-use Rattle.hash_ring.specs.Places.{PlacesValue, is_added, places_of}
+use Rattle.hash_ring.specs.Places.{is_added, places_of}
 use Rattle.hash_ring.specs.Ring.{points_if, ring_of, silo_points, sorted_points}
 use Rattle.hash_ring.proofs.Advanced.{active_in}
 use Rattle.hash_ring.proofs.Members.{In}
