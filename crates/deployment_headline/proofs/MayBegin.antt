@@ -1,6 +1,6 @@
 -- A process that was told nothing may begin with the view of each version that was decided before its silo's join.
 use Rattle.std.proofs.Common.{arith, ◌≡◌, ◌≢◌, inl, inr, ℕ, ◌+◌, ◌≤◌, ◌<◌, Bool, true, false, List, [], ◌∷◌, length, IsSome, is_some, refl, sym, ap, ◌∙◌, subst, ◌&&◌, ◌||◌, nat_lt, not, if◌then◌else◌}
-use Rattle.std.specs.Prelude.{⊤, ◌==◌, All, Option, Some, None, Ok, Err, map}
+use Rattle.std.specs.Prelude.{⊤, All, Option, Some, None, Ok, Err, map}
 use Rattle.std.specs.Option.{option_map, unwrap_or}
 use Rattle.std.specs.List.{list_all, list_any}
 use Rattle.std.specs.List.Sorted.{IsStrictlySortedBy}
@@ -17,7 +17,7 @@ use Rattle.silo_address.proofs.Order.{silo_cmp_exact, silo_cmp_total}
 use Rattle.membership_view.specs.declared.row.Row.{Row}
 use Rattle.membership_view.specs.declared.status.Status.{Status}
 use Rattle.membership_view.specs.declared.status.Status.TheVariants.{Active, Leaving, Dead}
-use Rattle.membership_view.specs.Row.{has_come, status_in}
+use Rattle.membership_view.specs.Row.{has_come}
 use Rattle.membership_view.specs.View.{shares_endpoint}
 use Rattle.membership_view.specs.Views.{ViewsValue, most_known, row_of}
 use Rattle.membership_view.specs.Beginning.{after_listing, beginning, is_known_endpoint, with_listed}
@@ -29,9 +29,8 @@ use Rattle.hash_ring.specs.Places.{PlacesValue, has_points, is_added, is_point_c
 use Rattle.directory_facts.proofs.Entries.{all_put}
 use Rattle.directory_facts.proofs.Lookups.{absent_found}
 use Rattle.directory_rules.specs.Settings.{Settings}
-use Rattle.directory_rules.specs.Membership.{Membership, first_membership, joined, joined_in, listed, listed_all, listed_by, listing, listing_of, membership_from, placed, places_told, with_places}
+use Rattle.directory_rules.specs.Membership.{Membership, first_membership, joined, listed, listed_all, listed_by, listing, listing_of, membership_from, placed, places_told, with_places}
 use Rattle.silo_rules.specs.Begun.{told_view, unless_joined}
-use Rattle.silo_rules.specs.SiloValue.{SiloValue}
 use Rattle.silo_rules.proofs.Whole.{Are, first_are}
 use Rattle.deployment_headline.specs.Deployment.{first_deployment}
 use Rattle.deployment_headline.specs.Steps.{deployed}

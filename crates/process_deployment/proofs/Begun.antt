@@ -1,5 +1,5 @@
 -- The worked cluster that begins with views, computed.
-use Rattle.std.proofs.Common.{◌≤◌, refl}
+use Rattle.std.proofs.Common.{refl}
 use Rattle.std.specs.Prelude.{codes}
 use Rattle.std.proofs.lemmas.Bool.{leb-true}
 use Rattle.silo_address.specs.Silo.{IsSilo}
