@@ -338,12 +338,12 @@ module _ (settings : Settings) (now : Membership) (all : Are settings now) (told
         it.last,
         ap (λ n. if nat_lt 0 n then Err 211 else unless_joined own
             (if nat_lt v most_known then listed_all settings (Ok (membership_from settings v)) (listing_of now v) else Err 210)) nothing
-        ∙ ap (λ b. unless_joined own (if b then listed_all settings (Ok (membership_from settings v)) (listing_of now v) else Err 210))
+            ∙ ap (λ b. unless_joined own (if b then listed_all settings (Ok (membership_from settings v)) (listing_of now v) else Err 210))
             (lt-ltb v most_known early)
-        ∙ ap (λ l. unless_joined own (listed_all settings (Ok (membership_from settings v)) (map (listing now.places) l)))
+            ∙ ap (λ l. unless_joined own (listed_all settings (Ok (membership_from settings v)) (map (listing now.places) l)))
             (view_rows now.views all.whole v made)
-        ∙ ap (λ r. unless_joined own r) it.is
-        ∙ ap (λ b. if b then Ok it.last else Err 201) newest,
+            ∙ ap (λ r. unless_joined own r) it.is
+            ∙ ap (λ b. if b then Ok it.last else Err 201) newest,
       )
 
 pub processes_may_begin : ProcessesMayBegin

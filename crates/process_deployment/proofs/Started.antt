@@ -137,7 +137,7 @@ more_view changes more s version m early =
       omega (upto, longer, arith),
       ap (λ cs. told_view s.node.settings s.membership s.node.host.silo version (listing_of (decided_by s.node.settings cs) version))
           (take-append-le version changes more upto)
-      ∙ early.1,
+          ∙ early.1,
     )
 
 more_asked : (changes more : List Change) (p : Process) (asked : Asked) → MayAskEarly changes p asked
