@@ -45,18 +45,18 @@ put_beside places silo stated q apart =
 
 stay_one : (m next : Membership) → Adds m next → (q : Silo) → is_added m.places q ≡ true → places_of next.places q ≡ places_of m.places q
 stay_one m next (inl same) q there = ap (λ p. places_of p q) same
-stay_one m next (inr (silo, stated, added)) q there =
-    ap (λ p. places_of p q) (sym (added_is m.places next.places silo stated added)) ∙ by (is_at (silo_cmp q) silo) refl
+stay_one m next (inr its) q there =
+    ap (λ p. places_of p q) (sym (added_is m.places next.places its.0 its.1 its.2)) ∙ by (is_at (silo_cmp q) its.0) refl
   where
-    new : is_added m.places silo ≡ false
+    new : is_added m.places its.0 ≡ false
     new =
-        not_there (is_point_count m.places.hashing (length stated)) (has_points m.places.hashing (length stated)) (is_added m.places silo)
-        (with_silo m.places silo stated) next.places added
+        not_there (is_point_count m.places.hashing (length its.1)) (has_points m.places.hashing (length its.1)) (is_added m.places its.0)
+        (with_silo m.places its.0 its.1) next.places its.2
 
-    by : (b : Bool) → is_at (silo_cmp q) silo ≡ b → places_of (with_silo m.places silo stated) q ≡ places_of m.places q
-    by false at = put_beside m.places silo stated q at
+    by : (b : Bool) → is_at (silo_cmp q) its.0 ≡ b → places_of (with_silo m.places its.0 its.1) q ≡ places_of m.places q
+    by false at = put_beside m.places its.0 its.1 q at
     by true at =
-        let yes = ap (λ s. is_added m.places s) (sym (silo_cmp_exact q silo (Equal-from (silo_cmp q silo) at))) ∙ there in
+        let yes = ap (λ s. is_added m.places s) (sym (silo_cmp_exact q its.0 (Equal-from (silo_cmp q its.0) at))) ∙ there in
         absurd (cc (yes, new))
 
 -- places that are the same were named so
@@ -78,22 +78,22 @@ leads_stay settings m n (c ∷ cs) leads q there =
 
 hashed_one : (m next : Membership) → Adds m next → AreHashed m.places → AreHashed next.places
 hashed_one m next (inl same) hashed = subst AreHashed (sym same) hashed
-hashed_one m next (inr (silo, stated, added)) hashed =
-    subst AreHashed (added_is m.places next.places silo stated added) (λ q list found how. by q list (is_at (silo_cmp q) silo) refl found how)
+hashed_one m next (inr adding) hashed =
+    subst AreHashed (added_is m.places next.places adding.0 adding.1 adding.2) (λ q list found how. by q list (is_at (silo_cmp q) adding.0) refl found how)
   where
     its : (hashing : Hashing) → m.places.hashing ≡ hashing → hashing ≡ Sha256
-        → places_for hashing m.places.points silo stated ≡ hashed_places m.places.points silo
+        → places_for hashing m.places.points adding.0 adding.1 ≡ hashed_places m.places.points adding.0
     its Sha256 at how = refl
     its Stated at how = absurd (cc (how))
 
-    by : (q : Silo) (list : List ℕ) (b : Bool) → is_at (silo_cmp q) silo ≡ b → places_of (with_silo m.places silo stated) q ≡ Some list
+    by : (q : Silo) (list : List ℕ) (b : Bool) → is_at (silo_cmp q) adding.0 ≡ b → places_of (with_silo m.places adding.0 adding.1) q ≡ Some list
         → m.places.hashing ≡ Sha256 → list ≡ hashed_places m.places.points q
-    by q list false at found how = hashed q list (sym (put_beside m.places silo stated q at) ∙ found) how
+    by q list false at found how = hashed q list (sym (put_beside m.places adding.0 adding.1 q at) ∙ found) how
     by q list true at found how =
-        let made = places_for m.places.hashing m.places.points silo stated in
-        same_Some list made (sym found ∙ lookup-insert_entry silo_cmp_total silo made q m.places.entries ∙ ap (λ b. cond b (Some made) (places_of m.places q)) at)
+        let made = places_for m.places.hashing m.places.points adding.0 adding.1 in
+        same_Some list made (sym found ∙ lookup-insert_entry silo_cmp_total adding.0 made q m.places.entries ∙ ap (λ b. cond b (Some made) (places_of m.places q)) at)
         ∙ its m.places.hashing refl how
-        ∙ ap (λ s. hashed_places m.places.points s) (sym (silo_cmp_exact q silo (Equal-from (silo_cmp q silo) at)))
+        ∙ ap (λ s. hashed_places m.places.points s) (sym (silo_cmp_exact q adding.0 (Equal-from (silo_cmp q adding.0) at)))
 
 pub leads_hashed : (settings : Settings) (m n : Membership) (cs : List Change) → Leads settings m cs n → AreHashed m.places → AreHashed n.places
 leads_hashed settings m n [] leads hashed = subst (λ (k : Membership). AreHashed k.places) leads hashed
