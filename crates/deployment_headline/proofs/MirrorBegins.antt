@@ -1,18 +1,18 @@
 -- What begins with the view of a version, as the changes decided made it, mirrors what they made of that version.
-use Rattle.std.proofs.Common.{arith, ◌≡◌, ◌≢◌, ◌⊎◌, inl, inr, ℕ, ◌≤◌, Bool, true, false, cond, List, [], ◌∷◌, IsSome, is_some, is_none, refl, sym, ap, ◌∙◌, subst, option_and_then, nat_le, if◌then◌else◌}
+use Rattle.std.proofs.Common.{arith, ◌≡◌, ◌≢◌, ◌⊎◌, inl, inr, ℕ, ◌≤◌, Bool, true, false, cond, List, [], ◌∷◌, is_some, is_none, refl, sym, ap, ◌∙◌, subst, option_and_then, nat_le, if◌then◌else◌}
 use Rattle.std.specs.Prelude.{Option, Some, None, Result, Ok, Err, map}
 use Rattle.std.specs.Option.{option_map, unwrap_or}
 use Rattle.std.specs.Map.{lookup, keys_of}
 use Rattle.std.specs.BTreeMap.{is_at}
 use Rattle.std.specs.Ordering.{is_eq}
 use Rattle.std.specs.List.Sorted.{IsStrictlySortedBy}
-use Rattle.std.proofs.lemmas.Bool.{eq-eqb, le-leb}
+use Rattle.std.proofs.lemmas.Bool.{eq-eqb}
 use Rattle.std.proofs.lemmas.Cmp.{eq_by_cmp_equiv}
 use Rattle.std.proofs.lemmas.Map.{lookup-none}
 use Rattle.std.proofs.lemmas.Map.Entries.{none_past_head}
 use Rattle.std.proofs.lemmas.Map.Keys.{sorted_tail, IsDistinct-from_sorted}
 use Rattle.std.proofs.lemmas.Option.{same_Some}
-use Rattle.texts.proofs.Entries.{lookup-insert_entry, lookup-picked, sorted-picked}
+use Rattle.texts.proofs.Entries.{lookup-insert_entry}
 use Rattle.silo_address.specs.Silo.{Silo, silo_cmp}
 use Rattle.std.specs.declared.cmp.Ordering.{Ordering}
 use Rattle.std.specs.declared.cmp.Ordering.TheVariants.{Less, Equal, Greater}
@@ -21,24 +21,24 @@ use Rattle.membership_view.specs.declared.row.Row.{Row}
 use Rattle.membership_view.specs.declared.status.Status.{Status}
 use Rattle.membership_view.specs.declared.status.Status.TheVariants.{Active, Leaving, Dead}
 use Rattle.membership_view.specs.Row.{has_come, status_in, was_dead}
-use Rattle.membership_view.specs.View.{is_spare, listed_rows}
+use Rattle.membership_view.specs.View.{ViewValue, is_spare}
 use Rattle.membership_view.specs.Views.{ViewsValue, row_of, rows_in, view_at}
 use Rattle.membership_view.specs.Beginning.{beginning}
 use Rattle.membership_view.specs.Whole.{IsInTime}
-use Rattle.membership_view.proofs.After.{row_status}
 use Rattle.membership_view.proofs.Kept.{occupant_row}
-use Rattle.membership_view.proofs.Listed.{lookup_listed, outlived_listed, sorted_listed, spare_is, unless_spare}
-use Rattle.membership_view.proofs.Said.{alive_lived, beginning_joined, beginning_says, outlived_by, status_later}
+use Rattle.membership_view.proofs.Listed.{outlived_listed, spare_is, unless_spare}
+use Rattle.membership_view.proofs.Said.{beginning_joined, beginning_says, outlived_by, status_later}
 use Rattle.membership_view.proofs.Statuses.{dead_is, there_from}
 use Rattle.hash_ring.specs.declared.hashing.Hashing.{Hashing}
 use Rattle.hash_ring.specs.declared.hashing.Hashing.TheVariants.{Sha256, Stated}
 use Rattle.hash_ring.specs.Hash.{hashed_places}
-use Rattle.hash_ring.specs.Places.{PlacesValue, is_added, named_places, places_for, places_of, with_silo}
+use Rattle.hash_ring.specs.Places.{PlacesValue, is_added, named_places, places_for, places_of}
 use Rattle.directory_rules.specs.Settings.{Settings}
-use Rattle.directory_rules.specs.Membership.{Listed, Membership, listed, listed_all, listing, listing_of, membership_from, places_told}
+use Rattle.directory_rules.specs.Membership.{Membership, listed, listed_all, listing, listing_of, membership_from, places_told}
 use Rattle.silo_rules.proofs.Begun.{IsListed, listed_is}
 use Rattle.silo_rules.proofs.Whole.{Are}
 use Rattle.deployment_headline.proofs.Mirrors.{Mirrors, ReadsAs, WasLeftOut}
+use Rattle.deployment_headline.proofs.ViewRows.{IsIn, listed_added, listed_in, all_sorted, listed_sorted, view_rows, found_is, is_in}
 
 abbrev Sorted : List (Silo × Status) → Type 0
 Sorted rows = IsStrictlySortedBy silo_cmp (keys_of rows)
@@ -52,15 +52,15 @@ either old (Some new) = Some new
 abbrev told_places : PlacesValue → (next : PlacesValue) → Silo → List ℕ
 told_places places next silo = places_for next.hashing next.points silo (named_places places.hashing places silo)
 
-pub record AreListed (told : PlacesValue) (m next : Membership) (rows : List (Silo × Status)) : Type 0 where
-  pub first : next.views.first ≡ m.views.first
-  pub version : next.views.version ≡ m.views.version
-  pub hashing : next.places.hashing ≡ m.places.hashing
-  pub points : next.places.points ≡ m.places.points
-  pub row : (q : Silo) → row_of next.views q ≡ either (row_of m.views q) (option_map (beginning m.views.first) (lookup (is_at (silo_cmp q)) rows))
-  pub alive : (q : Silo) (status : Status) → lookup (is_at (silo_cmp q)) rows ≡ Some status → status ≢ Dead
+record AreListed (told : PlacesValue) (m next : Membership) (rows : List (Silo × Status)) : Type 0 where
+  first : next.views.first ≡ m.views.first
+  version : next.views.version ≡ m.views.version
+  hashing : next.places.hashing ≡ m.places.hashing
+  points : next.places.points ≡ m.places.points
+  row : (q : Silo) → row_of next.views q ≡ either (row_of m.views q) (option_map (beginning m.views.first) (lookup (is_at (silo_cmp q)) rows))
+  alive : (q : Silo) (status : Status) → lookup (is_at (silo_cmp q)) rows ≡ Some status → status ≢ Dead
       → places_of next.places q ≡ Some (told_places told next.places q)
-  pub other : (q : Silo) → (lookup (is_at (silo_cmp q)) rows ≡ None) ⊎ (lookup (is_at (silo_cmp q)) rows ≡ Some Dead)
+  other : (q : Silo) → (lookup (is_at (silo_cmp q)) rows ≡ None) ⊎ (lookup (is_at (silo_cmp q)) rows ≡ Some Dead)
       → places_of next.places q ≡ places_of m.places q
 
 told_alive : (status : Status) (places : PlacesValue) (silo : Silo) → status ≢ Dead
@@ -171,7 +171,7 @@ module _ (settings : Settings) (told : PlacesValue) where
       other_by q Less at none = beside q (ap is_eq at) none
       other_by q Greater at none = beside q (ap is_eq at) none
 
-  pub all_listed : (m last : Membership) (rows : List (Silo × Status)) → Sorted rows → listed_all settings (Ok m) (map (listing told) rows) ≡ Ok last
+  all_listed : (m last : Membership) (rows : List (Silo × Status)) → Sorted rows → listed_all settings (Ok m) (map (listing told) rows) ≡ Ok last
       → AreListed told m last rows
   all_listed m last [] s is =
       let same : m ≡ last = cc (is) in
@@ -215,70 +215,41 @@ module _ (settings : Settings) (at now m : Membership) (all : Are settings at) (
   theirs = at.views.rows
 
   abbrev rows : List (Silo × Status)
-  rows = listed_rows (rows_in v theirs)
-
-  all_sorted : Sorted (rows_in v theirs)
-  all_sorted = sorted-picked silo_cmp_total (status_in v) theirs all.whole.in_order
-
-  view_rows : (view_at now.views v).rows ≡ rows
-  view_rows = ap (λ view. view.rows) same_view ∙ ap (λ b. if b then rows else []) (le-leb v v (omega arith))
+  rows = listed_in at.views v
 
   are : AreListed now.places (membership_from settings v) m rows
   are =
-      all_listed settings now.places (membership_from settings v) m rows (sorted_listed (rows_in v theirs) all_sorted)
-      (ap (λ l. listed_all settings (Ok (membership_from settings v)) (map (listing now.places) l)) (sym view_rows) ∙ listed_so)
+      all_listed settings now.places (membership_from settings v) m rows (listed_sorted at.views all.whole v)
+      (ap (λ l. listed_all settings (Ok (membership_from settings v)) (map (listing now.places) l))
+      (sym (ap (λ (view : ViewValue). view.rows) same_view ∙ view_rows at.views all.whole v (omega arith)))
+      ∙ listed_so)
 
   abbrev found : Silo → Option Status
   found q = lookup (is_at (silo_cmp q)) rows
 
-  pub begun_row : (q : Silo) → row_of m.views q ≡ option_map (beginning v) (found q)
+  begun_row : (q : Silo) → row_of m.views q ≡ option_map (beginning v) (found q)
   begun_row q = are.row q ∙ by (found q)
     where
       by : (o : Option Status) → either None (option_map (beginning v) o) ≡ option_map (beginning v) o
       by None = refl
       by (Some status) = refl
 
-  found_is : (q : Silo) → found q ≡ unless_spare (rows_in v theirs) q (row_status v theirs q)
-  found_is q =
-      lookup_listed q (rows_in v theirs) all_sorted
-      ∙ ap (λ o. unless_spare (rows_in v theirs) q o) (lookup-picked silo_cmp_total (status_in v) q theirs all.whole.in_order)
-
   -- a silo that is listed has a row, which says so
-  record IsIn (q : Silo) (status : Status) : Type 0 where
-    row : Row
-    there : row_of at.views q ≡ Some row
-    says : status_in v row ≡ Some status
-
-  is_in : (q : Silo) (status : Status) → found q ≡ Some status → IsIn q status
-  is_in q status is = by (row_of at.views q) refl (unless (row_status v theirs q) (sym (found_is q) ∙ is))
-    where
-      unless : (o : Option Status) → unless_spare (rows_in v theirs) q o ≡ Some status → o ≡ Some status
-      unless None h = absurd (cc (h))
-      unless (Some its) h = kept (is_spare (rows_in v theirs) q its) h
-        where
-          kept : (b : Bool) → (if b then None else Some its) ≡ Some status → Some its ≡ Some status
-          kept true h = absurd (cc (h))
-          kept false h = h
-
-      by : (o : Option Row) → row_of at.views q ≡ o → option_and_then (status_in v) o ≡ Some status → IsIn q status
-      by None none h = absurd (cc (h))
-      by (Some row) there h = record { row = row; there = there; says = h }
+  its_in : (q : Silo) (status : Status) → found q ≡ Some status → IsIn at.views v q status
+  its_in q status is = is_in at.views all.whole v q status is
 
   -- a row that is told
-  record IsTold (q : Silo) (row : Row) : Type 0 where
+  record IsToldRow (q : Silo) (row : Row) : Type 0 where
     status : Status
     is : found q ≡ Some status
     row_is : row ≡ beginning v status
 
-  told_row : (q : Silo) (row : Row) → row_of m.views q ≡ Some row → IsTold q row
+  told_row : (q : Silo) (row : Row) → row_of m.views q ≡ Some row → IsToldRow q row
   told_row q row there = by (found q) refl (sym (begun_row q) ∙ there)
     where
-      by : (o : Option Status) → found q ≡ o → option_map (beginning v) o ≡ Some row → IsTold q row
+      by : (o : Option Status) → found q ≡ o → option_map (beginning v) o ≡ Some row → IsToldRow q row
       by None is h = absurd (cc (h))
       by (Some status) is h = record { status = status; is = is; row_is = sym (same_Some (beginning v status) row h) }
-
-  alive_dead : (status : Status) → status ≢ Dead → Some status ≢ Some Dead
-  alive_dead status lives same = lives (same_Some status Dead same)
 
   lives_same : (status : Status) (row : Row) → IsInTime at.views.first v row → status_in v row ≡ Some status
       → is_none (beginning v status).dead ≡ is_none row.dead
@@ -293,7 +264,7 @@ module _ (settings : Settings) (at now m : Membership) (all : Are settings at) (
   first_is : m.views.first ≡ v
   first_is = are.first
 
-  reads : (q : Silo) (status : Status) (its : IsIn q status) → ReadsAs m.views.first (beginning v status) its.row
+  reads : (q : Silo) (status : Status) (its : IsIn at.views v q status) → ReadsAs m.views.first (beginning v status) its.row
   reads q status its =
       let in' = all.whole.in_time q its.row its.there in
       record {
@@ -308,7 +279,7 @@ module _ (settings : Settings) (at now m : Membership) (all : Are settings at) (
       → (other : Row) × (row_of at.views q ≡ Some other) × ReadsAs m.views.first row other
   begins_known q row there =
       let told = told_row q row there in
-      let its = is_in q told.status told.is in
+      let its = its_in q told.status told.is in
       (its.row, its.there, subst (λ r. ReadsAs m.views.first r its.row) (sym told.row_is) (reads q told.status its))
 
   begins_left_out : (q : Silo) (other : Row) → row_of at.views q ≡ Some other → row_of m.views q ≡ None → WasLeftOut m.views q other
@@ -320,7 +291,7 @@ module _ (settings : Settings) (at now m : Membership) (all : Are settings at) (
 
       missing : unless_spare (rows_in v theirs) q (status_in v other) ≡ None
       missing =
-          ap (λ o. unless_spare (rows_in v theirs) q (option_and_then (status_in v) o)) (sym there) ∙ sym (found_is q)
+          ap (λ o. unless_spare (rows_in v theirs) q (option_and_then (status_in v) o)) (sym there) ∙ sym (found_is at.views all.whole v q)
           ∙ unlisted (found q) (sym (begun_row q) ∙ none)
 
       spare : (status : Status) (b : Bool) → is_spare (rows_in v theirs) q status ≡ b → (if b then None else Some status) ≡ None
@@ -333,7 +304,7 @@ module _ (settings : Settings) (at now m : Membership) (all : Are settings at) (
           absurd (let some = there_from v other (all.whole.in_time q other there).joined_by in let e = ap (λ (o : Option Status). is_some o) is in cc (some, e))
       by (Some status) is =
           let its = spare_is (rows_in v theirs) q status (spare status (is_spare (rows_in v theirs) q status) refl (ap (λ o. unless_spare (rows_in v theirs) q o) (sym is) ∙ missing)) in
-          let newer = outlived_by q rows (sorted_listed (rows_in v theirs) all_sorted) (outlived_listed q (rows_in v theirs) all_sorted ∙ its.1) in
+          let newer = outlived_by q rows (listed_sorted at.views all.whole v) (outlived_listed q (rows_in v theirs) (all_sorted at.views all.whole v) ∙ its.1) in
           record {
             dead = ap (λ n. has_come other.dead n) first_is
                 ∙ dead_is (has_come other.dead v) (has_come other.left v) (nat_le other.joined v) (is ∙ ap (λ s. Some s) its.0);
@@ -346,10 +317,7 @@ module _ (settings : Settings) (at now m : Membership) (all : Are settings at) (
 
   -- who isn't Dead has places by all changes
   added_at : (q : Silo) (status : Status) → found q ≡ Some status → status ≢ Dead → is_added at.places q ≡ true
-  added_at q status is lives =
-      let its = is_in q status is in
-      all.added q its.row its.there
-      (alive_lived v v its.row status (all.whole.in_time q its.row its.there) its.says (alive_dead status lives))
+  added_at q status is lives = listed_added settings at all v q status lives (its_in q status is)
 
   places_same : (q : Silo) (status : Status) → found q ≡ Some status → status ≢ Dead → places_of m.places q ≡ places_of at.places q
   places_same q status is lives = are.alive q status is lives ∙ by (places_of at.places q) refl (added_at q status is lives)

@@ -1,12 +1,11 @@
 -- Rows that mirror others go on to, as changes come.
-use Rattle.std.proofs.Common.{arith, ◌≡◌, ◌≢◌, ◌⊎◌, inl, inr, ℕ, ◌+◌, ◌≤◌, ◌<◌, Bool, true, false, cond, List, [], ◌∷◌, length, IsSome, is_none, refl, sym, ap, ◌∙◌, subst, nat_le, if◌then◌else◌}
+use Rattle.std.proofs.Common.{◌≡◌, ◌≢◌, inl, inr, ℕ, Bool, true, false, cond, List, is_none, refl, sym, ap, ◌∙◌, nat_le, if◌then◌else◌}
 use Rattle.std.specs.Prelude.{Option, Some, None}
 use Rattle.std.specs.Option.{option_map}
-use Rattle.std.specs.Map.{lookup, keys_of}
 use Rattle.std.specs.BTreeMap.{is_at}
 use Rattle.std.specs.Ordering.{is_eq}
-use Rattle.std.specs.List.Sorted.{IsStrictlySortedBy}
 use Rattle.std.proofs.lemmas.Cmp.{tied_itself}
+use Rattle.std.proofs.lemmas.Option.{same_Some}
 use Rattle.texts.proofs.Entries.{lookup-changed, lookup-insert_entry}
 use Rattle.texts.proofs.Orderings.{Equal-from}
 use Rattle.silo_address.specs.Silo.{Silo, silo_cmp}
@@ -21,6 +20,14 @@ use Rattle.membership_view.proofs.SameEndpoint.{found_row}
 use Rattle.deployment_headline.proofs.Mirrors.{ReadsAs}
 
 -- ---- one row after a change
+pub map_some : {X : Type 0} (f : X → X) (o : Option X) (x : X) → option_map f o ≡ Some x → (y : X) × (o ≡ Some y) × (x ≡ f y)
+map_some f None x is = absurd (cc (is))
+map_some f (Some y) x is = (y, refl, sym (same_Some (f y) x is))
+
+pub map_none : {X : Type 0} (f : X → X) (o : Option X) → option_map f o ≡ None → o ≡ None
+map_none f None is = refl
+map_none f (Some y) is = absurd (cc (is))
+
 -- whether the row is the one that changes
 abbrev pub if_itself : (Row → Row) → Silo → Silo → Row → Row
 if_itself how silo q row = if is_at (silo_cmp silo) q then how row else row

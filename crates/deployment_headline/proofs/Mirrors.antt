@@ -1,5 +1,5 @@
 -- What a silo knows that began with a view, beside what all changes decided made: from that version on, both have the same views and rings.
-use Rattle.std.proofs.Common.{arith, ◌≡◌, ◌⊎◌, inl, inr, ℕ, ◌+◌, ◌≤◌, Bool, true, false, cond, not, List, [], ◌∷◌, ◌++◌, IsSome, is_some, is_none, refl, sym, ap, ◌∙◌, subst, option_and_then, nat_le, if◌then◌else◌}
+use Rattle.std.proofs.Common.{arith, ◌≡◌, ◌⊎◌, inl, inr, ℕ, ◌≤◌, Bool, true, false, List, [], ◌∷◌, ◌++◌, IsSome, is_none, refl, sym, ap, ◌∙◌, subst, option_and_then, if◌then◌else◌}
 use Rattle.std.specs.Prelude.{Option, Some, None, flat_map}
 use Rattle.std.specs.Map.{lookup, keys_of}
 use Rattle.std.specs.BTreeMap.{is_at}
@@ -12,7 +12,7 @@ use Rattle.membership_view.specs.declared.row.Row.{Row}
 use Rattle.membership_view.specs.declared.status.Status.{Status}
 use Rattle.membership_view.specs.declared.status.Status.TheVariants.{Active, Leaving, Dead}
 use Rattle.membership_view.specs.Row.{has_come, status_in, was_dead}
-use Rattle.membership_view.specs.View.{ViewValue, active_silos, is_newer, is_spare, listed_rows, status_of}
+use Rattle.membership_view.specs.View.{active_silos, is_newer, is_spare, listed_rows, status_of}
 use Rattle.membership_view.specs.Views.{ViewsValue, row_of, rows_in, view_at}
 use Rattle.membership_view.specs.Whole.{IsViews}
 use Rattle.membership_view.proofs.After.{row_status}
@@ -20,7 +20,7 @@ use Rattle.membership_view.proofs.Found.{same_entries}
 use Rattle.membership_view.proofs.Listed.{lookup_listed, newer_along, sorted_listed, unless_spare}
 use Rattle.membership_view.proofs.Said.{IsOutlived, active_lived, outlived_if, outlived_in, outlived_only, said_alive, view_in_order}
 use Rattle.membership_view.proofs.Statuses.{dead_by_come, has_come_later, there_from}
-use Rattle.hash_ring.specs.Places.{PlacesValue, is_added, places_of}
+use Rattle.hash_ring.specs.Places.{is_added, places_of}
 use Rattle.hash_ring.specs.Ring.{points_if, ring_of, silo_points, sorted_points}
 use Rattle.hash_ring.proofs.Advanced.{active_in}
 use Rattle.hash_ring.proofs.Members.{In}
@@ -100,22 +100,24 @@ module _ (m d : Membership) (whole : IsViews m.views) (all : IsViews d.views) (i
   early_there : (row : Row) → row.joined ≤ m.views.first → IsSome (status_in k row)
   early_there row early = there_from k row (omega (early, from, arith))
 
+  back_by : (q : Silo) (it : IsOutlived k theirs q) (o : Option Row) → row_of m.views it.newer ≡ o → (p : Option Row)
+      → row_of d.views it.newer ≡ p → outlived_in k mine q ≡ true
+  back_by q it (Some row) known p there =
+      let its = is.known it.newer row known in
+      let says = status_by mine it.newer row known ∙ its.2.statuses k from ∙ sym (status_by theirs it.newer its.0 its.1) ∙ it.there in
+      outlived_if k mine whole.in_order q it.newer it.status says it.is
+  back_by q it None known (Some other) there =
+      let out = is.left_out it.newer other there known in
+      let some = some_by (status_in k out.row) (early_there out.row out.early) in
+      outlived_if k mine whole.in_order q out.newer some.0 (status_by mine out.newer out.row out.found ∙ some.1)
+      (newer_along out.newer it.newer q out.is it.is)
+  back_by q it None known None there =
+      let none : row_status k theirs it.newer ≡ None = ap (λ o. option_and_then (status_in k) o) there in
+      absurd (let never : None ≡ Some it.status = sym none ∙ it.there in cc (never))
+
   outlived_back : (q : Silo) → outlived_in k theirs q ≡ true → outlived_in k mine q ≡ true
-  outlived_back q at = by (row_of m.views it.newer) refl (row_of d.views it.newer) refl
-    where
-      by : (o : Option Row) → row_of m.views (outlived_only k theirs all.in_order q at).newer ≡ o → (p : Option Row) → row_of d.views (outlived_only k theirs all.in_order q at).newer ≡ p → outlived_in k mine q ≡ true
-      by (Some row) known p there =
-          let its = is.known (outlived_only k theirs all.in_order q at).newer row known in
-          let says = status_by mine (outlived_only k theirs all.in_order q at).newer row known ∙ its.2.statuses k from ∙ sym (status_by theirs (outlived_only k theirs all.in_order q at).newer its.0 its.1) ∙ (outlived_only k theirs all.in_order q at).there in
-          outlived_if k mine whole.in_order q (outlived_only k theirs all.in_order q at).newer (outlived_only k theirs all.in_order q at).status says (outlived_only k theirs all.in_order q at).is
-      by None known (Some other) there =
-          let out = is.left_out (outlived_only k theirs all.in_order q at).newer other there known in
-          let some = some_by (status_in k out.row) (early_there out.row out.early) in
-          outlived_if k mine whole.in_order q out.newer some.0 (status_by mine out.newer out.row out.found ∙ some.1)
-          (newer_along out.newer (outlived_only k theirs all.in_order q at).newer q out.is (outlived_only k theirs all.in_order q at).is)
-      by None known None there =
-          let none : row_status k theirs (outlived_only k theirs all.in_order q at).newer ≡ None = ap (λ o. option_and_then (status_in k) o) there in
-          absurd (let never : None ≡ Some (outlived_only k theirs all.in_order q at).status = sym none ∙ (outlived_only k theirs all.in_order q at).there in cc (never))
+  outlived_back q at =
+      let it = outlived_only k theirs all.in_order q at in back_by q it (row_of m.views it.newer) refl (row_of d.views it.newer) refl
 
   outlived_alike : (q : Silo) → outlived_in k mine q ≡ outlived_in k theirs q
   outlived_alike q = by (outlived_in k mine q) refl (outlived_in k theirs q) refl

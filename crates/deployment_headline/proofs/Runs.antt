@@ -11,8 +11,8 @@ use Rattle.std.proofs.lemmas.List.Elements.{All-nil, All-head, All-tail, All-app
 use Rattle.silo_address.specs.Silo.{Silo, silo_cmp}
 use Rattle.silo_address.specs.Grain.{Grain}
 use Rattle.membership_view.specs.Views.{view_at}
-use Rattle.directory_rules.specs.Settings.{Settings, AreSettings}
 use Rattle.membership_view.specs.Whole.{IsViews}
+use Rattle.directory_rules.specs.Settings.{Settings, AreSettings}
 use Rattle.directory_rules.specs.State.{Letter, Node, Posted, World}
 use Rattle.directory_rules.specs.Event.{Event, IsEvent}
 use Rattle.directory_rules.specs.Mail.{letter_of}
@@ -24,9 +24,10 @@ use Rattle.directory_rules.specs.PlainMachine.{life_on, Plain, PlainStep, Nothin
 use Rattle.directory_facts.proofs.Lawful.{letters_are_own}
 use Rattle.directory_headline.proofs.Theorems.{headline_after, plain_after}
 use Rattle.directory_rules.specs.Membership.{Change, Membership, first_membership, changed, replaced_by}
+use Rattle.silo_rules.specs.SiloValue.{SiloValue}
 use Rattle.silo_rules.specs.Told.{heard_by, news_of, told, told_again}
 use Rattle.silo_rules.proofs.Whole.{Are, first_are}
-use Rattle.deployment_headline.specs.Deployment.{Deployment, first_deployment}
+use Rattle.deployment_headline.specs.Deployment.{Deployment, first_deployment, process_of}
 use Rattle.deployment_headline.specs.Limits.{with_room, node_with_room, process_with_room, deployment_with_room}
 use Rattle.deployment_headline.specs.Steps.{Step, IsStep, after, after_all, deployed}
 use Rattle.deployment_headline.specs.Theorems.{nodes_of, world_of, IsWorldOf, IsRun, IsFirmAt, DeploymentsAreRuns, ProcessesKeepTheHeadline, ProcessesKeepOneFirm, ProcessesAreBehind, ProcessesAreOwn, StepsArePlain, LimitsDoNotMatter, WrittenAreOwn}
@@ -264,6 +265,8 @@ has_settings its events letters are some any = record {
   activations_within = are.activations_within;
   finds_above = are.finds_above;
   finds_within = are.finds_within;
+  report_above = are.report_above;
+  report_within = are.report_within;
   last_above = are.last_above;
   last_within = are.last_within;
 }
@@ -311,7 +314,7 @@ plain_within :
     (plain_of (world_of (deployed settings (steps ++ s ∷ []))))
 plain_within settings steps s are named is_step room =
     let d = deployed settings steps in
-    let first = seen_keep.first settings are in
+    let first = first_are settings are in
     let longer = length-append steps (s ∷ []) in
     let sound = sound_after (first_deployment settings) (sound_first settings first) steps in
     let next : deployed settings (steps ++ s ∷ []) ≡ after d s = one_more (first_deployment settings) steps s in

@@ -12,7 +12,8 @@ use Rattle.membership_view.specs.View.{shares_endpoint}
 use Rattle.membership_view.specs.Views.{ViewsValue, status_at}
 use Rattle.membership_view.specs.Changes.{Change, Join, Leave, Die, after, changed, is_newest, joined_rows, next_views}
 use Rattle.membership_view.specs.Whole.{IsViews}
-use Rattle.membership_view.proofs.Changes.{foreign_says, next_is, now_is, older_says, others}
+use Rattle.membership_view.proofs.JoinSteps.{foreign_says, older_says}
+use Rattle.membership_view.proofs.NextViews.{next_is, now_is, others}
 use Rattle.membership_view.proofs.Kept.{death_is, has_row, join_is, leave_is, whole-after}
 use Rattle.membership_view.proofs.Order.{Decides-shares, shares_itself}
 use Rattle.membership_view.proofs.SameEndpoint.{found_row, lower_generation}

@@ -12,6 +12,8 @@ pub mod Search
 pub mod Same
 pub mod Neighbours
 pub mod After
+pub mod NextViews
+pub mod JoinSteps
 pub mod Changes
 pub mod Unchanged
 pub mod WorkedOut

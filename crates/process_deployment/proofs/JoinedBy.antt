@@ -1,6 +1,5 @@
 -- A process that was started with a token was told of its silo's join by a line that carries it.
 use Rattle.std.proofs.Common.{◌≡◌, ℕ, Bool, true, false, List, [], ◌∷◌, Option, Some, None, Result, Ok, Err, refl, sym, ap, ◌∙◌, subst}
-use Rattle.std.specs.Fmt.{decimal}
 use Rattle.std.specs.Prelude.{not, nat_lt, cond, All, if◌then◌else◌}
 use Rattle.std.specs.Io.BufRead.{strip_last}
 use Rattle.std.proofs.lemmas.List.Elements.{All-nil, All-append, All-weaker, Contains-append_left, Contains-push}

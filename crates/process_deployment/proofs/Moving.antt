@@ -1,5 +1,5 @@
 -- A line that a process answers is one step of a deployment, or none.
-use Rattle.std.proofs.Common.{arith, ◌≡◌, ℕ, ◌+◌, ◌-◌, ◌<◌, ◌≤◌, Bool, true, false, List, [], ◌∷◌, ◌++◌, Option, Some, None, Result, Ok, Err, length, refl, sym, ap, ◌∙◌, subst, append-nil}
+use Rattle.std.proofs.Common.{arith, ◌≡◌, ℕ, ◌+◌, ◌-◌, ◌<◌, ◌≤◌, Bool, true, false, List, [], ◌∷◌, ◌++◌, Option, Some, None, Result, Ok, Err, length, take, refl, sym, ap, ◌∙◌, subst, append-nil}
 use Rattle.std.specs.Prelude.{◌==◌, cond, not, nat_le, is_ok, is_some, All, Contains, slice_get, if◌then◌else◌, codes}
 use Rattle.std.specs.BTreeMap.{insert_entry}
 use Rattle.std.specs.Fmt.{decimal}
@@ -42,11 +42,12 @@ use Rattle.process_rules.specs.Happened.{news_words, received_words}
 use Rattle.process_rules.specs.Answer.{Answered, printing, unless_dead, after_news, heard, told_so, begun, begun_so, stepped, seen_so, done_so, received_so, is_anothers_join, answered, answered_as}
 use Rattle.process_rules.specs.Show.{show_lines, dump_line, figures_line, grain_owner_line, grain_place_line}
 use Rattle.process_rules.specs.Output.{answered_to, fault_line, said}
-use Rattle.process_deployment.specs.Allowed.{IsDecidedView, IsWritten, TakesJoin, MayAsk, IfAsks}
+use Rattle.process_deployment.specs.Allowed.{decided_by, IsDecidedView, IsWritten, TakesJoin, MayAsk, IfAsks}
 use Rattle.process_deployment.specs.Cluster.{Process, Cluster}
 use Rattle.process_deployment.specs.Theorems.{deployment_of}
 use Rattle.process_deployment.proofs.Answers.{SaysOnly, ReadsAsItself, AreSilent, silent_alone, silent_says, step_says, begun_silent, news_silent, told_silent, refusal_silent, fault_silent, pong_silent, saw_silent, did_silent, received_silent, owner_silent, place_silent, figures_silent, show_silent, dump_silent}
 use Rattle.process_deployment.proofs.Silent.{IsSilent}
+use Rattle.process_deployment.proofs.DecidedViews.{view_decided}
 use Rattle.process_deployment.proofs.Lists.{put_again, found_at}
 
 -- ---- what a process's answer makes of a deployment
@@ -183,21 +184,23 @@ module _ (d : Deployment) (silo : Silo) (s : SiloValue) (there : process_of d si
       by (Ok its) is = by_age its (nat_le version s.membership.views.version) refl is
 
   -- a view with which the silo begins, or its refusal
-  begun_moves : (version : ℕ) (rows : List Listed) → IsDecidedView d.membership s version rows → Moved d silo (begun_so version rows s)
+  begun_moves : (version : ℕ) (rows : List Listed) → IsDecidedView d.changes s version rows → Moved d silo (begun_so version rows s)
   unfolding deployment.after_all
   begun_moves version rows decided_so = by (told_view s.node.settings s.membership s.node.host.silo version rows) refl
     where
-      own : s.node.host.silo ≡ silo
-      own = (its_process d sound silo s there).address
-
       by : (o : Result Membership ℕ) → told_view s.node.settings s.membership s.node.host.silo version rows ≡ o
           → Moved d silo (begun o version s)
       by (Err number) is =
           stays (refusal_line number ∷ []) false (λ hashing. silent_alone hashing (refusal_line number) (refusal_silent hashing number))
       by (Ok m) is =
           let its = decided_so m is in
+          let process = its_process d sound silo s there in
+          let view = view_decided d.settings d.changes d.membership sound.first sound.start version its.0 in
+          let same : listing_of (decided_by s.node.settings (take version d.changes)) version ≡ listing_of d.membership version =
+          ap (λ (t : Settings). listing_of (decided_by t (take version d.changes)) version) process.set_up ∙ view.1 in
           let so : told_view s.node.settings s.membership silo version (listing_of d.membership version) ≡ Ok m =
-          ap (λ q. told_view s.node.settings s.membership q version (listing_of d.membership version)) (sym own) ∙ its.1 in
+          ap (λ q. told_view s.node.settings s.membership q version (listing_of d.membership version)) (sym process.address)
+          ∙ ap (λ l. told_view s.node.settings s.membership s.node.host.silo version l) (sym same) ∙ its.1 in
           let line = sentence (codes "view" ∷ decimal version ∷ codes "begins" ∷ []) in
           record {
             steps = deployment.Begin silo version ∷ [];
@@ -205,7 +208,7 @@ module _ (d : Deployment) (silo : Silo) (s : SiloValue) (there : process_of d si
             named = All-cons deployment.IsStep (deployment.Begin silo version) [] tt (All-nil deployment.IsStep);
             letters = [];
             is =
-                takes.begins_so version its.0 ∙ ap (λ r. deployment.begins r d silo s) so
+                takes.begins_so version view.0 ∙ ap (λ r. deployment.begins r d silo s) so
                 ∙ (λ i. record d {
                   processes = insert_entry silo_cmp d.processes silo (record s { membership = m });
                   written = sym (append-nil d.written) i;

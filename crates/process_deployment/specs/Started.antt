@@ -57,21 +57,20 @@ unfoldable pub after_all_starting : Starting → List StartingStep → Starting
 after_all_starting s [] = s
 after_all_starting s (step ∷ steps) = after_all_starting (after_starting s step) steps
 
--- what may be asked of a process that waits: a change that it is told was decided, and a view is that of a version
--- decided. Any letter may come to it, whether it was written or
--- not, since it wasn't told of its join
-abbrev pub MayAskEarly : Cluster → Process → Asked → Type 0
-MayAskEarly c p (Joined version silo token places) = TakesJoin p (Joined version silo token places) → IsDecided c.changes p.silo version (Join silo places)
-MayAskEarly c p (Leaving version silo) = IsDecided c.changes p.silo version (Leave silo)
-MayAskEarly c p (Dead version silo) = IsDecided c.changes p.silo version (Die silo)
-MayAskEarly c p (Begin version rows) = IsDecidedView c.membership p.silo version rows
-MayAskEarly c p (Receive letter) = told_of_its_join p.silo ≡ false
-MayAskEarly c p other = ⊤
+-- what may be asked of a process that waits: a change that it is told was decided, and a view with which it begins is that of a version that
+-- was. Any letter may come to it, whether it was written or not, since it wasn't told of its join
+abbrev pub MayAskEarly : List Change → Process → Asked → Type 0
+MayAskEarly changes p (Joined version silo token places) = TakesJoin p (Joined version silo token places) → IsDecided changes p.silo version (Join silo places)
+MayAskEarly changes p (Leaving version silo) = IsDecided changes p.silo version (Leave silo)
+MayAskEarly changes p (Dead version silo) = IsDecided changes p.silo version (Die silo)
+MayAskEarly changes p (Begin version rows) = IsDecidedView changes p.silo version rows
+MayAskEarly changes p (Receive letter) = told_of_its_join p.silo ≡ false
+MayAskEarly changes p other = ⊤
 
 -- a step that may come: a silo's process is started once
 unfoldable pub MayStart : Starting → StartingStep → Type 0
 MayStart s (Start silo) = IsSilo silo × (process_at silo s.waiting ≡ None) × (process_at silo s.cluster.processes ≡ None) × (process_at silo s.cluster.dead ≡ None)
-MayStart s (ReadEarly silo line) = IsSilo silo × IsLine line × IfSome (process_at silo s.waiting) (λ p. IfAsks (said line p.silo) (MayAskEarly s.cluster p))
+MayStart s (ReadEarly silo line) = IsSilo silo × IsLine line × IfSome (process_at silo s.waiting) (λ p. IfAsks (said line p.silo) (MayAskEarly s.cluster.changes p))
 MayStart s (Go step) = May s.cluster step
 
 unfoldable pub MayAllStart : Starting → List StartingStep → Type 0

@@ -74,6 +74,24 @@ AnotherChangeIsTold =
     ∷ []))
     ≡ silo_a ∷ silo_b ∷ []
 
+-- or it begins with a view in which nobody is: it finds itself alone again
+abbrev pub AnotherViewIsTold : Type 0
+AnotherViewIsTold =
+    firm_at grain_a
+    (clustered worked_settings worked_join_tokens
+    (opening ++ waking
+    ++ Decide (Join silo_b (5 ∷ []))
+    ∷ Read silo_b (codes "view 1")
+    ∷ Read silo_b (codes "joined 2 10.0.0.2:1000@1 token=b1 5")
+    ∷ Read silo_b (codes "see 2")
+    ∷ Read silo_b (codes "letter 10.0.0.2:1000@1 10.0.0.2:1000@1 2 query 0+4294967296")
+    ∷ Read silo_b (codes "letter 10.0.0.2:1000@1 10.0.0.2:1000@1 2 report 0+4294967296 last")
+    ∷ Read silo_b (codes "wake user/a#7")
+    ∷ Read silo_b (codes "letter 10.0.0.2:1000@1 10.0.0.2:1000@1 2 register 1 user/a#7 10.0.0.2:1000@1!1")
+    ∷ Read silo_b (codes "letter 10.0.0.2:1000@1 10.0.0.2:1000@1 2 registered 1 user/a#7 10.0.0.2:1000@1!1")
+    ∷ []))
+    ≡ silo_a ∷ silo_b ∷ []
+
 -- the first silo's process is started again, as the same silo, with that token or with none
 abbrev pub begins_anew : (token : Option (List ℕ)) → Cluster → Cluster
 begins_anew token c = record c { processes = insert_entry silo_cmp c.processes silo_a (record (started c.settings c.tokens silo_a) { token = token }) }

@@ -1,15 +1,14 @@
 -- A process that was started with a token is told of its silo's join by a line that carries it, and by no other.
-use Rattle.std.proofs.Common.{◌≡◌, ◌≢◌, ℕ, Bool, true, false, IsSome, List, [], ◌∷◌, Option, Some, None, is_some, Result, Ok, Err, refl, ap, sym, ◌∙◌, subst}
+use Rattle.std.proofs.Common.{◌≡◌, ◌≢◌, ℕ, Bool, true, false, List, [], ◌∷◌, Option, Some, None, is_some, Result, Ok, Err, refl, ap, sym, ◌∙◌, subst}
 use Rattle.std.specs.Prelude.{⊤, ◌&&◌, ◌+◌, ◌==◌, cond, not, nat_le}
-use Rattle.std.specs.Option.{option_map}
 use Rattle.std.proofs.lemmas.Slice.Eq.{bytes_eq-Decides}
 use Rattle.std.proofs.lemmas.Bool.Decides.{not_from_Decides}
 use Rattle.texts.specs.Words.{sentence}
-use Rattle.silo_address.specs.Silo.{Silo, IsSameEndpoint, silo_eq}
+use Rattle.silo_address.specs.Silo.{Silo, silo_eq}
 use Rattle.silo_address.proofs.Same.{Decides-silo}
 use Rattle.membership_view.specs.declared.status.Status.{Status}
 use Rattle.membership_view.specs.declared.status.Status.TheVariants.{Dead}
-use Rattle.membership_view.specs.Views.{ViewsValue, view_at, status_at}
+use Rattle.membership_view.specs.Views.{ViewsValue, status_at}
 use Rattle.membership_view.specs.Changes as change
 use Rattle.membership_view.specs.Whole.{IsViews}
 use Rattle.membership_view.proofs.Absent.{absent_stays, newest_absent}

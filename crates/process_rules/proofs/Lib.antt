@@ -6,6 +6,7 @@ mod WordsSaid
 pub mod Given
 pub mod ReportForms
 pub mod FormsAgain
+pub mod FormsGave
 pub mod LettersAgain
 pub mod LineWords
 pub mod LinesAgain
