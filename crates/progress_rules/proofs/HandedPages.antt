@@ -19,11 +19,11 @@ use Rattle.directory_rules.specs.Table.{table_of}
 use Rattle.directory_rules.specs.Snapshot.{ShelfAnswer, Hands_page, Is_behind, is_snapshot, has_snapshot, shelf_answer, shelf_without}
 use Rattle.directory_rules.specs.Host as host
 use Rattle.directory_rules.specs.Host.{next_held, entry_of}
-use Rattle.directory_rules.specs.Sent.{request_letters, all_requests, requests_of_grain, all_wants}
+use Rattle.directory_rules.specs.Sent.{query_to, request_letters, all_requests, requests_of_grain, all_wants}
 use Rattle.directory_rules.specs.Step.{Stepped, silently, sight, started}
 use Rattle.directory_rules.specs.Sight.{is_next}
 use Rattle.directory_rules.specs.Input.{Input, Does, Receives, step}
-use Rattle.directory_rules.specs.Transfer.{answer_to, with_settled, with_gathering, turned_to_recovery}
+use Rattle.directory_rules.specs.Transfer.{answer_to, with_settled, with_gathering, with_recovery, turned_to_recovery}
 use Rattle.directory_rules.specs.declared.own_step.OwnStep.TheVariants.{Wake, Close, Cancel, Find, Forget, Nudge, NudgeGrain, NudgeRanges, Offer}
 use Rattle.directory_rules.proofs.Cases.{on_bool}
 use Rattle.directory_facts.proofs.Ways.{Ways}
@@ -245,6 +245,8 @@ module _ (node : Node) where
     drops = λ letter page gathering taken is. silent (Receives letter) (with_gathering node gathering) _ refl refl;
     turns = λ letter range piece body has awaits. sends (Receives letter) (turned_to_recovery node range) _ _ refl refl
         (ask_tell (turned_to_recovery node range) _ (query_questions (turned_to_recovery node range) range));
+    continues = λ letter report recovery taken is. sends (Receives letter) (with_recovery node recovery) _ _ refl refl
+        (one_tells (with_recovery node recovery) (query_to (with_recovery node recovery) report.range report.silo) tt);
     collects = λ letter report recovery taken is. silent (Receives letter) _ _ refl refl;
     completes = λ letter report table taken is. silent (Receives letter) _ _ refl refl;
     takes_over = λ letter entry body seen may. begins (Receives letter) entry.grain (Some entry.activation);
