@@ -72,6 +72,8 @@ roomy_settings its events letters are some any = record {
   finds_within = are.finds_within;
   last_above = are.last_above;
   last_within = are.last_within;
+  report_above = are.report_above;
+  report_within = are.report_within;
 }
 
 with_same : (e l : ℕ) (o : Option SiloValue) → option_map its_node (option_map (process_with_room e l) o) ≡ option_map (node_with_room e l)

@@ -43,6 +43,16 @@ module _ (hash : Grain → ℕ) (range : Range) where
   up_to_both one two three (inr is) (inl still) = inr (subst (λ o. IsFurther hash range one o) (sym still) is)
   up_to_both one two three (inr is) (inr on) = inr (further_both one two three is on)
 
+  pub further_up_to : (one two three : Option Grain) → IsFurther hash range one two → IsUpTo hash range two three
+      → IsFurther hash range one three
+  further_up_to one two three is (inl still) = subst (λ o. IsFurther hash range one o) (sym still) is
+  further_up_to one two three is (inr on) = further_both one two three is on
+
+  pub up_to_further : (one two three : Option Grain) → IsUpTo hash range one two → IsFurther hash range two three
+      → IsFurther hash range one three
+  up_to_further one two three (inl same) on = subst (λ o. IsFurther hash range o three) same on
+  up_to_further one two three (inr is) on = further_both one two three is on
+
   further_from : (after : Option Grain) (grain : Grain) (es : List Entry) → stands_behind hash (range ∷ []) after grain ≡ true
       → rise_behind hash (range ∷ []) (Some grain) es ≡ true → IsFurther hash range after (last_grain (Some grain) es)
   further_from after grain [] is rises = is
