@@ -196,7 +196,7 @@ module _ (world : World) (r : IsResting world) where
         let low = level_of grain u in
         let right = kept.backed.reported.right told grain count sent (omega (arith, low, version)) firm in
         let there = kept.backed.entries.held_there grain (letters.activation_on told.sender count) right in
-        by (node_of world told.sender) refl (teller_lives (omega (arith, low))) there.0 there.1.0
+        by (node_of world told.sender) refl (teller_lives (omega (arith, low))) there.0 there.1
       where
         by : (o : Option Node) → node_of world told.sender ≡ o → is_some o ≡ true → (x : protocol.Held)
             → w.held told.sender grain ≡ Some x → Has (all_held o) grain
