@@ -15,6 +15,7 @@ use Rattle.directory_rules.specs.Step.{Stepped}
 use Rattle.silo_rules.specs.SiloValue.{SiloValue}
 use Rattle.silo_rules.specs.Steps.{does}
 use Rattle.progress_rules.specs.Plan.{IsSettledPiece}
+use Rattle.progress_rules.specs.Room.{report_count}
 use Rattle.progress_rules.specs.Waits.{Recovers, Awaits, IsFurther}
 use Rattle.progress_rules.specs.Gathers.{AwaitsFrom}
 use Rattle.deployment_headline.specs.Deployment.{Deployment, process_of}
@@ -104,6 +105,10 @@ AreExchanges d silo (steps ∷ more) = IsExchange d silo steps × AreExchanges (
 abbrev pub HaveAtMost : (pages : ℕ) → Deployment → Type 0
 HaveAtMost pages d = EachProcess (λ silo s. All (λ x. page_count (length x.entries) ≤ pages) s.node.shelf) d
 
+-- no silo holds more activations than it can tell in so many reports
+abbrev pub HoldAtMost : (reports : ℕ) → Deployment → Type 0
+HoldAtMost reports d = EachProcess (λ silo s. report_count d.settings.report_size (length s.node.host.held) ≤ reports) d
+
 -- in the steps the silo has at least so many exchanges, one after the other
 pub record HasExchanges (d : Deployment) (silo : Silo) (many : ℕ) (steps : List Step) : Type 0 where
   pub before : List Step
@@ -112,10 +117,10 @@ pub record HasExchanges (d : Deployment) (silo : Silo) (many : ℕ) (steps : Lis
   pub are : AreExchanges (after_all d before) silo exchanges
   pub enough : many ≤ length exchanges
 
--- after as many exchanges as a snapshot has pages, and two more, the silo has all its ranges settled
+-- after as many exchanges as a snapshot has pages, as many as a silo has reports, and one more, the silo has all its ranges settled
 abbrev pub RangesSettle : Type 0
-RangesSettle = WhileQuiet (λ d steps. (silo : Silo) (pages : ℕ) (t : SiloValue)
-    → HaveAtMost pages d → HasExchanges d silo (pages + 2) steps → process_of (after_all d steps) silo ≡ Some t → All IsSettledPiece t.node.holding.pieces)
+RangesSettle = WhileQuiet (λ d steps. (silo : Silo) (pages reports : ℕ) (t : SiloValue) → HaveAtMost pages d → HoldAtMost reports d
+    → HasExchanges d silo (pages + reports + 1) steps → process_of (after_all d steps) silo ≡ Some t → All IsSettledPiece t.node.holding.pieces)
 
 -- all ranges of all silos are settled
 abbrev pub HaveAllSettled : Deployment → Type 0
@@ -123,4 +128,5 @@ HaveAllSettled d = EachProcess (λ silo s. All IsSettledPiece s.node.holding.pie
 
 -- so they are where each silo has so many, whichever comes first; in an exchange of one silo there may be others'
 abbrev pub AllRangesSettle : Type 0
-AllRangesSettle = WhileQuiet (λ d steps. (pages : ℕ) → HaveAtMost pages d → EachProcess (λ silo s. HasExchanges d silo (pages + 2) steps) d → HaveAllSettled (after_all d steps))
+AllRangesSettle = WhileQuiet (λ d steps. (pages reports : ℕ) → HaveAtMost pages d → HoldAtMost reports d
+    → EachProcess (λ silo s. HasExchanges d silo (pages + reports + 1) steps) d → HaveAllSettled (after_all d steps))
