@@ -1,6 +1,6 @@
 -- A query and an ask are answered by one letter whenever they come, and the answer counts whenever it comes back.
 use Rattle.std.proofs.Common.{arith, ◌≡◌, ℕ, ◌+◌, ◌<◌, ◌≤◌, List, [], ◌∷◌, ◌++◌, length, refl, sym, ap, ◌∙◌, subst, ◌⊎◌, inl, inr}
-use Rattle.std.specs.Prelude.{Bool, true, cond, ◌==◌, ◌&&◌, nat_lt, slice_get, find, All, Contains, Option, Some, None, Ok}
+use Rattle.std.specs.Prelude.{Bool, true, cond, ◌==◌, ◌&&◌, nat_lt, slice_get, find, All, Option, Some, None, Ok}
 use Rattle.std.proofs.lemmas.Bool.{eqb-true, eqb-false, ltb-true}
 use Rattle.std.proofs.lemmas.List.Elements.{All-head, All-tail}
 use Rattle.texts.proofs.Decided.{both}
@@ -35,7 +35,7 @@ use Rattle.deployment_headline.proofs.Limits.{stepped_with_room, steps_same}
 use Rattle.deployment_progress.proofs.States.{GoesOn}
 use Rattle.deployment_progress.proofs.Rest.{node_at, process_with, IsAtRest, its_settings}
 use Rattle.deployment_progress.proofs.Quiet.{letter_comes}
-use Rattle.deployment_progress.proofs.Later.{w, in_world, its_pieces, its_recoveries, its_version, its_settings_are, its_silo, stepped_on, got_end}
+use Rattle.deployment_progress.proofs.Later.{w, in_world, its_recoveries, its_version, its_settings_are, its_silo, stepped_on, got_end}
 
 -- ---- an ask at a shelf
 found_test : (P : Snapshot → Type 0) (test : Snapshot → Bool) (shelf : List Snapshot) (x : Snapshot) → All P shelf

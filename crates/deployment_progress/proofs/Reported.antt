@@ -1,9 +1,9 @@
 -- While membership rests: what silos report is of what they held at the start, so whoever tells further has fewer reports left.
-use Rattle.std.proofs.Common.{arith, ◌≡◌, ◌≢◌, ℕ, zero, suc, ◌+◌, ◌<◌, ◌≤◌, List, [], ◌∷◌, ◌++◌, length, refl, sym, ap, ◌∙◌, subst, ◌⊎◌, inl, inr}
-use Rattle.std.specs.Prelude.{slice_get, true, false, All, Contains, Option, Some, None, Ok}
+use Rattle.std.proofs.Common.{arith, ◌≡◌, ℕ, zero, suc, ◌+◌, ◌≤◌, List, [], ◌∷◌, ◌++◌, refl, sym, ap, ◌∙◌, subst, ◌⊎◌, inl, inr}
+use Rattle.std.specs.Prelude.{slice_get, true, Contains, Option, Some, None}
 use Rattle.std.specs.Option.{option_map}
 use Rattle.std.specs.List.{slice_index_or}
-use Rattle.std.proofs.lemmas.List.Elements.{All-head, All-weaker}
+use Rattle.std.proofs.lemmas.List.Elements.{All-head}
 use Rattle.silo_address.specs.Silo.{Silo, silo_eq}
 use Rattle.silo_address.specs.Grain.{Grain}
 use Rattle.silo_address.proofs.Same.{Decides-silo}
@@ -11,24 +11,22 @@ use Rattle.membership_view.specs.Views.{ViewsValue}
 use Rattle.ring_range.specs.Range.{Range}
 use Rattle.hash_ring.specs.Hash.{hash_grain}
 use Rattle.directory_rules.specs.declared.held.Held.{Held}
-use Rattle.directory_rules.specs.Settings.{Settings, AreSettings}
+use Rattle.directory_rules.specs.Settings.{Settings}
 use Rattle.directory_rules.specs.Happens.{node_of}
-use Rattle.directory_rules.specs.Host.{is_firm}
-use Rattle.directory_rules.specs.Input.{Input, Sees, Does, Receives, step}
+use Rattle.directory_rules.specs.Input.{Input, Sees, Does, Receives}
 use Rattle.directory_rules.specs.Mail.{letter_of}
 use Rattle.directory_rules.specs.Membership.{Membership}
 use Rattle.directory_rules.specs.Recovery.{told_by}
 use Rattle.directory_rules.specs.Sent.{recovery_of}
 use Rattle.directory_rules.specs.Standing.{rise_behind, last_grain}
-use Rattle.directory_rules.specs.State.{Report, Letter, Node}
-use Rattle.directory_rules.specs.Step.{Stepped}
+use Rattle.directory_rules.specs.State.{Letter, Node}
 use Rattle.directory_rules.specs.Table.{lie_in}
 use Rattle.directory_rules.proofs.Cases.{on_bool}
 use Rattle.directory_facts.specs.Pieces.{HasPieces}
 use Rattle.progress_rules.specs.Room.{report_count, held_behind, all_held}
 use Rattle.progress_rules.specs.Waits.{Recovers, Awaits}
-use Rattle.progress_rules.proofs.AreTold.{Base, left_by, base_of, LeavesFewer, IsDue, AreTold, told_on}
-use Rattle.progress_rules.proofs.FirmKept.{FirmSo, Registers}
+use Rattle.progress_rules.proofs.AreTold.{Base, left_by, base_of, AreTold, told_on}
+use Rattle.progress_rules.proofs.FirmKept.{Registers}
 use Rattle.progress_rules.proofs.Open.{IsUnserved}
 use Rattle.progress_rules.proofs.Passed.{Has}
 use Rattle.progress_rules.proofs.TellsOn.{tells_on}
@@ -40,9 +38,8 @@ use Rattle.deployment_headline.proofs.Sound.{keeps}
 use Rattle.deployment_progress.specs.Quiet.{DecidesNone}
 use Rattle.deployment_progress.proofs.Rest.{node_at, HasWorld, IsAtRest, its_settings, its_sound}
 use Rattle.deployment_progress.proofs.Quiet.{HasStayed, IsBrought, HasMoved, Moves, quiet_moves, view_stays, rests_on}
-use Rattle.deployment_progress.proofs.Less.{same_waits}
 use Rattle.deployment_progress.proofs.States.{not_settled_and_recovers}
-use Rattle.deployment_progress.proofs.Later.{w, in_world, its_pieces, its_version, its_settings_are, its_silo, stepped_on, IsLater, IsQuiet, quiet_rest, step_on, later_so}
+use Rattle.deployment_progress.proofs.Later.{w, in_world, its_pieces, its_version, its_settings_are, its_silo, IsQuiet, quiet_rest, step_on, later_so}
 
 -- the letter was written
 abbrev pub Written : Deployment → Letter → Type 0

@@ -1,6 +1,6 @@
 -- A report that isn't its silo's last has as many entries as a report may have, in every world that events reach.
-use Rattle.std.proofs.Common.{arith, ◌≡◌, refl, sym, ap, subst, ◌∙◌, ℕ, length, take, length-take-le}
-use Rattle.std.specs.Prelude.{⊤, false, nat_le, All, Option, Some}
+use Rattle.std.proofs.Common.{arith, ◌≡◌, sym, ap, subst, ◌∙◌, ℕ, length, length-take-le}
+use Rattle.std.specs.Prelude.{⊤, false, nat_le, Some}
 use Rattle.std.specs.List.{slice_index_or}
 use Rattle.std.specs.Ordering.{nat_cmp}
 use Rattle.std.specs.BTreeMap.{is_at}

@@ -1,6 +1,6 @@
 -- What a piece that recovers needs once a report is taken: a report fewer of a silo that has more to tell, and none of one that has told all.
-use Rattle.std.proofs.Common.{arith, ◌≡◌, ◌≢◌, refl, sym, ap, subst, ◌∙◌, ℕ, ◌+◌, ◌*◌, ◌-◌, ◌≤◌, List, [], ◌∷◌}
-use Rattle.std.specs.Prelude.{Bool, true, false, cond, not, ◌||◌, filter, sum_by, Option, Some}
+use Rattle.std.proofs.Common.{arith, ◌≡◌, ◌≢◌, refl, sym, ap, ◌∙◌, ℕ, ◌+◌, ◌*◌, ◌-◌, ◌≤◌, List, [], ◌∷◌}
+use Rattle.std.specs.Prelude.{true, cond, not, ◌||◌, filter, sum_by, Option}
 use Rattle.std.specs.Ordering.{nat_cmp}
 use Rattle.std.specs.BTreeMap.{is_at}
 use Rattle.std.proofs.lemmas.List.Sums.{sum_by-cons, sum_by-le-sum_by}
@@ -18,7 +18,7 @@ use Rattle.directory_rules.specs.Sent.{recovery_of}
 use Rattle.directory_rules.specs.Transfer.{with_recovery}
 use Rattle.directory_rules.proofs.Cases.{on_bool}
 use Rattle.directory_facts.specs.Pieces.{HasPieces}
-use Rattle.directory_facts.proofs.Collected.{IsTaken, TakenSo}
+use Rattle.directory_facts.proofs.Collected.{TakenSo}
 use Rattle.progress_rules.proofs.Falls.{Left, left_after, need_of, need, need_set}
 use Rattle.progress_rules.proofs.Told.{last_told, told_on, others_on, others_left, put, beside}
 use Rattle.progress_rules.proofs.Waits.{is_one, HasRecovering}

@@ -1,5 +1,5 @@
 -- Ranges that a silo hasn't settled, and hashes of those of live silos: no step but a sight begins to wait for one.
-use Rattle.std.proofs.Common.{arith, ◌≡◌, ◌≢◌, refl, sym, ap, subst, ◌∙◌, ℕ, [], ◌⊎◌, inl, inr}
+use Rattle.std.proofs.Common.{arith, ◌≡◌, refl, sym, ap, subst, ◌∙◌, ℕ, [], ◌⊎◌, inl, inr}
 use Rattle.std.specs.Prelude.{true, false, ◌==◌, Option, Some, Ok}
 use Rattle.std.specs.Ordering.{nat_cmp}
 use Rattle.std.specs.Map.{lookup}
@@ -23,7 +23,7 @@ use Rattle.directory_rules.proofs.Cases.{on_bool}
 use Rattle.directory_facts.specs.Pieces.{HasPieces}
 use Rattle.directory_facts.proofs.EachStep.{by_way}
 use Rattle.directory_facts.proofs.Lookups.{found_beside_set}
-use Rattle.directory_facts.proofs.Ways.{HasPiece, Ways}
+use Rattle.directory_facts.proofs.Ways.{Ways}
 use Rattle.progress_rules.specs.Waits.{Recovers}
 use Rattle.progress_rules.specs.Gathers.{AwaitsFrom}
 use Rattle.progress_rules.proofs.Asked as asked

@@ -1,6 +1,6 @@
 -- That goes on through a round: what silos report is of what they held at its start.
 use Rattle.std.proofs.Common.{◌≡◌, refl, sym, ap, subst, ◌∙◌, ℕ, ◌≤◌, inl, inr}
-use Rattle.std.specs.Prelude.{All, Option, Some, Ok}
+use Rattle.std.specs.Prelude.{All, Some, Ok}
 use Rattle.std.specs.Option.{option_map}
 use Rattle.std.specs.Ordering.{nat_cmp}
 use Rattle.std.specs.BTreeMap.{is_at}

@@ -1,6 +1,6 @@
 -- Whoever is awaited after a step had told as much before it, or a report of his was taken that isn't the last.
-use Rattle.std.proofs.Common.{arith, ◌≡◌, ◌≢◌, refl, sym, ap, subst, ◌∙◌, ℕ, ◌⊎◌, inl, inr}
-use Rattle.std.specs.Prelude.{Bool, true, false, ◌==◌, Option, Some, Ok}
+use Rattle.std.proofs.Common.{arith, ◌≡◌, refl, sym, ap, ◌∙◌, ◌⊎◌, inl, inr}
+use Rattle.std.specs.Prelude.{false, ◌==◌, Some, Ok}
 use Rattle.std.specs.Option.{unwrap_or}
 use Rattle.std.specs.Ordering.{nat_cmp}
 use Rattle.std.specs.Map.{lookup}
@@ -9,7 +9,6 @@ use Rattle.std.proofs.lemmas.Bool.{eqb-true, eqb-false}
 use Rattle.std.proofs.lemmas.Cmp.{nat_cmp_total}
 use Rattle.std.proofs.lemmas.Map.Lookups.{exact_unsigned}
 use Rattle.silo_address.specs.Silo.{Silo, silo_eq}
-use Rattle.silo_address.specs.Grain.{Grain}
 use Rattle.silo_address.proofs.Same.{Decides-silo}
 use Rattle.membership_view.specs.View.{ViewValue}
 use Rattle.ring_range.specs.Range.{Range}

@@ -1,5 +1,5 @@
 -- So it is where all have seen the current view, of what was held there.
-use Rattle.std.proofs.Common.{◌≡◌, refl, sym, ap, subst, ◌∙◌, ℕ, ◌≤◌, List, [], ◌∷◌}
+use Rattle.std.proofs.Common.{◌≡◌, refl, sym, ap, subst, ℕ, ◌≤◌, List, [], ◌∷◌}
 use Rattle.std.specs.Prelude.{true, cond, is_some, All, Option, Some}
 use Rattle.std.specs.List.{slice_index_or}
 use Rattle.std.specs.Map.{lookup}

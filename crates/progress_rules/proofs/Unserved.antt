@@ -30,7 +30,7 @@ use Rattle.directory_rules.specs.Answer.{piece_with}
 use Rattle.directory_rules.specs.Host.{held_of, is_asking_under, asking_under}
 use Rattle.directory_rules.specs.Mail.{letter_of}
 use Rattle.directory_rules.specs.Happens.{node_of}
-use Rattle.directory_rules.specs.Sight.{is_owner, is_settled}
+use Rattle.directory_rules.specs.Sight.{is_owner}
 use Rattle.directory_rules.specs.Standing.{stands_behind, rise_behind, last_grain}
 use Rattle.directory_rules.specs.State.{Piece, Report, Letter, Report_letter, Reply_letter, Node, World}
 use Rattle.directory_rules.specs.Table.{entry_at, table_of, lie_in}
@@ -41,7 +41,7 @@ use Rattle.directory_facts.proofs.Hashes.{grains_have_hashes}
 use Rattle.directory_facts.proofs.Lookups.{find_looked}
 use Rattle.directory_facts.proofs.OwnPieces.{holding, counted, counted_first, at_most_one, owner_silo_is}
 use Rattle.directory_facts.proofs.Tables.{all_from}
-use Rattle.directory_headline.specs.Shown.{held_as, has_settled, is_settled_piece, reply_as, tells_of, HasMore, IsShownBody, IsShownReport}
+use Rattle.directory_headline.specs.Shown.{held_as, is_settled_piece, reply_as, tells_of, IsShownBody, IsShownReport}
 use Rattle.directory_headline.proofs.Deliveries.{letter_shown}
 use Rattle.directory_headline.proofs.FirmEntries.{found_themselves}
 use Rattle.directory_headline.proofs.Frame.{Here, node_facts, node_shown, seen_is, alive, owner_is}

@@ -1,6 +1,6 @@
 -- Worked: a recovery whose reports have one entry each. A silo has three activations firm. Another one joins and owns their hashes, but is
 -- dead before it has seen that; so the first one has to recover the range, by its own reports.
-use Rattle.std.specs.Prelude.{◌≡◌, ℕ, List, [], ◌∷◌}
+use Rattle.std.specs.Prelude.{◌≡◌, List, [], ◌∷◌}
 use Rattle.directory_rules.specs.Settings.{Settings}
 use Rattle.directory_rules.specs.Event.{Event, Join, Kill, See, Do, Deliver, Lose}
 use Rattle.directory_rules.specs.Run.{run_from_start}
