@@ -202,11 +202,11 @@ module _ (world : World) (r : IsResting world) where
             → w.held told.sender grain ≡ Some x → Has (all_held o) grain
         by None none lives x held = absurd (cc (lives))
         by (Some node) its lives x held =
-            of (held_of node.host grain) (sym ((node_shown m world w told.sender node (here told.sender node its)).host.held grain) ∙ held)
+            looked (held_of node.host grain) (sym ((node_shown m world w told.sender node (here told.sender node its)).host.held grain) ∙ held)
           where
-            of : (o : Option Held) → option_map held_as o ≡ Some x → is_some o ≡ true
-            of None none = absurd (cc (none))
-            of (Some held) some = refl
+            looked : (o : Option Held) → option_map held_as o ≡ Some x → is_some o ≡ true
+            looked None none = absurd (cc (none))
+            looked (Some held) some = refl
 
   -- so has each of a report's entries, and one more if it isn't the last
   pub record IsHeldStill (report : Report) : Type 0 where
