@@ -207,9 +207,11 @@ module _ (hashing : Hashing) (host : Host) (range : Range) where
           (λ t is so.
           let parts = and_parts (is_firm held.phase) (holds range (hash_grain hashing grain)) is in (
             parts.1,
-            held.count,
-            count_held grain (Some held) parts.1
-                ∙ ap (λ b. option_map (λ (e : Entry). e.activation.count) (if b then Some (entry_of host grain held) else None)) is,
+            (
+              held.count,
+              count_held grain (Some held) parts.1
+                  ∙ ap (λ b. option_map (λ (e : Entry). e.activation.count) (if b then Some (entry_of host grain held) else None)) is,
+            ),
           ))
           (λ f not so. absurd (cc (so))) refl some
 

@@ -1,6 +1,6 @@
 -- The settings of a directory: how hashes are made, and the limits. A directory's own limits are the greatest; smaller
 -- ones serve examples.
-use Rattle.std.specs.Prelude.{ℕ, ◌≤◌}
+use Rattle.std.specs.Prelude.{ℕ, ◌<◌, ◌≤◌}
 use Rattle.membership_view.specs.Views.{most_known}
 use Rattle.hash_ring.specs.declared.Hashing.{Hashing}
 
