@@ -134,7 +134,7 @@ module _ (due : Silo → Range → ℕ) (left : Left) (hashing : Hashing) (node 
         → Falls due left node (Report_letter report) (recovered_by result report node)
     by_recovered report (Has_more recovery) so its fewer = record {
       sends = let less = continues_need due left some hashing node has report its recovery so (fewer so.1) in omega (arith, less);
-      begins = le_same (length (requests_of node.host));
+      begins = omega arith;
       no_offers = refl;
       shelves = shelf_same;
       silo_is = refl;

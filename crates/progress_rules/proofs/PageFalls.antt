@@ -153,11 +153,11 @@ module _ (due : Silo → Range → ℕ) (left : Left) (hashing : Hashing) (node 
           goes_on gathering (subst (GatheredSo (gathering_of node page.range) page) is (gathered_so (gathering_of node page.range) page))
       by_gathered (Has_all entries) is kept =
           ends entries (subst (GatheredSo (gathering_of node page.range) page) is (gathered_so (gathering_of node page.range) page))
-      by_gathered (Refuses number left) is kept =
+      by_gathered (Refuses number anew) is kept =
           on_bool (λ b. (number == 701) ≡ b → Falls due left node (Page_letter page)
-          (cond b (silently (with_gathering node left) (effect.Refused 701))
+          (cond b (silently (with_gathering node anew) (effect.Refused 701))
           (silently node effect.Ignored))) (number == 701)
-          (λ t so. absurd (kept left (ap (λ k. Refuses k left) (eqb-true number 701 so))))
+          (λ t so. absurd (kept anew (ap (λ k. Refuses k anew) (eqb-true number 701 so))))
           (λ f so. nothing due left node (Page_letter page) effect.Ignored) refl
 
   -- whatever the page: those that are due are no fewer than it says, and none is refused by its digest
