@@ -143,7 +143,8 @@ module _ (silo : Silo) (base : Base) (pages reports : ℕ) (few : (other : Silo)
       omega (arith, grown, later)
 
   at_once : (d : Deployment) (b : Between d []) → b.first ≡ b.last
-  at_once d b = let there = b.there in let at = b.at in cc (there, at)
+  unfolding after_all
+  at_once d b = let there = b.there in let at : node_at d silo ≡ Some b.last = b.at in cc (there, at)
 
   still_recovers : (one two three : Node) → WaitsForLess one two → WaitsForLess two three → Recovers one range → Recovers three range
       → Recovers two range
