@@ -228,6 +228,6 @@ module _ (hashing : Hashing) (host : Host) (range : Range) where
       let next = next_stands (hash_grain hashing) (range ∷ []) most after its rises (omega (arith, over)) in (
         next.0,
         All-contains IsFirmThere its next.0 (All-filter (λ (e : Entry). stands_behind (hash_grain hashing) (range ∷ []) after e.grain) IsFirmThere
-        (firm_entries hashing host range) (all_firm once)) next.1,
+            (firm_entries hashing host range) (all_firm once)) next.1,
         next.2,
       )

@@ -101,9 +101,11 @@ module _ (b : Base) (above : 1 ≤ b.settings.report_size) (node : Node) (same :
         (λ t is.
         let parts = and_parts (is_firm x.1.phase) (holds range (hash_grain node.settings.hashing x.0)) is in
         let inside : holds range (hash x.0) ≡ true = ap (λ (s : Settings). holds range (hash_grain s.hashing x.0)) (sym same) ∙ parts.1 in
-        All-cons IsHeld (entry_of node.host x.0 x.1) (map (λ e. entry_of node.host e.0 e.1) (filter test xs))
-        (inside, All-head (λ (e : Grain × Held). is_firm e.1.phase ≡ true → holds range (hash e.0) ≡ true
-        → Has (b.held node.host.silo) e.0) x xs all parts.0 inside)
+        All-cons IsHeld (entry_of node.host x.0 x.1) (map (λ e. entry_of node.host e.0 e.1) (filter test xs)) (
+          inside,
+          All-head (λ (e : Grain × Held). is_firm e.1.phase ≡ true → holds range (hash e.0) ≡ true
+              → Has (b.held node.host.silo) e.0) x xs all parts.0 inside,
+        )
         (chosen xs (All-tail (λ (e : Grain × Held). is_firm e.1.phase ≡ true → holds range (hash e.0) ≡ true
         → Has (b.held node.host.silo) e.0) x xs all)))
         (λ f is. chosen xs (All-tail (λ (e : Grain × Held). is_firm e.1.phase ≡ true → holds range (hash e.0) ≡ true
@@ -149,9 +151,12 @@ module _ (b : Base) (above : 1 ≤ b.settings.report_size) (version : ℕ) (befo
       (λ t is.
       let one = (Decides-silo owner silo).0 is in
       let its : after silo ≡ Some own = ap after (sym one) ∙ at in
-      let own_is : stepped.node ≡ own = cc (its, put) in
-      (node, ap before one ∙ there, open_before b.settings.hashing node has input stepped made view range
-      (subst (λ (n : Node). IsOpen n range) (sym own_is) waits)))
+      let own_is : stepped.node ≡ own = cc (its, put) in (
+        node,
+        ap before one ∙ there,
+        open_before b.settings.hashing node has input stepped made view range
+            (subst (λ (n : Node). IsOpen n range) (sym own_is) waits),
+      ))
       (λ f is. (own, sym (others owner (λ one. let it = (Decides-silo owner silo).1 one in cc (it, is))) ∙ at, waits)) refl
 
   unserved_there : (hash : ℕ) → IsUnserved after hash → IsUnserved before hash

@@ -103,10 +103,13 @@ module _ (b : Base) (above : 1 ≤ b.settings.report_size) (world : World) (r : 
   fewer report body counts not_last =
       let so = counts_so node letter report counts in
       let by_settings : node.settings ≡ b.settings = (node_facts world r letter.to node its).own.settings_are ∙ same in
-      t.reports letter report (number, record {
-        found = found ∙ ap Some (fresh_is posted fresh);
-        comes = ap (λ (o : Option Node). is_some o) its;
-      }) (record {
+      t.reports letter report (
+        number,
+        record {
+          found = found ∙ ap Some (fresh_is posted fresh);
+          comes = ap (λ (o : Option Node). is_some o) its;
+        },
+      ) (record {
         body = body;
         version_is = so.version ∙ so.seen ∙ ap (λ (v : ViewValue). v.version) (r.seen letter.to node its);
         own = node;

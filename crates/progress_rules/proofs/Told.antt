@@ -142,9 +142,9 @@ module _ (node : Node) (letter : Letter) (report : Report) (taken : IsReportTake
   put_awaits was other silo waits =
       elim (put_or_beside other waits.recovers) [
         | inl same ↦ subst (λ (r : Range). Awaits (with_recovery node next) r silo → Awaits node r silo) same (λ its. record {
-            recovers = its.recovers;
-            among = was silo (ap (λ (r : Recovery). is_among silo r.awaiting) (sym (put node report.range next same_range)) ∙ its.among);
-          }) waits
+          recovers = its.recovers;
+          among = was silo (ap (λ (r : Recovery). is_among silo r.awaiting) (sym (put node report.range next same_range)) ∙ its.among);
+        }) waits
         | inr still ↦ awaited_still node (with_recovery node next) other silo refl still waits
       ]
 
