@@ -25,14 +25,15 @@ use Rattle.directory_rules.specs.Step.{Stepped, silently}
 use Rattle.directory_rules.specs.declared.own_step.OwnStep.{OwnStep}
 use Rattle.directory_rules.proofs.Cases.{on_bool}
 use Rattle.directory_facts.proofs.Lookups.{found_put, found_beside_put}
-use Rattle.directory_rules.specs.Membership.{Change, Membership, barred_by, is_seeable}
+use Rattle.directory_rules.specs.Membership.{Change, Membership, barred_by, is_seeable, listing_of}
 use Rattle.silo_rules.specs.SiloValue.{SiloValue, own_status}
+use Rattle.silo_rules.specs.Begun.{told_view}
 use Rattle.silo_rules.specs.Steps.{barred, unless_barred, seen, does}
 use Rattle.silo_rules.specs.Told.{Heard, told}
 use Rattle.progress_rules.proofs.Covered.{view_kept}
 use Rattle.deployment_headline.specs.Deployment.{Deployment, process_of}
 use Rattle.deployment_headline.specs.Limits.{node_with_room}
-use Rattle.deployment_headline.specs.Steps.{Step, Decide, Tell, See, Do, Receive, IsStep, heard, took, tells, tells_at, does_at, sees_at, delivers, receives_at, after}
+use Rattle.deployment_headline.specs.Steps.{Step, Decide, Tell, Begin, See, Do, Receive, IsStep, heard, begins, took, tells, tells_at, begins_at, does_at, sees_at, delivers, receives_at, after}
 use Rattle.deployment_headline.proofs.StepEvents.{told_agrees}
 use Rattle.directory_rules.proofs.People.{live_said}
 use Rattle.deployment_headline.proofs.Runs.{one_more}
@@ -133,6 +134,18 @@ module _ (d : Deployment) where
   tells_at_stays silo index None there = stayed
   tells_at_stays silo index (Some s) there = tells_stays silo s index (slice_get d.changes index) there
 
+  begins_stay : (silo : Silo) (s : SiloValue) (r : Result Membership ℕ) → process_of d silo ≡ Some s → HasStayed d (begins r d silo s)
+  begins_stay silo s (Err number) there = stayed
+  begins_stay silo s (Ok its) there =
+      record { membership = refl; nodes = put_same silo s (record s { membership = its }) there refl; written = refl }
+
+  begins_at_stays : (silo : Silo) (version : ℕ) (o : Option SiloValue) → process_of d silo ≡ o → HasStayed d (begins_at o d silo version)
+  begins_at_stays silo version None there = stayed
+  begins_at_stays silo version (Some s) there =
+      on_bool (λ b. HasStayed d (if b then
+      begins (told_view s.node.settings s.membership silo version (listing_of d.membership version)) d silo s else d))
+      (nat_le version d.membership.views.version) (λ t. begins_stay silo s _ there) (λ f. stayed)
+
   module _ (r : IsAtRest d) where
     -- ---- a silo at rest is told all, and isn't barred
     pub record IsIn (silo : Silo) (s : SiloValue) : Type 0 where
@@ -221,6 +234,7 @@ module _ (d : Deployment) where
     unfolding after
     quiet_moves (Decide change) none = absurd none
     quiet_moves (Tell silo index) none = inl (tells_at_stays silo index (process_of d silo) refl)
+    quiet_moves (Begin silo version) none = inl (begins_at_stays silo version (process_of d silo) refl)
     quiet_moves (See silo version) none = inl (sees_at_stays silo version (process_of d silo) refl)
     quiet_moves (Do silo step) none = does_moves (Do silo step) silo (Does step) tt (process_of d silo) refl
     quiet_moves (Receive silo index) none = receives_moves silo index (process_of d silo) refl

@@ -1,14 +1,15 @@
 -- What a silo reports: the count of each firm activation whose grain is hashed into the range, of the grains of which it tells.
-use Rattle.std.proofs.Common.{arith, ◌≡◌, ◌≢◌, ℕ, suc, List, [], ◌∷◌, inl, inr, refl, sym, ap, ◌∙◌}
-use Rattle.std.specs.Prelude.{◌&&◌, ◌||◌, not, nat_le, Bool, true, false, cond, if◌then◌else◌, AllPairs, Option, Some, None, map, filter, take, length}
+use Rattle.std.proofs.Common.{arith, ◌≡◌, ◌≢◌, ℕ, zero, suc, ◌<◌, List, [], ◌∷◌, inl, inr, refl, sym, ap, ◌∙◌}
+use Rattle.std.specs.Prelude.{◌&&◌, ◌||◌, not, nat_le, Bool, true, false, cond, if◌then◌else◌, is_some, All, AllPairs, Contains, Option, Some, None, map, filter, take, length}
+use Rattle.std.specs.List.{slice_index_or}
 use Rattle.std.specs.Option.{option_map, option_or}
 use Rattle.std.specs.Map.{lookup}
 use Rattle.std.specs.BTreeMap.{is_at, insert_entry}
 use Rattle.std.specs.Cmp.{IsTotalOrder}
 use Rattle.std.specs.declared.cmp.Ordering.{Ordering}
-use Rattle.std.proofs.lemmas.Bool.{leb-true, not-true}
+use Rattle.std.proofs.lemmas.Bool.{leb-true, leb-false, not-true, and_parts}
 use Rattle.std.proofs.lemmas.List.{take_all}
-use Rattle.std.proofs.lemmas.List.Elements.{All-nil}
+use Rattle.std.proofs.lemmas.List.Elements.{All-nil, All-cons, All-weaker, All-filter, All-contains, Contains-append_right}
 use Rattle.std.proofs.lemmas.Map.Lookups.{CmpEqualImpliesEq}
 use Rattle.silo_address.specs.Grain.{Grain, grain_cmp}
 use Rattle.silo_address.specs.declared.Entry.{Entry}
@@ -26,12 +27,33 @@ use Rattle.directory_rules.specs.Table.{entry_at, table_of}
 use Rattle.directory_rules.specs.Standing.{standing_cmp, stands_behind, rise_behind, last_grain}
 use Rattle.directory_rules.specs.Host.{entry_of, held_of, is_firm, firm_entries, firm_behind}
 use Rattle.directory_rules.proofs.Cases.{on_bool}
-use Rattle.directory_rules.proofs.Standings.{standing_total, standing_exact, put_as_they_stand, rise_filtered}
+use Rattle.directory_rules.proofs.Standings.{standing_total, standing_exact, put_as_they_stand, rise_filtered, rise_parts}
 use Rattle.directory_facts.proofs.Lookups.{found_put, found_beside_put, absent_found, lookup_first, lookup_later}
 use Rattle.directory_facts.proofs.StandingEntries.{found_filtered, found_taken, lookup_alike, own_as_they_stand, as_they_stand_rise}
 use Rattle.directory_headline.specs.Shown.{held_in, held_as}
 use Rattle.directory_headline.proofs.TableEntries.{table_again}
 use Rattle.directory_headline.proofs.KeptEntries.{or_nothing}
+
+-- entries are found among themselves
+pub found_themselves : (es : List Entry) → All (λ e. is_some (entry_at e.grain (table_of es)) ≡ true) es
+found_themselves [] = All-nil (λ (e : Entry). is_some (entry_at e.grain []) ≡ true)
+found_themselves (x ∷ xs) =
+    All-cons (λ (e : Entry). is_some (entry_at e.grain (table_of (x ∷ xs))) ≡ true) x xs
+    (ap (λ (o : Option Entry). is_some o) (lookup_first grain_cmp grain_cmp_total x.grain x (table_of xs)))
+    (All-weaker (λ (e : Entry). is_some (entry_at e.grain (table_of xs)) ≡ true)
+    (λ (e : Entry). is_some (entry_at e.grain (table_of (x ∷ xs))) ≡ true)
+    (λ e there. on_bool (λ b. is_some (cond b (Some x) (entry_at e.grain (table_of xs))) ≡ true) (is_at (grain_cmp e.grain) x.grain)
+    (λ t. refl) (λ f. there)) xs (found_themselves xs))
+
+-- behind the first of entries that rise, there is the next one
+pub next_stands : (hash : Grain → ℕ) (ranges : List Range) (n : ℕ) (after : Option Grain) (es : List Entry)
+    → rise_behind hash ranges after es ≡ true → n < length es
+    → (e : Entry) × Contains es e × (stands_behind hash ranges (last_grain after (take n es)) e.grain ≡ true)
+next_stands hash ranges n after [] rises below = absurd (omega (arith, below))
+next_stands hash ranges zero after (e ∷ es) rises below = (e, (0, omega arith, refl), (rise_parts hash ranges after e es rises).0)
+next_stands hash ranges (suc n) after (e ∷ es) rises below =
+    let rest = next_stands hash ranges n (Some e.grain) es (rise_parts hash ranges after e es rises).1 (omega (arith, below)) in
+    (rest.0, Contains-append_right (e ∷ []) es rest.0 rest.1, rest.2)
 
 module _ (hashing : Hashing) (host : Host) (range : Range) where
   abbrev order : Grain → Grain → Ordering
@@ -163,3 +185,49 @@ module _ (hashing : Hashing) (host : Host) (range : Range) where
   firm_reported most after grain once lies behind upto =
       count_held grain (held_of host grain) lies
       ∙ ap (option_map (λ (e : Entry). e.activation.count)) (sym (told_found most after grain behind upto ∙ firm_found grain once))
+
+  -- each entry that is firm there is that of a firm activation, in the range
+  abbrev pub IsFirmThere : Entry → Type 0
+  IsFirmThere e = (holds range (hash_grain hashing e.grain) ≡ true)
+      × ((count : ℕ) × (protocol.firm_count (option_map held_as (held_of host e.grain)) ≡ Some count))
+
+  all_firm : AllPairs (λ e later. e.0 ≢ later.0) host.held → All IsFirmThere (firm_entries hashing host range)
+  all_firm once = λ k d below.
+      let e = slice_index_or (firm_entries hashing host range) k d in
+      by e.grain (held_of host e.grain)
+      (ap (λ (o : Option Entry). is_some o) (sym (firm_found e.grain once)) ∙ found_themselves (firm_entries hashing host range) k d below)
+    where
+      by : (grain : Grain) (o : Option Held) → is_some (chosen grain o) ≡ true
+          → (holds range (hash_grain hashing grain) ≡ true) × ((count : ℕ) × (protocol.firm_count (option_map held_as o) ≡ Some count))
+      by grain None some = absurd (cc (some))
+      by grain (Some held) some =
+          on_bool (λ b. test (grain, held) ≡ b → is_some (if b then Some (entry_of host grain held) else None) ≡ true
+          → (holds range (hash_grain hashing grain) ≡ true)
+          × ((count : ℕ) × (protocol.firm_count (option_map held_as (Some held)) ≡ Some count))) (test (grain, held))
+          (λ t is so.
+          let parts = and_parts (is_firm held.phase) (holds range (hash_grain hashing grain)) is in (
+            parts.1,
+            (
+              held.count,
+              count_held grain (Some held) parts.1
+                  ∙ ap (λ b. option_map (λ (e : Entry). e.activation.count) (if b then Some (entry_of host grain held) else None)) is,
+            ),
+          ))
+          (λ f not so. absurd (cc (so))) refl some
+
+  -- where more are firm behind a grain than are told, another stands behind those
+  pub more_firm : (most : ℕ) (after : Option Grain) → AllPairs (λ e later. e.0 ≢ later.0) host.held
+      → nat_le (length (firm_behind hashing host range after)) most ≡ false
+      → (e : Entry) × IsFirmThere e
+      × (stands_behind (hash_grain hashing) (range ∷ []) (last_grain after (take most (firm_behind hashing host range after))) e.grain ≡ true)
+  more_firm most after once not =
+      let its = firm_behind hashing host range after in
+      let rises = rise_filtered (hash_grain hashing) (range ∷ []) after None (firm_entries hashing host range)
+      (as_they_stand_rise (hash_grain hashing) (range ∷ []) (entries host.held)) in
+      let over = leb-false (length its) most not in
+      let next = next_stands (hash_grain hashing) (range ∷ []) most after its rises (omega (arith, over)) in (
+        next.0,
+        All-contains IsFirmThere its next.0 (All-filter (λ (e : Entry). stands_behind (hash_grain hashing) (range ∷ []) after e.grain) IsFirmThere
+            (firm_entries hashing host range) (all_firm once)) next.1,
+        next.2,
+      )

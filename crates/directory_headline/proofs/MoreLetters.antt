@@ -60,7 +60,7 @@ module _ (hash : Grain → ℕ) (sent more : List letters.Snapshot) (grows : (x 
 module _ (m : Setting) (sent more : List letters.Report) (grows : (x : letters.Report) → Sent x sent → Sent x more) where
   pub report_still : (report : Report) → IsShownReport m.hash sent report → IsShownReport m.hash more report
   report_still report x =
-      record { told = x.told; was_sent = grows x.told x.was_sent; version = x.version; sender = x.sender; firm = x.firm }
+      record { told = x.told; was_sent = grows x.told x.was_sent; version = x.version; sender = x.sender; firm = x.firm; more = x.more }
 
   told_still : (recovery : Recovery) (member : Silo) (grain : Grain) → HasTold m.hash sent recovery member grain
       → HasTold m.hash more recovery member grain

@@ -145,15 +145,15 @@ module _ (m : Setting) (f : World) (setting : IsSettingOf m f) (facts : WorldFac
       ∙ sym (live_said f.views facts.peopled.whole f.views.version (omega arith) silo)
       ∙ alive_live (status_of (view_at f.views f.views.version) silo) listed known)
     where
+      row : (status : Option Status) → status_at f.views f.views.version silo ≡ status → IsSome (status_at f.views f.views.version silo)
+      row None none = let first = ap (λ s. s.held grain) (carried.shown.absent silo none) in absurd (cc (first, there))
+      row (Some status) is = subst (λ o. IsSome o) (sym is) refl
+
       there_now : IsSome (status_at f.views f.views.version silo)
       there_now = row (status_at f.views f.views.version silo) refl
 
       listed : IsSome (status_of (view_at f.views f.views.version) silo)
       listed = subst (λ o. IsSome o) (sym (views_say_statuses f.views facts.peopled.whole silo f.views.version (omega arith) there_now)) there_now
-
-      row : (status : Option Status) → status_at f.views f.views.version silo ≡ status → IsSome (status_at f.views f.views.version silo)
-      row None none = let first = ap (λ s. s.held grain) (carried.shown.absent silo none) in absurd (cc (first, there))
-      row (Some status) is = subst (λ o. IsSome o) (sym is) refl
 
   -- ---- settled hashes
   module _ (version number : ℕ) (silo : Silo) (node : Node) (at : IsSettledAt f version number silo node) where

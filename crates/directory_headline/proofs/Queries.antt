@@ -1,6 +1,6 @@
 -- A query is answered by a report.
-use Rattle.std.proofs.Common.{◌≡◌, inl, refl, sym, ap, ◌∙◌}
-use Rattle.std.specs.Prelude.{◌||◌, not, true, [], ◌∷◌, Option}
+use Rattle.std.proofs.Common.{◌≡◌, ℕ, inl, refl, sym, ap, subst, ◌∙◌}
+use Rattle.std.specs.Prelude.{◌||◌, not, true, false, [], ◌∷◌, Option}
 use Rattle.std.specs.Option.{option_map}
 use Rattle.texts.proofs.Decided.{both}
 use Rattle.silo_address.specs.Silo.{Silo}
@@ -18,10 +18,10 @@ use Rattle.directory_rules.specs.Standing.{stands_behind, last_grain}
 use Rattle.directory_rules.specs.State.{Letter, Report_letter, Node, World}
 use Rattle.directory_rules.specs.Transfer.{answering, answer_to, report_of}
 use Rattle.directory_headline.specs.SiloState.{state_of}
-use Rattle.directory_headline.specs.Shown.{IsShownLetter, tells_of}
+use Rattle.directory_headline.specs.Shown.{HasMore, IsShownLetter, tells_of}
 use Rattle.directory_headline.proofs.Actors.{leaves_after}
 use Rattle.directory_headline.proofs.MoreLetters.{node_still}
-use Rattle.directory_headline.proofs.FirmEntries.{firm_reported}
+use Rattle.directory_headline.proofs.FirmEntries.{firm_reported, more_firm}
 use Rattle.directory_headline.proofs.Frame.{Here, Moves, acts, alive, node_shown, node_facts, host_is, hash_is, seen_is, one_letter}
 
 module _ (m : Setting) (f : World) (w : protocol.World) (silo : Silo) (node : Node) (here : Here m f w silo node) where
@@ -41,6 +41,19 @@ module _ (m : Setting) (f : World) (w : protocol.World) (silo : Silo) (node : No
       ∙ firm_reported node.settings.hashing node.host range node.settings.report_size after grain (node_facts m f w silo node here).own.once
       (ap (λ h. holds range (h grain)) (sym same) ∙ lies) so.0 so.1
 
+  more : (range : Range) (after : Option Grain) → (report_of node range after).last ≡ false
+      → HasMore m.hash (reported w silo) (report_of node range after)
+  more range after not =
+      let same : m.hash ≡ hash_grain node.settings.hashing = hash_is m f w silo node here in
+      let next = more_firm node.settings.hashing node.host range node.settings.report_size after (node_facts m f w silo node here).own.once not in
+      subst (λ (h : Grain → ℕ). HasMore h (reported w silo) (report_of node range after)) (sym same) (record {
+        grain = next.0.grain;
+        count = next.1.1.0;
+        inside = next.1.0;
+        behind = next.2;
+        firm = ap protocol.firm_count ((node_shown m f w silo node here).host.held next.0.grain) ∙ next.1.1.1;
+      })
+
   pub reports : (letter : Letter) (range : Range) (after : Option Grain) → Moves m w silo
       (answering letter node (Report_letter (report_of node range after)) effect.Report)
   reports letter range from =
@@ -55,4 +68,5 @@ module _ (m : Setting) (f : World) (w : protocol.World) (silo : Silo) (node : No
         version = seen_is m f w silo node here;
         sender = sym (host_is m f w silo node here);
         firm = firm range from;
+        more = more range from;
       }))

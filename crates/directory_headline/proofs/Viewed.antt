@@ -91,7 +91,7 @@ was_absent views next way accepts q none = by (status_at views views.version q) 
     rises = versions_rise views way next accepts
 
     before : status_at next views.version q ≡ status_at views views.version q
-    before = statuses_stay views next way accepts views.version (omega arith) q
+    before = statuses_stay views way next accepts views.version (omega arith) q
 
     by : (o : Option Status) → status_at views views.version q ≡ o → o ≡ None
     by None is = refl

@@ -122,7 +122,15 @@ tells_of hash report grain =
     stands_behind hash (report.range ∷ []) report.after grain
     && (report.last || not (stands_behind hash (report.range ∷ []) (last_grain report.after report.entries) grain))
 
--- a report letter: what is said there of the grains of the range of which it tells is what was firm
+-- another grain of the range, behind the report's last entry, was firm
+pub record HasMore (hash : Grain → ℕ) (told : letters.Report) (report : Report) : Type 0 where
+  pub grain : Grain
+  pub count : ℕ
+  pub inside : holds report.range (hash grain) ≡ true
+  pub behind : stands_behind hash (report.range ∷ []) (last_grain report.after report.entries) grain ≡ true
+  pub firm : told.firm grain ≡ Some count
+
+-- a report letter: what is said there of the grains of the range of which it tells is what was firm, and if it isn't the last there was more
 pub record IsShownReport (hash : Grain → ℕ) (sent : List letters.Report) (report : Report) : Type 0 where
   pub told : letters.Report
   pub was_sent : Sent told sent
@@ -131,6 +139,7 @@ pub record IsShownReport (hash : Grain → ℕ) (sent : List letters.Report) (re
   pub firm :
       (grain : Grain) → holds report.range (hash grain) ≡ true → tells_of hash report grain ≡ true
       → told.firm grain ≡ option_map (λ e. e.activation.count) (entry_at grain (table_of report.entries))
+  pub more : report.last ≡ false → HasMore hash told report
 
 -- whether the silo has told of the grain: it is awaited no more, or the grain doesn't stand behind the one up to which it has told
 abbrev pub has_told : (hash : Grain → ℕ) → Recovery → Silo → Grain → Bool
