@@ -166,7 +166,7 @@ module _ (asked : PageAsked) where
             ≡ cond (first q) (option_map (entry_on silo q) (passing (is_told asked.hashing asked.range) q o)) None
         both_pass q None = by (first q)
           where
-            by : (b : Bool) → None ≡ cond b None None
+            by : (b : Bool) → option_map (entry_on silo q) None ≡ cond b (option_map (entry_on silo q) None) None
             by true = refl
             by false = refl
         both_pass q (Some h) = by (is_told asked.hashing asked.range (q, h)) (first q)

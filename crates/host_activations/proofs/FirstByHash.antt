@@ -2,15 +2,19 @@
 use Rattle.std.proofs.Common.{◌≡◌, ◌⊎◌, inl, inr, refl, sym, ap, subst, ◌∙◌, ℕ, ◌+◌, ◌-◌, ◌<◌, ◌≤◌, List, [], ◌∷◌, ◌++◌, append_assoc, cond, Bool, true, false, ◌&&◌, ◌||◌, filter, length, map, Option, Some, None, is_some, slice_get, arith}
 use Rattle.std.specs.Prelude.{nat_le, nat_lt}
 use Rattle.std.specs.BTreeMap.{is_at}
+use Rattle.std.specs.BTreeMap.Range.{entries_between}
 use Rattle.std.specs.List.{AllByRecursion, IsDistinct}
 use Rattle.std.specs.List.Sorted.{IsStrictlySortedBy}
 use Rattle.std.specs.Map.{lookup, keys_of}
+use Rattle.std.specs.declared.ops.Bound.{Bound}
+use Rattle.std.specs.declared.ops.Bound.TheVariants.{Included}
 use Rattle.std.proofs.lemmas.Bool.{and_parts, cases_lt, lt-ltb, ltb-true}
 use Rattle.std.proofs.lemmas.List.{append-nil, map-append}
 use Rattle.std.proofs.lemmas.List.Elements.{filter-append, filter_map-append}
 use Rattle.std.proofs.lemmas.Option.{none-some, same_Some}
 use Rattle.silo_address.specs.Grain.{Grain, grain_cmp, grain_eq}
 use Rattle.ring_range.specs.Range.{Range, IsRange, circle, holds}
+use Rattle.hash_ring.specs.declared.Hashing.{Hashing}
 use Rattle.hash_ring.specs.Hash.{hash_grain}
 use Rattle.hash_ring.proofs.HashesBelow.{grain_below}
 use Rattle.directory_rules.specs.declared.Held.{Held}
@@ -20,26 +24,27 @@ use Rattle.host_activations.specs.Begun.{AreApart}
 use Rattle.host_activations.specs.ByHash.{AreByHash, IsUnder, hashed_count_cmp}
 use Rattle.host_activations.specs.Firm.{is_told}
 use Rattle.host_activations.specs.Listing.{AddsBetween, AddsFirst, AreFirst, ListsThen, as_listed, asked_for, hashed_below, hashed_between, is_asked_for, is_first, passing, steps_before, steps_of}
-use Rattle.host_activations.specs.Stretch.{standing_at}
+use Rattle.host_activations.specs.Stretch.{end_at, first_at, standing_at}
 use Rattle.host_activations.specs.declared.activations.page.PageAsked.{PageAsked}
 use Rattle.host_activations.specs.declared.by_hash.HashedCount.{HashedCount}
 use Rattle.host_activations.proofs.Circles.{before_low, before_over, between_parts, in_either, in_low, in_over, stands_between}
 use Rattle.host_activations.proofs.Grains.{either, lookup_append}
-use Rattle.host_activations.proofs.Listed.{AreOnce, all_found, all_under, among_all, are_hashes, below_earlier, below_later, both_once, found_under, listed_once, listed_there, stand_once}
+use Rattle.host_activations.proofs.Listed.{AreOnce, all_found, all_under, among_all, are_hashes, below_earlier, below_later, between_are, both_once, each_under, found_under, listed_once, listed_there, stand_once}
 use Rattle.host_activations.proofs.Pages.{and_true, steps_from, told_inside}
 use Rattle.host_activations.proofs.Passing.{passing_found, passing_once}
 
 -- what holds wherever a test passes holds of all that pass it
-each_passed : {X : Type 0} (P : X → Type 0) (test : X → Bool) (xs : List X) → ((x : X) → test x ≡ true → P x)
-    → AllByRecursion P (filter test xs)
+each_passed : (P : HashedCount × ℕ → Type 0) (test : HashedCount × ℕ → Bool) (xs : List (HashedCount × ℕ))
+    → ((x : HashedCount × ℕ) → test x ≡ true → P x) → AllByRecursion P (filter test xs)
 each_passed P test [] so = tt
-each_passed {X} P test (x ∷ xs) so = by (test x) refl (each_passed P test xs so)
+each_passed P test (x ∷ xs) so = by (test x) refl (each_passed P test xs so)
   where
     by : (b : Bool) → test x ≡ b → AllByRecursion P (filter test xs) → AllByRecursion P (cond b (x ∷ filter test xs) (filter test xs))
     by true passes rest = (so x passes, rest)
     by false fails rest = rest
 
-all_both : {X : Type 0} (P : X → Type 0) (xs ys : List X) → AllByRecursion P xs → AllByRecursion P ys → AllByRecursion P (xs ++ ys)
+all_both : (P : HashedCount × ℕ → Type 0) (xs ys : List (HashedCount × ℕ)) → AllByRecursion P xs → AllByRecursion P ys
+    → AllByRecursion P (xs ++ ys)
 all_both P [] ys all also = also
 all_both P (x ∷ xs) ys all also = (all.0, all_both P xs ys all.1 also)
 
@@ -51,7 +56,7 @@ one_of None p false b some first second = second some
 
 pub standing_append : (es : List (Grain × Held)) (xs ys : List (HashedCount × ℕ))
     → standing_at es (xs ++ ys) ≡ standing_at es xs ++ standing_at es ys
-standing_append es xs ys = filter_map-append (λ x. slice_get es x.1) xs ys
+standing_append es xs ys = filter_map-append (λ (x : HashedCount × ℕ). slice_get es x.1) xs ys
 
 -- what is asked for of two lists, one behind the other
 pub asked_append : (asked : PageAsked) (es fs : List (Grain × Held)) → asked_for asked es ++ asked_for asked fs ≡ asked_for asked (es ++ fs)
@@ -278,6 +283,15 @@ module _ (asked : PageAsked) (is_range : IsRange asked.range) (es : List (Grain 
             ∙ (λ i. asked_for asked (standing_at es (between (first_is i) (to_circle i))))
 
 -- ---- What a call lists of a stretch.
+-- what stands between the bounds of a stretch
+pub stretch_is : (hashing : Hashing) (es : List (Grain × Held)) (hashed : List (HashedCount × ℕ)) → AreByHash hashing es hashed
+    → IsStrictlySortedBy hashed_count_cmp (keys_of hashed) → (first end : ℕ) → end ≤ circle → (start : HashedCount) (bound : Bound HashedCount)
+    → start ≡ first_at first → bound ≡ end_at end → (stretch : List (HashedCount × ℕ))
+    → stretch ≡ entries_between hashed_count_cmp (Included start) bound hashed → stretch ≡ hashed_between first end hashed
+stretch_is hashing es hashed by_hash sorted first end within start bound start_is bound_is stretch is =
+    is ∙ (λ i. entries_between hashed_count_cmp (Included (start_is i)) (bound_is i) hashed)
+    ∙ between_are first end within hashed (are_hashes hashing es hashed (each_under hashing es hashed by_hash sorted))
+
 pub adds_between : (asked : PageAsked) (es : List (Grain × Held)) (hashed stretch : List (HashedCount × ℕ)) (first end : ℕ)
     → stretch ≡ hashed_between first end hashed → (before new : List (ℕ × Grain × ℕ)) → AddsFirst asked es stretch before new
     → AddsBetween asked es hashed first end before new

@@ -68,7 +68,8 @@ passed_alike : {X : Type 0} (p q : X → Bool) (xs : List X) → AllByRecursion 
 passed_alike p q [] all = refl
 passed_alike p q (x ∷ xs) all = λ i. cond (all.0 i) (x ∷ passed_alike p q xs all.1 i) (passed_alike p q xs all.1 i)
 
-each_weaker : {X : Type 0} (P Q : X → Type 0) (xs : List X) → ((x : X) → P x → Q x) → AllByRecursion P xs → AllByRecursion Q xs
+each_weaker : (P Q : HashedCount × ℕ → Type 0) (xs : List (HashedCount × ℕ)) → ((x : HashedCount × ℕ) → P x → Q x)
+    → AllByRecursion P xs → AllByRecursion Q xs
 each_weaker P Q [] so all = tt
 each_weaker P Q (x ∷ xs) so all = (so x all.0, each_weaker P Q xs so all.1)
 
@@ -86,8 +87,8 @@ between_test first end hash within below = ap (λ b. nat_le first hash && b) upt
 pub between_are : (first end : ℕ) → end ≤ circle → (hashed : List (HashedCount × ℕ)) → AreHashes hashed
     → entries_between hashed_count_cmp (Included (first_at first)) (end_at end) hashed ≡ hashed_between first end hashed
 between_are first end within hashed below =
-    passed_alike (λ x. range_contains hashed_count_cmp (Included (first_at first)) (end_at end) x.0)
-    (λ x. nat_le first x.0.hash && nat_lt x.0.hash end) hashed
+    passed_alike (λ (x : HashedCount × ℕ). range_contains hashed_count_cmp (Included (first_at first)) (end_at end) x.0)
+    (λ (x : HashedCount × ℕ). nat_le first x.0.hash && nat_lt x.0.hash end) hashed
     (each_weaker (λ x. x.0.hash < circle)
     (λ x. range_contains hashed_count_cmp (Included (first_at first)) (end_at end) x.0 ≡ (nat_le first x.0.hash && nat_lt x.0.hash end)) hashed
     (λ x less. contains_between first end x.0 ∙ between_test first end x.0.hash within less) below)
@@ -112,9 +113,9 @@ pub below_earlier : (first end bound : ℕ) → bound ≤ end → (hashed : List
     → hashed_below bound (hashed_between first end hashed) ≡ hashed_between first bound hashed
 below_earlier first end bound less hashed =
     below_twice first end bound hashed
-    ∙ same_passed (λ x. (nat_le first x.0.hash && nat_lt x.0.hash end) && nat_lt x.0.hash bound)
-    (λ x. nat_le first x.0.hash && nat_lt x.0.hash bound) hashed
-    (λ x. tests (nat_le first x.0.hash) x.0.hash)
+    ∙ same_passed (λ (x : HashedCount × ℕ). (nat_le first x.0.hash && nat_lt x.0.hash end) && nat_lt x.0.hash bound)
+    (λ (x : HashedCount × ℕ). nat_le first x.0.hash && nat_lt x.0.hash bound) hashed
+    (λ (x : HashedCount × ℕ). tests (nat_le first x.0.hash) x.0.hash)
   where
     tests : (b : Bool) (hash : ℕ) → ((b && nat_lt hash end) && nat_lt hash bound) ≡ (b && nat_lt hash bound)
     tests true hash = grind (arith, nat_tests)
@@ -124,9 +125,9 @@ pub below_later : (first end bound : ℕ) → end ≤ bound → (hashed : List (
     → hashed_below bound (hashed_between first end hashed) ≡ hashed_between first end hashed
 below_later first end bound more hashed =
     below_twice first end bound hashed
-    ∙ same_passed (λ x. (nat_le first x.0.hash && nat_lt x.0.hash end) && nat_lt x.0.hash bound)
-    (λ x. nat_le first x.0.hash && nat_lt x.0.hash end) hashed
-    (λ x. tests (nat_le first x.0.hash) x.0.hash)
+    ∙ same_passed (λ (x : HashedCount × ℕ). (nat_le first x.0.hash && nat_lt x.0.hash end) && nat_lt x.0.hash bound)
+    (λ (x : HashedCount × ℕ). nat_le first x.0.hash && nat_lt x.0.hash end) hashed
+    (λ (x : HashedCount × ℕ). tests (nat_le first x.0.hash) x.0.hash)
   where
     tests : (b : Bool) (hash : ℕ) → ((b && nat_lt hash end) && nat_lt hash bound) ≡ (b && nat_lt hash end)
     tests true hash = grind (arith, nat_tests)
@@ -146,14 +147,16 @@ module _ (hashing : Hashing) (es : List (Grain × Held)) where
       by true rest = (all.0, rest)
       by false rest = rest
 
-  pub all_under : (p : HashedCount × ℕ → Bool) (hashed : List (HashedCount × ℕ)) → AreByHash hashing es hashed
-      → IsStrictlySortedBy hashed_count_cmp (keys_of hashed)
-      → AllByRecursion (IsUnder hashing es) (filter p hashed)
-  all_under p hashed are sorted =
-      all_passed (IsUnder hashing es) p hashed
-      (from_each (IsUnder hashing es) hashed
+  pub each_under : (hashed : List (HashedCount × ℕ)) → AreByHash hashing es hashed → IsStrictlySortedBy hashed_count_cmp (keys_of hashed)
+      → AllByRecursion (IsUnder hashing es) hashed
+  each_under hashed are sorted =
+      from_each (IsUnder hashing es) hashed
       (λ i x at. (are x.0 x.1).0 (lookup_from_place (eq_by_cmp_equiv hashed_count_cmp_total) hashed i x.0 x.1
-      (IsDistinct-from_sorted hashed_count_cmp (keys_of hashed) sorted) at)))
+      (IsDistinct-from_sorted hashed_count_cmp (keys_of hashed) sorted) at))
+
+  pub all_under : (p : HashedCount × ℕ → Bool) (hashed : List (HashedCount × ℕ)) → AreByHash hashing es hashed
+      → IsStrictlySortedBy hashed_count_cmp (keys_of hashed) → AllByRecursion (IsUnder hashing es) (filter p hashed)
+  all_under p hashed are sorted = all_passed (IsUnder hashing es) p hashed (each_under hashed are sorted)
 
   pub all_found : IsDistinct grain_eq (keys_of es) → (listed : List (HashedCount × ℕ))
       → AllByRecursion (IsFoundIn es) (standing_at es listed)

@@ -140,7 +140,7 @@ module _ (asked : PageAsked) where
   begins : (bound : ℕ) (after : Option Grain) (es : List Entry) → rise after es ≡ true
       → filter (is_before bound) es ++ filter (λ e. not (is_before bound e)) es ≡ es
   begins bound after [] rises = refl
-  begins bound after (e ∷ es) rises = by (is_before bound e) refl
+  begins bound after (e ∷ es) rises = by (is_before bound e) refl (begins bound (Some e.grain) es so.1)
     where
       so : (behind after e.grain ≡ true) × (rise (Some e.grain) es ≡ true)
       so = rise_parts (hash_grain asked.hashing) (asked.range ∷ []) after e es rises
@@ -153,15 +153,15 @@ module _ (asked : PageAsked) where
           le-ltb (steps_of asked x.grain) bound (omega (arith, more, past))) es
           (all_behind (hash_grain asked.hashing) (asked.range ∷ []) (Some e.grain) es so.1)
 
-      by : (b : Bool) → is_before bound e ≡ b
+      by : (b : Bool) → is_before bound e ≡ b → filter (is_before bound) es ++ filter (λ x. not (is_before bound x)) es ≡ es
           → cond b (e ∷ filter (is_before bound) es) (filter (is_before bound) es)
           ++ cond (not b) (e ∷ filter (λ x. not (is_before bound x)) es) (filter (λ x. not (is_before bound x)) es) ≡ e ∷ es
-      by true is = ap (λ l. e ∷ l) (begins bound (Some e.grain) es so.1)
-      by false is =
+      by true is rest = ap (λ l. e ∷ l) rest
+      by false is rest =
           ap (λ l. l ++ e ∷ filter (λ x. not (is_before bound x)) es) (filter_none (is_before bound) es (none is))
           ∙ ap (λ l. e ∷ l)
           (filter_all (λ x. not (is_before bound x)) es
-          (All-weaker (λ (x : Entry). is_before bound x ≡ false) (λ (x : Entry). not (is_before bound x) ≡ true) (λ x no. ap not no) es
+          (All-weaker (λ (x : Entry). is_before bound x ≡ false) (λ (x : Entry). not (is_before bound x) ≡ true) (λ x later. ap not later) es
           (none is)))
 
   -- ---- A page of them is a page of all.
@@ -181,7 +181,7 @@ module _ (asked : PageAsked) where
         (put_sorted (hash_grain asked.hashing) (asked.range ∷ [])
         (map (λ e. entry_on silo e.0 e.1) (filter (is_told asked.hashing asked.range) es)) []
         (sorted-nil (standing_cmp (hash_grain asked.hashing) (asked.range ∷ []))))
-        (All-from_recursion (λ e. e.0 ≡ e.1.grain)
+        (All-from_recursion (λ (e : Grain × Entry). e.0 ≡ e.1.grain)
         (put_as_they_stand (hash_grain asked.hashing) (asked.range ∷ []) []
         (map (λ e. entry_on silo e.0 e.1) (filter (is_told asked.hashing asked.range) es)))
         (own_all (hash_grain asked.hashing) (asked.range ∷ [])
@@ -209,7 +209,7 @@ module _ (asked : PageAsked) where
           (λ e. is_told asked.hashing asked.range e && (behind asked.after e.0 && nat_lt (steps_of asked e.0) first.bound))
           (λ e. and_again (is_told asked.hashing asked.range e) (behind asked.after e.0) (nat_lt (steps_of asked e.0) first.bound)) q
           (lookup (is_at (grain_cmp q)) es))
-          ∙ filter_both (λ e. behind asked.after e.grain) (is_before first.bound) told
+          ∙ filter_both (λ (e : Entry). behind asked.after e.grain) (is_before first.bound) told
 
       length_listed : length listed ≡ length firm
       length_listed = length-map sorted (entry_listed silo) ∙ length_permutation firm sorted moved

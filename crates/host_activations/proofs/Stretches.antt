@@ -81,9 +81,9 @@ module _ (asked : PageAsked) (es : List (Grain × Held)) (stretch : List (Hashed
 
     -- those passed are no higher than it
     upto_key : (o : Option ℕ) → IsUpTo so.passed left o → AllByRecursion (λ x. x.0.hash ≤ key.hash) so.passed
-    upto_key None none = subst (AllByRecursion (λ x. x.0.hash ≤ key.hash)) (sym none) tt
+    upto_key None none = subst (AllByRecursion (λ (x : HashedCount × ℕ). x.0.hash ≤ key.hash)) (sym none) tt
     upto_key (Some hash) so_far =
-        let ahead = subst (AllByRecursion (λ y. hash ≤ y.0.hash)) first so_far.1 in
+        let ahead = subst (AllByRecursion (λ (y : HashedCount × ℕ). hash ≤ y.0.hash)) first so_far.1 in
         let up : hash ≤ key.hash = ahead.0 in
         each_so (λ x. x.0.hash ≤ hash) (λ x. x.0.hash ≤ key.hash) so.passed (λ x le. omega (arith, le, up)) so_far.0
 
@@ -123,9 +123,9 @@ module _ (asked : PageAsked) (es : List (Grain × Held)) (stretch : List (Hashed
 
     -- ---- The list ends before a hash other than the last.
     below_key : (o : Option ℕ) → IsUpTo so.passed left o → (o ≡ Some key.hash → ⊥) → AllByRecursion (λ x. nat_lt x.0.hash key.hash ≡ true) so.passed
-    below_key None none other = subst (AllByRecursion (λ x. nat_lt x.0.hash key.hash ≡ true)) (sym none) tt
+    below_key None none other = subst (AllByRecursion (λ (x : HashedCount × ℕ). nat_lt x.0.hash key.hash ≡ true)) (sym none) tt
     below_key (Some hash) so_far other =
-        let ahead = subst (AllByRecursion (λ y. hash ≤ y.0.hash)) first so_far.1 in
+        let ahead = subst (AllByRecursion (λ (y : HashedCount × ℕ). hash ≤ y.0.hash)) first so_far.1 in
         let up : hash ≤ key.hash = ahead.0 in
         let apart : hash ≢ key.hash = λ same. other (ap (λ (n : ℕ). Some n) same) in
         each_so (λ x. x.0.hash ≤ hash) (λ x. nat_lt x.0.hash key.hash ≡ true) so.passed
@@ -145,7 +145,7 @@ module _ (asked : PageAsked) (es : List (Grain × Held)) (stretch : List (Hashed
     passed_are : (last ≡ Some key.hash → ⊥) → hashed_below key.hash stretch ≡ so.passed
     passed_are other =
         ap (hashed_below key.hash) (sym so.whole)
-        ∙ filter-append (λ x. nat_lt x.0.hash key.hash) so.passed left
+        ∙ filter-append (λ (x : HashedCount × ℕ). nat_lt x.0.hash key.hash) so.passed left
         ∙ ap (λ l. hashed_below key.hash so.passed ++ l)
         (ap (hashed_below key.hash) first ∙ none_kept ((key, index) ∷ rest) (omega arith, rises.0))
         ∙ append-nil (hashed_below key.hash so.passed)
