@@ -187,7 +187,8 @@ module _ (asked : PageAsked) where
             ∙ ap (λ o. cond (first q) o None)
             (sym (found_standing (hash_grain asked.hashing) (asked.range ∷ []) silo (is_told asked.hashing asked.range) q es es_apart))
             ∙ sym (lookup-filter-keys (is_at (order q)) first (first q)
-            (λ k at. ap first (sym (standing_exact (hash_grain asked.hashing) (asked.range ∷ []) q k (Equal-from (order q k) at)))) standing)
+            (λ k at. ap first (sym (standing_exact (hash_grain asked.hashing) (asked.range ∷ []) q k (Equal-from (order q k) at))))
+            standing)
 
         standing_sorted : IsStrictlySortedBy order (keys_of (filter (λ e. first e.0) standing))
         standing_sorted =

@@ -16,7 +16,8 @@ between_parts first bound hash is =
     (leb-true first hash both.0, ltb-true hash bound both.1)
 
 between_from : (first bound hash : ℕ) → first ≤ hash → hash < bound → stands_between first bound hash ≡ true
-between_from first bound hash from below = and_from (nat_le first hash) (nat_lt hash bound) (le-leb first hash from) (lt-ltb hash bound below)
+between_from first bound hash from below =
+    and_from (nat_le first hash) (nat_lt hash bound) (le-leb first hash from) (lt-ltb hash bound below)
 
 -- a hash comes so many steps after the start, or it comes behind 0
 distance_is : (start hash : ℕ) → start < circle
@@ -68,8 +69,8 @@ module _ (range : Range) (is : IsRange range) where
       ]
 
   -- ---- And what comes in so few steps stands there.
-  module _ (hash : ℕ) (hash_below : hash < circle) (inside : holds range hash ≡ true) (from : ℕ) (reached : from ≤ steps_to (range ∷ []) hash)
-      where
+  module _ (hash : ℕ) (hash_below : hash < circle) (inside : holds range hash ≡ true) (from : ℕ)
+      (reached : from ≤ steps_to (range ∷ []) hash) where
     its : steps_to (range ∷ []) hash ≡ distance range.start hash
     its = steps_are hash (ltb-true (distance range.start hash) range.size inside)
 
@@ -96,7 +97,8 @@ module _ (range : Range) (is : IsRange range) where
               absurd (omega (arith, so, its, reached, past, hash_below))
           | inr over ↦
               let so : distance range.start hash + range.start ≡ hash + circle = over.1 in
-              between_from ((range.start + from) - circle) bound hash (omega (arith, so, its, reached)) (omega (arith, so, its, short, start_below))
+              between_from ((range.start + from) - circle) bound hash (omega (arith, so, its, reached))
+              (omega (arith, so, its, short, start_below))
         ]
 
     pub in_either : (bound : ℕ) → steps_to (range ∷ []) hash < (bound + circle) - range.start

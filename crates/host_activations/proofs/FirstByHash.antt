@@ -64,7 +64,8 @@ asked_append asked es fs =
     sym (map-append (as_listed asked) (filter (is_asked_for asked) es) (filter (is_asked_for asked) fs))
     ∙ ap (map (as_listed asked)) (sym (filter-append (is_asked_for asked) es fs))
 
-module _ (asked : PageAsked) (is_range : IsRange asked.range) (es : List (Grain × Held)) (are : AreApart es) (hashed : List (HashedCount × ℕ))
+module _ (asked : PageAsked) (is_range : IsRange asked.range) (es : List (Grain × Held)) (are : AreApart es)
+    (hashed : List (HashedCount × ℕ))
     (by_hash : AreByHash asked.hashing es hashed) (sorted : IsStrictlySortedBy hashed_count_cmp (keys_of hashed)) where
   abbrev at : Grain → List (Grain × Held) → Option Held
   at q held = lookup (is_at (grain_cmp q)) held
@@ -124,12 +125,14 @@ module _ (asked : PageAsked) (is_range : IsRange asked.range) (es : List (Grain 
   inside : (q : Grain) (h : Held) → is_asked_for asked (q, h) ≡ true → holds asked.range (hash_grain asked.hashing q) ≡ true
   inside q h is =
       told_inside asked (q, h)
-      (and_parts (is_told asked.hashing asked.range (q, h)) (stands_behind (hash_grain asked.hashing) (asked.range ∷ []) asked.after q) is).0
+      (and_parts (is_told asked.hashing asked.range (q, h)) (stands_behind (hash_grain asked.hashing) (asked.range ∷ []) asked.after q)
+      is).0
 
   reached : (q : Grain) (h : Held) → is_asked_for asked (q, h) ≡ true → steps_before asked asked.after ≤ steps_of asked q
   reached q h is =
       steps_from asked asked.after q
-      (and_parts (is_told asked.hashing asked.range (q, h)) (stands_behind (hash_grain asked.hashing) (asked.range ∷ []) asked.after q) is).1
+      (and_parts (is_told asked.hashing asked.range (q, h)) (stands_behind (hash_grain asked.hashing) (asked.range ∷ []) asked.after q)
+      is).1
 
   abbrev start : ℕ
   start = asked.range.start
@@ -182,7 +185,8 @@ module _ (asked : PageAsked) (is_range : IsRange asked.range) (es : List (Grain 
         (between_under 0 bound);
     once =
         both_once (between (start + from) circle) (between 0 bound) (between_once (start + from) circle) (between_once 0 bound)
-        (each_passed (λ x. AllByRecursion (λ y. x.0 ≡ y.0 → ⊥) (between 0 bound)) (λ x. stands_between (start + from) circle x.0.hash) hashed
+        (each_passed (λ x. AllByRecursion (λ y. x.0 ≡ y.0 → ⊥) (between 0 bound)) (λ x. stands_between (start + from) circle x.0.hash)
+        hashed
         (λ x high. each_passed (λ y. x.0 ≡ y.0 → ⊥) (λ y. stands_between 0 bound y.0.hash) hashed
         (λ y low same. apart x.0.hash y.0.hash high low (ap (λ (k : HashedCount). k.hash) same))));
     before =
@@ -195,10 +199,12 @@ module _ (asked : PageAsked) (is_range : IsRange asked.range) (es : List (Grain 
         (λ x stands. before_over asked.range is_range 0 bound x.0.hash within stands));
     there =
         λ q h found is short. ap (λ l. is_some (at q l)) (standing_append es (between (start + from) circle) (between 0 bound))
-        ∙ ap is_some (lookup_append (is_at (grain_cmp q)) (standing_at es (between (start + from) circle)) (standing_at es (between 0 bound)))
+        ∙ ap is_some (lookup_append (is_at (grain_cmp q)) (standing_at es (between (start + from) circle))
+        (standing_at es (between 0 bound)))
         ∙ one_of (at q (standing_at es (between (start + from) circle))) (at q (standing_at es (between 0 bound)))
         (stands_between (start + from) circle (hash_grain asked.hashing q)) (stands_between 0 bound (hash_grain asked.hashing q))
-        (in_either asked.range is_range (hash_grain asked.hashing q) (grain_below asked.hashing q) (inside q h is) from (reached q h is) bound
+        (in_either asked.range is_range (hash_grain asked.hashing q) (grain_below asked.hashing q) (inside q h is) from (reached q h is)
+        bound
         short)
         (listed_there asked.hashing es (stands_between (start + from) circle) hashed by_hash q h found)
         (listed_there asked.hashing es (stands_between 0 bound) hashed by_hash q h found);
@@ -285,7 +291,8 @@ module _ (asked : PageAsked) (is_range : IsRange asked.range) (es : List (Grain 
 -- ---- What a call lists of a stretch.
 -- what stands between the bounds of a stretch
 pub stretch_is : (hashing : Hashing) (es : List (Grain × Held)) (hashed : List (HashedCount × ℕ)) → AreByHash hashing es hashed
-    → IsStrictlySortedBy hashed_count_cmp (keys_of hashed) → (first end : ℕ) → end ≤ circle → (start : HashedCount) (bound : Bound HashedCount)
+    → IsStrictlySortedBy hashed_count_cmp (keys_of hashed) → (first end : ℕ) → end ≤ circle
+    → (start : HashedCount) (bound : Bound HashedCount)
     → start ≡ first_at first → bound ≡ end_at end → (stretch : List (HashedCount × ℕ))
     → stretch ≡ entries_between hashed_count_cmp (Included start) bound hashed → stretch ≡ hashed_between first end hashed
 stretch_is hashing es hashed by_hash sorted first end within start bound start_is bound_is stretch is =
@@ -298,11 +305,11 @@ pub adds_between : (asked : PageAsked) (es : List (Grain × Held)) (hashed stret
 adds_between asked es hashed stretch first end stretch_is before new adds =
     elim adds [
       | inl whole ↦ record {
-          bound = end;
-          within = omega arith;
-          listed = whole ∙ ap (λ l. before ++ asked_for asked (standing_at es l)) stretch_is;
-          enough = inr refl;
-        }
+        bound = end;
+        within = omega arith;
+        listed = whole ∙ ap (λ l. before ++ asked_for asked (standing_at es l)) stretch_is;
+        enough = inr refl;
+      }
       | inr page ↦ cut page.0 page.1 page.2
     ]
   where
@@ -311,19 +318,19 @@ adds_between asked es hashed stretch first end stretch_is before new adds =
     cut bound more listed =
         elim (cases_lt end bound) [
           | inl past ↦ record {
-              bound = end;
-              within = omega arith;
-              listed =
-                  listed ∙ ap (λ l. before ++ asked_for asked (standing_at es l))
-                  (ap (hashed_below bound) stretch_is ∙ below_later first end bound (omega (arith, past)) hashed);
-              enough = inl more;
-            }
+            bound = end;
+            within = omega arith;
+            listed =
+                listed ∙ ap (λ l. before ++ asked_for asked (standing_at es l))
+                (ap (hashed_below bound) stretch_is ∙ below_later first end bound (omega (arith, past)) hashed);
+            enough = inl more;
+          }
           | inr up ↦ record {
-              bound = bound;
-              within = up;
-              listed =
-                  listed ∙ ap (λ l. before ++ asked_for asked (standing_at es l))
-                  (ap (hashed_below bound) stretch_is ∙ below_earlier first end bound up hashed);
-              enough = inl more;
-            }
+            bound = bound;
+            within = up;
+            listed =
+                listed ∙ ap (λ l. before ++ asked_for asked (standing_at es l))
+                (ap (hashed_below bound) stretch_is ∙ below_earlier first end bound up hashed);
+            enough = inl more;
+          }
         ]

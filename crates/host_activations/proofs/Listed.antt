@@ -90,22 +90,23 @@ between_are first end within hashed below =
     passed_alike (λ (x : HashedCount × ℕ). range_contains hashed_count_cmp (Included (first_at first)) (end_at end) x.0)
     (λ (x : HashedCount × ℕ). nat_le first x.0.hash && nat_lt x.0.hash end) hashed
     (each_weaker (λ x. x.0.hash < circle)
-    (λ x. range_contains hashed_count_cmp (Included (first_at first)) (end_at end) x.0 ≡ (nat_le first x.0.hash && nat_lt x.0.hash end)) hashed
+    (λ x. range_contains hashed_count_cmp (Included (first_at first)) (end_at end) x.0 ≡ (nat_le first x.0.hash && nat_lt x.0.hash end))
+    hashed
     (λ x less. contains_between first end x.0 ∙ between_test first end x.0.hash within less) below)
 
 -- those below a bound of those up to an end
+abbrev is_below : (first end bound hash : ℕ) → Bool
+is_below first end bound hash = (nat_le first hash && nat_lt hash end) && nat_lt hash bound
+
 below_twice : (first end bound : ℕ) (hashed : List (HashedCount × ℕ))
-    → hashed_below bound (hashed_between first end hashed) ≡ filter (λ x. (nat_le first x.0.hash && nat_lt x.0.hash end) && nat_lt x.0.hash bound)
-    hashed
+    → hashed_below bound (hashed_between first end hashed) ≡ filter (λ x. is_below first end bound x.0.hash) hashed
 below_twice first end bound [] = refl
 below_twice first end bound (x ∷ xs) = by (nat_le first x.0.hash && nat_lt x.0.hash end) (below_twice first end bound xs)
   where
-    abbrev both : HashedCount × ℕ → Bool
-    both x = (nat_le first x.0.hash && nat_lt x.0.hash end) && nat_lt x.0.hash bound
-
-    by : (b : Bool) → hashed_below bound (hashed_between first end xs) ≡ filter both xs
+    by : (b : Bool) → hashed_below bound (hashed_between first end xs) ≡ filter (λ x. is_below first end bound x.0.hash) xs
         → hashed_below bound (cond b (x ∷ hashed_between first end xs) (hashed_between first end xs))
-        ≡ cond (b && nat_lt x.0.hash bound) (x ∷ filter both xs) (filter both xs)
+        ≡ cond (b && nat_lt x.0.hash bound) (x ∷ filter (λ x. is_below first end bound x.0.hash) xs)
+        (filter (λ x. is_below first end bound x.0.hash) xs)
     by true rest = ap (λ l. cond (nat_lt x.0.hash bound) (x ∷ l) l) rest
     by false rest = rest
 
@@ -113,7 +114,7 @@ pub below_earlier : (first end bound : ℕ) → bound ≤ end → (hashed : List
     → hashed_below bound (hashed_between first end hashed) ≡ hashed_between first bound hashed
 below_earlier first end bound less hashed =
     below_twice first end bound hashed
-    ∙ same_passed (λ (x : HashedCount × ℕ). (nat_le first x.0.hash && nat_lt x.0.hash end) && nat_lt x.0.hash bound)
+    ∙ same_passed (λ (x : HashedCount × ℕ). is_below first end bound x.0.hash)
     (λ (x : HashedCount × ℕ). nat_le first x.0.hash && nat_lt x.0.hash bound) hashed
     (λ (x : HashedCount × ℕ). tests (nat_le first x.0.hash) x.0.hash)
   where
@@ -125,7 +126,7 @@ pub below_later : (first end bound : ℕ) → end ≤ bound → (hashed : List (
     → hashed_below bound (hashed_between first end hashed) ≡ hashed_between first end hashed
 below_later first end bound more hashed =
     below_twice first end bound hashed
-    ∙ same_passed (λ (x : HashedCount × ℕ). (nat_le first x.0.hash && nat_lt x.0.hash end) && nat_lt x.0.hash bound)
+    ∙ same_passed (λ (x : HashedCount × ℕ). is_below first end bound x.0.hash)
     (λ (x : HashedCount × ℕ). nat_le first x.0.hash && nat_lt x.0.hash end) hashed
     (λ (x : HashedCount × ℕ). tests (nat_le first x.0.hash) x.0.hash)
   where

@@ -75,8 +75,10 @@ module _ (asked : PageAsked) where
     where
       by : (r : Ordering) → r ≡ nat_cmp (steps_of asked a) (steps_of asked b) → is_lt (ordering_then r (grain_cmp a b)) ≡ true
           → steps_of asked a ≤ steps_of asked b
-      by Less ranks is = let below : steps_of asked a < steps_of asked b = ranked (steps_of asked a) (steps_of asked b) Less ranks in omega (arith, below)
-      by Equal ranks is = let same : steps_of asked a ≡ steps_of asked b = ranked (steps_of asked a) (steps_of asked b) Equal ranks in omega (arith, same)
+      by Less ranks is =
+          let below : steps_of asked a < steps_of asked b = ranked (steps_of asked a) (steps_of asked b) Less ranks in omega (arith, below)
+      by Equal ranks is =
+          let same : steps_of asked a ≡ steps_of asked b = ranked (steps_of asked a) (steps_of asked b) Equal ranks in omega (arith, same)
       by Greater ranks is = cc
 
   pub steps_from : (after : Option Grain) (grain : Grain) → stands_behind (hash_grain asked.hashing) (asked.range ∷ []) after grain ≡ true
@@ -161,7 +163,8 @@ module _ (asked : PageAsked) where
           ap (λ l. l ++ e ∷ filter (λ x. not (is_before bound x)) es) (filter_none (is_before bound) es (none is))
           ∙ ap (λ l. e ∷ l)
           (filter_all (λ x. not (is_before bound x)) es
-          (All-weaker (λ (x : Entry). is_before bound x ≡ false) (λ (x : Entry). not (is_before bound x) ≡ true) (λ x later. ap not later) es
+          (All-weaker (λ (x : Entry). is_before bound x ≡ false) (λ (x : Entry). not (is_before bound x) ≡ true) (λ x later. ap not later)
+          es
           (none is)))
 
   -- ---- A page of them is a page of all.

@@ -122,7 +122,8 @@ module _ (asked : PageAsked) (es : List (Grain × Held)) (stretch : List (Hashed
         one_listed firm (sym (append-nil firm) ∙ ap (λ o. firm ++ asked_for asked (cons_option o [])) (sym none))
 
     -- ---- The list ends before a hash other than the last.
-    below_key : (o : Option ℕ) → IsUpTo so.passed left o → (o ≡ Some key.hash → ⊥) → AllByRecursion (λ x. nat_lt x.0.hash key.hash ≡ true) so.passed
+    below_key : (o : Option ℕ) → IsUpTo so.passed left o → (o ≡ Some key.hash → ⊥)
+        → AllByRecursion (λ x. nat_lt x.0.hash key.hash ≡ true) so.passed
     below_key None none other = subst (AllByRecursion (λ (x : HashedCount × ℕ). nat_lt x.0.hash key.hash ≡ true)) (sym none) tt
     below_key (Some hash) so_far other =
         let ahead = subst (AllByRecursion (λ (y : HashedCount × ℕ). hash ≤ y.0.hash)) first so_far.1 in
@@ -160,4 +161,5 @@ module _ (asked : PageAsked) (es : List (Grain × Held)) (stretch : List (Hashed
       → AreListed asked es stretch before left last firm → AddsFirst asked es stretch before firm
   all_listed left none last firm so =
       inl (so.listed
-      ∙ ap (λ l. before ++ asked_for asked (standing_at es l)) (sym (append-nil so.passed) ∙ ap (λ l. so.passed ++ l) (sym none) ∙ so.whole))
+      ∙ ap (λ l. before ++ asked_for asked (standing_at es l))
+      (sym (append-nil so.passed) ∙ ap (λ l. so.passed ++ l) (sym none) ∙ so.whole))

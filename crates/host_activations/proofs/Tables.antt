@@ -57,7 +57,8 @@ module _ (hash : Grain → ℕ) (ranges : List Range) where
         ∙ ap (λ b. cond b (Some (entry_on silo e.0 e.1)) (lookup (is_at (order q)) table)) (at_alike q e.0))
         ∙ on_grain (λ b. either (option_map (entry_on silo q) (lookup (is_at (grain_cmp q)) es))
         (cond b (Some (entry_on silo e.0 e.1)) (lookup (is_at (order q)) table))
-        ≡ either (option_map (entry_on silo q) (cond b (Some e.1) (lookup (is_at (grain_cmp q)) es))) (lookup (is_at (order q)) table)) q e.0
+        ≡ either (option_map (entry_on silo q) (cond b (Some e.1) (lookup (is_at (grain_cmp q)) es))) (lookup (is_at (order q)) table)) q
+        e.0
         (λ same. ap (λ o. either (option_map (entry_on silo q) o) (Some (entry_on silo e.0 e.1))) (gone_behind q e es apart same)
         ∙ ap (λ (g : Grain). Some (entry_on silo g e.1)) (sym same))
         (λ other. refl)

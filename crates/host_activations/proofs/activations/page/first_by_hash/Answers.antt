@@ -10,7 +10,15 @@ returns-then-CIRCLE-le-first c =
     c.requires.by_hash c.list_between.ensures.ordered (c.from.result + c.first_step.result) (c.from-2.result + c.size.result)
     (omega (arith, c.from.ensures, c.start.ensures, c.first_step.ensures.value))
     (omega (arith, c.from-2.ensures, c.start-2.ensures, c.size.ensures.value)) c.new-firm.result.items new.items c.new-firm.ensures.items
-    (omega arith) (omega (arith, c.from.ensures, c.start.ensures, c.from-2.ensures, c.start-2.ensures, c.first_step.ensures.within, c.size.ensures.value)) adds)
+    (omega arith) (omega (
+      arith,
+      c.from.ensures,
+      c.start.ensures,
+      c.from-2.ensures,
+      c.start-2.ensures,
+      c.first_step.ensures.within,
+      c.size.ensures.value,
+    )) adds)
     c.list_between.ensures.added
 
 pub returns-then-end-le-CIRCLE : goal.returns-then-end-le-CIRCLE
