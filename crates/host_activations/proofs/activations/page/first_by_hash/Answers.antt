@@ -31,8 +31,8 @@ returns-then-end-le-CIRCLE c =
     (omega arith) adds)
     c.list_between-2.ensures.added
 
-pub returns-then-most-lt-len : goal.returns-then-most-lt-len
-returns-then-most-lt-len c =
+pub returns-then-asked-len : goal.returns-then-asked-len
+returns-then-asked-len c =
     by_first_stretch c.args.asked.now c.in_range.ensures c.args.held.now c.requires.apart c.args.by_hash.now.entries
     c.requires.by_hash c.in_ok-firm.ensures.ordered (c.from.result + c.first_step.result) (c.from-2.result + c.size.result)
     (omega (arith, c.from.ensures, c.start.ensures, c.first_step.ensures.value))
