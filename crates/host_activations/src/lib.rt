@@ -13,4 +13,4 @@ mod under_way;
 
 pub use activations::{Activations, FirmPage, PageAsked, entry_on};
 pub use host::{Host, Renewal};
-pub use standing::{stands_behind, steps_to};
+pub use standing::stands_behind;

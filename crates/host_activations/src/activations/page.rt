@@ -1,15 +1,20 @@
 //! The firm activations, as entries, page by page.
 ghost use Rattle.std.specs.List.{AllByRecursion};
-ghost use Rattle.std.specs.Prelude.{◌≡◌, ◌≤◌, IfOk};
+ghost use Rattle.std.specs.List.Sorted.{IsStrictlySortedBy};
+ghost use Rattle.std.specs.Map.{keys_of};
+ghost use Rattle.std.specs.Prelude.{◌≡◌, ◌<◌, ◌≤◌, ◌++◌, ◌∷◌, [], IfOk, OnOk, map, take};
 ghost use Rattle.directory_rules.specs.Host.{entry_on, is_firm};
-ghost use Rattle.directory_rules.specs.Standing.{stands_behind};
-ghost use Rattle.host_activations.specs.ByHash.{IsUnder};
+ghost use Rattle.hash_ring.specs.Hash.{hash_grain};
+ghost use Rattle.host_activations.specs.Begun.{AreApart};
+ghost use Rattle.host_activations.specs.ByHash.{AreByHash, IsUnder, hashed_count_cmp};
+ghost use Rattle.host_activations.specs.Listing.{AddsBetween, AddsFirst, AreFirst, RiseByHash, asked_for, entry_counted, entry_listed, is_asked_for, steps_before};
 ghost use Rattle.host_activations.specs.Page.{IsPage, told_behind};
+ghost use Rattle.ring_range.specs.Range.{circle};
 
 use super::Activations;
 use crate::by_hash::{ByHash, HashedCount, end_at, first_at};
 use crate::kept::{Kept, held_at};
-use crate::standing::{stands_behind, steps_to};
+use crate::standing::{is_behind, steps_to};
 use directory_rules::{Held, Phase};
 use grain_names::GrainMap;
 use hash_ring::Hashing;
@@ -35,7 +40,7 @@ pub struct FirmPage {
     pub last: bool,
 }
 
-/// A firm activation: how many hashes of the range come before its grain's, the grain, and its count.
+/// A firm activation, as it is listed to be sorted: how many hashes of the range come before its grain's, the grain, and its count.
 type Standing = (u64, GrainId, u64);
 
 impl Activations {
@@ -50,13 +55,19 @@ impl Activations {
     ) -> Result<FirmPage, AllocError>
         ensures { IfOk result (IsPage (told_behind silo asked.now self.now.entries) asked.now.most) }
     {
-        let mut firm = if self.hashing.same(&asked.hashing) {
-            first_by_hash(alloc, &self.map, &self.by_hash, asked)?
-        } else {
-            firm_among_all(alloc, &self.map, asked)?
-        };
+        let mut firm = self.first_firm(alloc, asked)?;
         firm.sort_unstable();
         page_of(alloc, silo, &firm, asked.most)
+    }
+
+    // The first that are asked for, in no order.
+    fn first_firm(&self, alloc: Global, asked: &PageAsked) -> Result<Vec<Standing>, AllocError>
+        ensures { IfOk result (λ firm. AreFirst asked.now self.now.entries firm.items) }
+    {
+        if self.hashing.same(&asked.hashing) {
+            return first_by_hash(alloc, &self.map, &self.by_hash, asked);
+        }
+        firm_among_all(alloc, &self.map, asked)
     }
 }
 
@@ -68,7 +79,9 @@ pub fn entry_on(silo: SiloAddress, grain: GrainId, held: &Held) -> Entry
 }
 
 // The entry of the activation of that count.
-fn entry_counted(silo: SiloAddress, grain: GrainId, count: u64) -> Entry {
+fn entry_counted(silo: SiloAddress, grain: GrainId, count: u64) -> Entry
+    ensures { result ≡ entry_counted silo grain count }
+{
     let activation = ActivationId { silo, count };
     Entry { grain, activation }
 }
@@ -79,14 +92,27 @@ fn page_of(
     silo: SiloAddress,
     firm: &[Standing],
     most: usize,
-) -> Result<FirmPage, AllocError> {
-    let entries = firm
-        .iter()
-        .take(most)
-        .map(|one| entry_counted(silo, one.1, one.2))
-        .collect(alloc)?;
+) -> Result<FirmPage, AllocError>
+    ensures { IfOk result (IsPage (map (entry_listed silo) firm.now) most) }
+{
+    let entries = entries_of(alloc, silo, firm, most)?;
     let last = firm.len() <= most;
     Ok(FirmPage { entries, last })
+}
+
+// The first entries of them.
+fn entries_of(
+    alloc: Global,
+    silo: SiloAddress,
+    firm: &[Standing],
+    most: usize,
+) -> Result<Vec<Entry>, AllocError>
+    ensures { IfOk result (λ entries. entries.items ≡ map (entry_listed silo) (take most firm.now)) }
+{
+    firm.iter()
+        .take(most)
+        .map(|one| entry_counted(silo, one.1, one.2))
+        .collect(alloc)
 }
 
 // All that are asked for: each activation is looked at.
@@ -94,14 +120,17 @@ fn firm_among_all(
     alloc: Global,
     held: &GrainMap<Kept>,
     asked: &PageAsked,
-) -> Result<Vec<Standing>, AllocError> {
+) -> Result<Vec<Standing>, AllocError>
+    ensures { IfOk result (λ firm. firm.items ≡ asked_for asked.now held.now) }
+{
+    let first = first_step(asked);
     let mut firm = Vec::new(alloc);
     for index in 0..held.len() {
         let Some((grain, held)) = held_at(held, index) else {
             unreachable!();
         };
         let hash = asked.hashing.hash_grain(&grain);
-        list_firm(&mut firm, asked, hash, grain, &held)?;
+        list_firm(&mut firm, asked, first, hash, grain, &held)?;
     }
     Ok(firm)
 }
@@ -113,16 +142,21 @@ fn first_by_hash(
     held: &GrainMap<Kept>,
     by_hash: &ByHash,
     asked: &PageAsked,
-) -> Result<Vec<Standing>, AllocError> {
+) -> Result<Vec<Standing>, AllocError>
+    requires apart { AreApart held.now }
+    requires by_hash { AreByHash asked.now.hashing held.now by_hash.now.entries }
+    ensures { IfOk result (λ firm. AreFirst asked.now held.now firm.items) }
+{
     let range = &asked.range;
+    range.in_range();
     let firm = Vec::new(alloc);
     let first = u64::from(range.start()) + first_step(asked);
     let end = u64::from(range.start()) + range.size();
-    if end <= CIRCLE {
-        return list_between(firm, held, by_hash, first, end, asked);
-    }
     if CIRCLE <= first {
         return list_between(firm, held, by_hash, first - CIRCLE, end - CIRCLE, asked);
+    }
+    if end <= CIRCLE {
+        return list_between(firm, held, by_hash, first, end, asked);
     }
     let firm = list_between(firm, held, by_hash, first, CIRCLE, asked)?;
     if asked.most < firm.len() {
@@ -131,8 +165,11 @@ fn first_by_hash(
     list_between(firm, held, by_hash, 0, end - CIRCLE, asked)
 }
 
-// How far from the range's start the hash stands with which those begin that are asked for.
-fn first_step(asked: &PageAsked) -> u64 {
+// How many hashes of the range come before the grain's behind which they stand; none where they stand behind none.
+fn first_step(asked: &PageAsked) -> u64
+    ensures value { result ≡ steps_before asked.now asked.now.after }
+    ensures within { result ≤ asked.now.range.size }
+{
     match asked.after {
         Some(after) => steps_to(&asked.range, asked.hashing.hash_grain(&after)),
         None => 0,
@@ -147,10 +184,14 @@ fn list_between(
     first: u64,
     end: u64,
     asked: &PageAsked,
-) -> Result<Vec<Standing>, AllocError> {
-    if end <= first {
-        return Ok(firm);
-    }
+) -> Result<Vec<Standing>, AllocError>
+    requires by_hash { AreByHash asked.now.hashing held.now by_hash.now.entries }
+    requires below { first < circle }
+    requires forward { first ≤ end }
+    requires within { end ≤ circle }
+    ensures added { IfOk result (λ new. AddsBetween asked.now held.now by_hash.now.entries first end firm.items new.items) }
+    ensures ordered { IsStrictlySortedBy hashed_count_cmp (keys_of by_hash.now.entries) }
+{
     let stretch = by_hash.range((Bound::Included(first_at(first as u32)), end_at(end)));
     list_stretch(firm, held, stretch, asked)
 }
@@ -162,16 +203,19 @@ fn list_stretch(
     stretch: Range<'_, HashedCount, usize>,
     asked: &PageAsked,
 ) -> Result<Vec<Standing>, AllocError>
-    requires { AllByRecursion (IsUnder asked.now.hashing held.now) stretch }
+    requires under { AllByRecursion (IsUnder asked.now.hashing held.now) stretch }
+    requires rising { RiseByHash stretch }
+    ensures { IfOk result (λ new. AddsFirst asked.now held.now stretch.entry firm.items new.items) }
 {
-    let mut hash = None;
+    let first = first_step(asked);
+    let mut last = None;
     'stretch: for (key, index) in stretch {
-        if asked.most < firm.len() && hash != Some(key.hash) {
+        if asked.most < firm.len() && last != Some(key.hash) {
             return Ok(firm);
         }
-        hash = Some(key.hash);
+        last = Some(key.hash);
         if let Some((grain, held)) = held_at(held, *index) {
-            list_firm(&mut firm, asked, key.hash, grain, &held)?;
+            list_firm(&mut firm, asked, first, key.hash, grain, &held)?;
         }
     }
     Ok(firm)
@@ -181,17 +225,31 @@ fn list_stretch(
 fn list_firm(
     firm: &mut Vec<Standing>,
     asked: &PageAsked,
+    first: u64,
     hash: u32,
     grain: GrainId,
     held: &Held,
-) -> Result<(), AllocError> {
-    if is_firm(&held.phase)
-        && asked.range.contains(hash)
-        && stands_behind(asked.hashing, &asked.range, asked.after, grain)
-    {
+) -> Result<(), AllocError>
+    requires first { first ≡ steps_before asked.now asked.now.after }
+    requires hash { hash ≡ hash_grain asked.now.hashing grain }
+    ensures { OnOk result (firm.new.items ≡ firm.old.items ++ asked_for asked.now ((grain, held.now) ∷ [])) }
+{
+    if is_asked_for(asked, first, hash, grain, held) {
         firm.push((steps_to(&asked.range, hash), grain, held.count))?;
     }
     Ok(())
+}
+
+// Whether the activation is firm, its grain is hashed into the range, and this stands behind the grain that was named. Neither grain is
+// hashed again.
+fn is_asked_for(asked: &PageAsked, first: u64, hash: u32, grain: GrainId, held: &Held) -> bool
+    requires first { first ≡ steps_before asked.now asked.now.after }
+    requires hash { hash ≡ hash_grain asked.now.hashing grain }
+    ensures { result ≡ is_asked_for asked.now (grain, held.now) }
+{
+    is_firm(&held.phase)
+        && asked.range.contains(hash)
+        && is_behind(asked.after, first, steps_to(&asked.range, hash), grain)
 }
 
 fn is_firm(phase: &Phase) -> bool
