@@ -173,9 +173,9 @@ fn settings_of(options: Options) -> Option<Settings>
     ensures exact { IfSome result (λ settings. settings ≡ chosen_settings options) }
     ensures in_range { AreInRange options → IsSome result }
 {
-    Settings::of_directory(options.hashing, options.points, options.cache)?
-        .with_activations(options.activations)?
-        .with_report_size(options.report_size)
+    let shared = Settings::of_directory(options.hashing, options.points, options.cache)?;
+    let limited = shared.with_activations(options.activations)?;
+    limited.with_report_size(options.report_size)
 }
 
 // Prints the help or the version that the words ask for, or tells what is wrong with them.
