@@ -1,8 +1,8 @@
 -- Bytes cut at their first mark, and a word that lists a silo, cut at its colons.
-use Rattle.std.proofs.Common.{◌≡◌, ◌≢◌, ap, ◌∙◌, sym, refl, ℕ, ◌+◌, ◌<◌, ◌≤◌, suc, ◌==◌, List, [], ◌∷◌, ◌++◌, length, get_or, take, drop, arith, Option, Some, None, Result, Err, add-one, append_assoc, append-nil, drop-cons}
+use Rattle.std.proofs.Common.{◌≡◌, ◌≢◌, ap, ◌∙◌, sym, refl, ℕ, ◌+◌, ◌-◌, ◌<◌, ◌≤◌, suc, ◌==◌, List, [], ◌∷◌, ◌++◌, length, get_or, take, drop, arith, Option, Some, None, Result, Err, add-one, append_assoc, append-nil, drop-cons}
 use Rattle.std.proofs.Math.Seq.{take-append_seam}
 use Rattle.std.proofs.lemmas.Bool.{eqb-true, eqb-false}
-use Rattle.std.proofs.lemmas.List.{length-append, take-append-drop, take_rest}
+use Rattle.std.proofs.lemmas.List.{length-append, length-drop, take-append-drop, take_rest}
 use Rattle.std.proofs.lemmas.List.Sums.{fails_before_first, passes_at_first}
 use Rattle.std.specs.List.{position_or_len}
 use Rattle.texts.specs.Words.{pieces_at}
@@ -34,6 +34,11 @@ module _ (mark end : ℕ) (bytes : List ℕ) (first : end ≡ position_or_len (�
     cut =
         ap (pieces_at mark) (sym (append-nil bytes)) ∙ pieces_at-cut mark end bytes [] within others ends
         ∙ ap (λ (rest : List ℕ). take end bytes ∷ pieces_at mark rest) (append-nil (drop (suc end) bytes) ∙ sym behind_is)
+
+    pub behind_shorter : length behind < length bytes
+    behind_shorter =
+        let long : length behind ≡ length bytes - suc end = ap length behind_is ∙ length-drop (suc end) bytes in
+        omega (long, within, arith)
 
     pub whole_cut : bytes ≡ take end bytes ++ mark ∷ behind
     whole_cut =

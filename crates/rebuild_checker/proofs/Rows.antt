@@ -186,7 +186,7 @@ row_told : (dump : DumpValue) → is_dump dump ≡ true → (version : ℕ) (sil
 row_told dump is version silo = lookup-picked silo_cmp_total (status_in version) silo (map row_in_dump dump.rows) (rows_rise dump is)
 
 -- one that is Active isn't outlived
-active_alone : (o : Option Status) (outlived : Bool)
+pub active_alone : (o : Option Status) (outlived : Bool)
     → option_map_or (λ status. is_active status) (or_outlived o outlived) false ≡ option_map_or (λ status. is_active status) o false
 active_alone (Some status) outlived = refl
 active_alone None true = refl

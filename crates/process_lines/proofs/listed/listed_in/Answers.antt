@@ -8,7 +8,12 @@ use Rattle.process_lines.proofs.EachSilo.{behind_these, fails_on, silos_end, sil
 use Rattle.process_lines.proofs.listed.listed_in.Goals as goal
 
 pub loop-word-init : goal.loop-word-init
-loop-word-init c = record { read = ?; nothing = λ none. none }
+loop-word-init c = record {
+  read =
+      silos_first (words_in c.args.words.now)
+      ∙ ap (λ (items : List rule.Listed). behind_these items (listed_in (words_in c.args.words.now))) (ap all_listed_of (sym c.new-rows.ensures.items));
+  nothing = λ none. none;
+}
 
 pub loop-word-preserved : goal.loop-word-preserved
 loop-word-preserved c =
