@@ -1,6 +1,6 @@
 -- The silos of a view, read word by word, and the places of one, read from comma to comma.
 use Rattle.std.proofs.Common.{◌≡◌, subst, ap, ◌∙◌, sym, refl, ℕ, Some, Result, Ok, Err, List, [], ◌∷◌, ◌++◌, append_assoc, append-nil}
-use Rattle.std.specs.Prelude.{◌≢◌, ⊤, IsErrAnd, IsOk}
+use Rattle.std.specs.Prelude.{◌≢◌, IsErrAnd, IsOk}
 use Rattle.silo_address.specs.Silo.{Silo}
 use Rattle.membership_view.specs.declared.status.Status.{Status}
 use Rattle.directory_rules.specs.Membership.{Listed}
@@ -10,7 +10,7 @@ use Rattle.process_rules.specs.ReadLine.{Asked, Begin, a_view, listed_as, listed
 use Rattle.process_lines.specs.declared.fault.LineError.{LineError}
 use Rattle.process_lines.specs.declared.fault.LineError.TheVariants.{Fault, OutOfMemory}
 use Rattle.process_lines.specs.FaultNumbers.{line_fault_number}
-use Rattle.process_lines.specs.ReadAs.{Fails, ReadsUnlessMemory}
+use Rattle.process_lines.specs.ReadAs.{Fails, FailsUnlessMemory, ReadsUnlessMemory}
 use Rattle.process_lines.specs.Memory.{WordsNeedMemory}
 use Rattle.process_lines.specs.Colons.{checked}
 
@@ -24,13 +24,13 @@ checked_then (Ok value) make = refl
 checked_then (Err fault) make = refl
 
 -- ---- what a part fails with, all does
-pub fails_on : {A B C D : Type 0} (view : A → B) (other : C → D) (result : Result A LineError) (error : LineError) (part : Result D ℕ)
-    (whole : Result B ℕ) → IsErrAnd result (λ e. e ≡ error) → ReadsUnlessMemory other (Err error) part
-    → ((fault : ℕ) → part ≡ Err fault → whole ≡ Err fault) → ReadsUnlessMemory view result whole
-fails_on view other (Ok value) error part whole is fails on = absurd is
-fails_on view other (Err (Fault fault)) error part whole is fails on =
-    on (line_fault_number fault) (subst (λ (e : LineError). ReadsUnlessMemory other (Err e) part) (sym is) fails)
-fails_on view other (Err OutOfMemory) error part whole is fails on = tt
+pub fails_on : {A B D : Type 0} (result : Result A LineError) (error : LineError) (part : Result D ℕ) (whole : Result B ℕ) (view : A → B)
+    → IsErrAnd result (λ e. e ≡ error) → FailsUnlessMemory error part → ((fault : ℕ) → part ≡ Err fault → whole ≡ Err fault)
+    → ReadsUnlessMemory view result whole
+fails_on (Ok value) error part whole view is fails on = absurd is
+fails_on (Err (Fault fault)) error part whole view is fails on =
+    on (line_fault_number fault) (subst (λ (e : LineError). FailsUnlessMemory e part) (sym is) fails)
+fails_on (Err OutOfMemory) error part whole view is fails on = tt
 
 -- ---- places
 module _ (pieces behind : List (List ℕ)) (piece : List ℕ) (split : pieces ≡ piece ∷ behind) where
@@ -169,10 +169,9 @@ module _ (words behind : List (List ℕ)) (word : List ℕ) (version : ℕ) (spl
   view_read rows is = view_is ∙ ap (λ (r : Result (List Listed) ℕ). r >>= λ rows. Ok (Begin version rows)) is
 
   module _ (ok : Ok tt ≡ checked (listed_in behind)) where
-    pub view_fails : {A : Type 0} (view : A → List Listed) (error : LineError) → ReadsUnlessMemory view (Err error) (listed_in behind)
-        → Fails error (a_view words)
-    view_fails view (Fault fault) fails = view_fault (line_fault_number fault) fails
-    view_fails view OutOfMemory fails = subst (λ (r : Result Asked ℕ). IsOk r) (sym view_is) (read_so (listed_in behind) ok)
+    pub view_fails : (error : LineError) → FailsUnlessMemory error (listed_in behind) → Fails error (a_view words)
+    view_fails (Fault fault) fails = view_fault (line_fault_number fault) fails
+    view_fails OutOfMemory fails = subst (λ (r : Result Asked ℕ). IsOk r) (sym view_is) (read_so (listed_in behind) ok)
       where
         read_so : (read : Result (List Listed) ℕ) → Ok tt ≡ checked read → IsOk (read >>= λ rows. Ok (Begin version rows))
         read_so (Ok rows) is = refl

@@ -3,7 +3,7 @@ use Rattle.std.proofs.lemmas.List.{map-append}
 use Rattle.texts.specs.Words.{words_in}
 use Rattle.directory_rules.specs.Membership as rule
 use Rattle.directory_rules.specs.ListedModel.{all_listed_of, listed_of}
-use Rattle.process_rules.specs.ReadLine.{listed_in}
+use Rattle.process_rules.specs.ReadLine.{listed_in, listed_word}
 use Rattle.process_lines.proofs.EachSilo.{behind_these, fails_on, silos_end, silos_fail, silos_first, silos_more}
 use Rattle.process_lines.proofs.listed.listed_in.Goals as goal
 
@@ -32,7 +32,8 @@ loop-word-preserved c =
 
 pub returns-in_err-one-clause-reads : goal.returns-in_err-one-clause-reads
 returns-in_err-one-clause-reads c =
-    fails_on _ _ _ c.in_err-one.field-0.0 _ _ c.from_residual.ensures.1 c.in_err-one.ensures
+    fails_on c.from_residual.result c.in_err-one.field-0.0 (listed_word c.in-Some.word.now) (listed_in (words_in c.args.words.now))
+    (λ rows. all_listed_of rows.items) c.from_residual.ensures.1 c.in_err-one.ensures
     (λ fault is. c.loop-word.invariant.read ∙ silos_fail (words_in c.loop-word.rest.now) (words_in c.in-Some.behind.now) c.in-Some.word.now
     c.in-Some.ensures.words (all_listed_of c.loop-word.rows.items) fault is)
 
