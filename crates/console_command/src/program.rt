@@ -19,9 +19,7 @@ ghost use Rattle.console_command.specs.Outcome.{Carries, CarriesByCalls, Carries
 use crate::errors::{
     tell, tell_check, tell_end, tell_failed_call, tell_no_memory, tell_silo, tell_threads, words_or,
 };
-use crate::{
-    CommandLineError, Exit, Line, Options, judge, play_new_silo, read_line,
-};
+use crate::{CommandLineError, Exit, Line, Options, judge, play_new_silo, read_line};
 use directory_core::World;
 use directory_rules::Settings;
 use line_loop::{Ended, ScriptLineFault, Sink, Source, send};

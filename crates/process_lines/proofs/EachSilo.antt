@@ -157,38 +157,38 @@ module _ (words behind : List (List ℕ)) (word : List ℕ) (split : words ≡ w
 
 -- ---- a version, and then the silos
 module _ (words behind : List (List ℕ)) (word : List ℕ) (version : ℕ) (split : words ≡ word ∷ behind) (reads : Ok version ≡ number_word word)
-    where
-  pub view_is : a_view words ≡ (listed_in behind >>= λ rows. Ok (Begin version rows))
-  view_is =
-      ap a_view split ∙ ap (λ (r : Result ℕ ℕ). r >>= λ version. listed_in behind >>= λ rows. Ok (Begin version rows)) (sym reads)
+  where
+    pub view_is : a_view words ≡ (listed_in behind >>= λ rows. Ok (Begin version rows))
+    view_is =
+        ap a_view split ∙ ap (λ (r : Result ℕ ℕ). r >>= λ version. listed_in behind >>= λ rows. Ok (Begin version rows)) (sym reads)
 
-  pub view_fault : (fault : ℕ) → listed_in behind ≡ Err fault → a_view words ≡ Err fault
-  view_fault fault is = view_is ∙ ap (λ (r : Result (List Listed) ℕ). r >>= λ rows. Ok (Begin version rows)) is
+    pub view_fault : (fault : ℕ) → listed_in behind ≡ Err fault → a_view words ≡ Err fault
+    view_fault fault is = view_is ∙ ap (λ (r : Result (List Listed) ℕ). r >>= λ rows. Ok (Begin version rows)) is
 
-  pub view_read : (rows : List Listed) → listed_in behind ≡ Ok rows → a_view words ≡ Ok (Begin version rows)
-  view_read rows is = view_is ∙ ap (λ (r : Result (List Listed) ℕ). r >>= λ rows. Ok (Begin version rows)) is
+    pub view_read : (rows : List Listed) → listed_in behind ≡ Ok rows → a_view words ≡ Ok (Begin version rows)
+    view_read rows is = view_is ∙ ap (λ (r : Result (List Listed) ℕ). r >>= λ rows. Ok (Begin version rows)) is
 
-  module _ (ok : Ok tt ≡ checked (listed_in behind)) where
-    pub view_fails : (error : LineError) → FailsUnlessMemory error (listed_in behind) → Fails error (a_view words)
-    view_fails (Fault fault) fails = view_fault (line_fault_number fault) fails
-    view_fails OutOfMemory fails = subst (λ (r : Result Asked ℕ). IsOk r) (sym view_is) (read_so (listed_in behind) ok)
-      where
-        read_so : (read : Result (List Listed) ℕ) → Ok tt ≡ checked read → IsOk (read >>= λ rows. Ok (Begin version rows))
-        read_so (Ok rows) is = refl
-        read_so (Err fault) is = absurd (cc (is))
+    module _ (ok : Ok tt ≡ checked (listed_in behind)) where
+      pub view_fails : (error : LineError) → FailsUnlessMemory error (listed_in behind) → Fails error (a_view words)
+      view_fails (Fault fault) fails = view_fault (line_fault_number fault) fails
+      view_fails OutOfMemory fails = subst (λ (r : Result Asked ℕ). IsOk r) (sym view_is) (read_so (listed_in behind) ok)
+        where
+          read_so : (read : Result (List Listed) ℕ) → Ok tt ≡ checked read → IsOk (read >>= λ rows. Ok (Begin version rows))
+          read_so (Ok rows) is = refl
+          read_so (Err fault) is = absurd (cc (is))
 
-    -- a word that lists a silo takes memory
-    pub view_needs : behind ≢ [] → WordsNeedMemory (a_view words)
-    view_needs some = subst WordsNeedMemory (sym view_is) (needs behind ok some)
-      where
-        by : (one : Result Listed ℕ) (others : Result (List Listed) ℕ)
-            → Ok tt ≡ checked (one >>= λ one. others >>= λ others. Ok (one ∷ others))
-            → WordsNeedMemory ((one >>= λ one. others >>= λ others. Ok (one ∷ others)) >>= λ rows. Ok (Begin version rows))
-        by (Ok one) (Ok others) is = tt
-        by (Ok one) (Err fault) is = absurd (cc (is))
-        by (Err fault) others is = absurd (cc (is))
+      -- a word that lists a silo takes memory
+      pub view_needs : behind ≢ [] → WordsNeedMemory (a_view words)
+      view_needs some = subst WordsNeedMemory (sym view_is) (needs behind ok some)
+        where
+          by : (one : Result Listed ℕ) (others : Result (List Listed) ℕ)
+              → Ok tt ≡ checked (one >>= λ one. others >>= λ others. Ok (one ∷ others))
+              → WordsNeedMemory ((one >>= λ one. others >>= λ others. Ok (one ∷ others)) >>= λ rows. Ok (Begin version rows))
+          by (Ok one) (Ok others) is = tt
+          by (Ok one) (Err fault) is = absurd (cc (is))
+          by (Err fault) others is = absurd (cc (is))
 
-        needs : (words : List (List ℕ)) → Ok tt ≡ checked (listed_in words) → words ≢ []
-            → WordsNeedMemory (listed_in words >>= λ rows. Ok (Begin version rows))
-        needs [] is some = absurd (some refl)
-        needs (word ∷ words) is some = by (listed_word word) (listed_in words) is
+          needs : (words : List (List ℕ)) → Ok tt ≡ checked (listed_in words) → words ≢ []
+              → WordsNeedMemory (listed_in words >>= λ rows. Ok (Begin version rows))
+          needs [] is some = absurd (some refl)
+          needs (word ∷ words) is some = by (listed_word word) (listed_in words) is
