@@ -19,9 +19,7 @@ ghost use Rattle.console_command.specs.Outcome.{Carries, CarriesByCalls, Carries
 use crate::errors::{
     tell, tell_check, tell_end, tell_failed_call, tell_no_memory, tell_silo, tell_threads, words_or,
 };
-use crate::{
-    CommandLineError, Exit, Line, Options, judge, play_new_silo, read_line,
-};
+use crate::{CommandLineError, Exit, Line, Options, judge, play_new_silo, read_line};
 use directory_core::World;
 use directory_rules::Settings;
 use line_loop::{Ended, ScriptLineFault, Sink, Source, send};
@@ -173,9 +171,9 @@ fn settings_of(options: Options) -> Option<Settings>
     ensures exact { IfSome result (λ settings. settings ≡ chosen_settings options) }
     ensures in_range { AreInRange options → IsSome result }
 {
-    Settings::of_directory(options.hashing, options.points, options.cache)?
-        .with_activations(options.activations)?
-        .with_report_size(options.report_size)
+    let shared = Settings::of_directory(options.hashing, options.points, options.cache)?;
+    let limited = shared.with_activations(options.activations)?;
+    limited.with_report_size(options.report_size)
 }
 
 // Prints the help or the version that the words ask for, or tells what is wrong with them.

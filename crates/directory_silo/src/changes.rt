@@ -1,6 +1,6 @@
 ghost use Rattle.std.specs.Prelude.{◌≡◌, ◌==◌, ◌+◌, ◌<◌, Err, IfErr, IsOk, IsTrue, Ok, OnErr, false};
 ghost use Rattle.directory_node.specs.Follows.{Follows};
-ghost use Rattle.directory_silo.specs.AnswerModel.{heard_as};
+ghost use Rattle.directory_silo.specs.AnswerModel.{IsAny, heard_as};
 ghost use Rattle.directory_rules.specs.Membership.{Join, Leave, Die, changed, replaced_by};
 ghost use Rattle.directory_silo.specs.Numbers.{IsNumberedUnlessMemory, silo_refusal_number};
 ghost use Rattle.directory_rules.specs.ListedModel.{all_listed_of};
@@ -86,25 +86,35 @@ impl Silo {
     /// are left out but for the newest silo of each endpoint, and the silo itself joins later. Refused by 211 where it was told a
     /// change or a view before; by 210 where no history may begin with that version; then silo by silo, the first one first, by 210,
     /// 205, 402, 403; last by 201 where the silo itself, or a newer one of its endpoint, is listed
-    /// (`docs/RULES.md#a-silo-by-itself`). A refusal changes nothing.
+    /// (`docs/RULES.md#a-silo-by-itself`). A refusal changes nothing. Memory may run out before a later silo is refused.
     pub fn begins(&mut self, version: u64, rows: &[Listed]) -> Result<(), SiloRefusal>
-        ensures begun { Follows (λ _. self.new.membership) silo_refusal_number IsOk (told_view self.old.node.settings self.old.membership self.old.node.host.silo version (all_listed_of rows.now)) result }
+        ensures begun { Follows (λ _. self.new.membership) silo_refusal_number IsAny (told_view self.old.node.settings self.old.membership self.old.node.host.silo version (all_listed_of rows.now)) result }
         ensures numbered { IfErr result IsNumberedUnlessMemory }
         ensures node { self.new.node ≡ self.old.node }
         ensures unchanged { OnErr result (self.new ≡ self.old) }
     {
+        let begun = self.begun(version, rows)?;
+        self.membership = begun;
+        Ok(())
+    }
+
+    // What the silo knows once it was told that view.
+    fn begun(&self, version: u64, rows: &[Listed]) -> Result<Membership, SiloRefusal>
+        ensures begun { Follows (λ membership. membership) silo_refusal_number IsAny (told_view self.now.node.settings self.now.membership self.now.node.host.silo version (all_listed_of rows.now)) result }
+        ensures numbered { IfErr result IsNumberedUnlessMemory }
+    {
         if self.membership.views().current() > 0 {
             return Err(SiloRefusal::ToldBefore);
         }
-        let begun = match Membership::begun(self.alloc, &self.node.settings(), version, rows) {
+        let settings = self.node.settings();
+        let begun = match Membership::begun(self.alloc, &settings, version, rows) {
             Ok(begun) => begun,
             Err(refusal) => return Err(SiloRefusal::of_change(refusal)),
         };
         if !begun.views().is_newest(&self.address()) {
             return Err(SiloRefusal::Views(ViewsError::OldGeneration));
         }
-        self.membership = begun;
-        Ok(())
+        Ok(begun)
     }
 
     // A join of the next version is told.

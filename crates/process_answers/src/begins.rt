@@ -29,10 +29,15 @@ pub(crate) fn answer_begin(
     ensures kept { BeginsWith out.old.items out.new.items }
 {
     match silo.begins(version, rows) {
-        Ok(()) => write_begun(out, version)?,
-        Err(refusal) => write_refused(out, refusal)?,
+        Ok(()) => {
+            write_begun(out, version)?;
+            Ok(false)
+        }
+        Err(refusal) => {
+            write_refused(out, refusal)?;
+            Ok(false)
+        }
     }
-    Ok(false)
 }
 
 // The line of a view that was told.

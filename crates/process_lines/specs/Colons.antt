@@ -1,8 +1,7 @@
 -- A word that lists a silo, cut at its colons.
-use Rattle.std.specs.Prelude.{◌≡◌, ⊤, tt, ℕ, List, [], ◌∷◌, ◌++◌, Option, Some, None, Result, Ok, Err}
+use Rattle.std.specs.Prelude.{◌≡◌, ⊤, ℕ, List, [], ◌∷◌, ◌++◌, Option, Some, None, Result, Ok, Err}
 use Rattle.std.specs.Borrow.{Bor}
 use Rattle.texts.specs.Words.{pieces_at}
-use Rattle.directory_rules.specs.Membership.{Listed}
 use Rattle.process_rules.specs.ReadLine as rule
 use Rattle.process_lines.specs.declared.fault.LineFault.{LineFault}
 use Rattle.process_lines.specs.declared.listed.Pieces.{Pieces}
@@ -21,13 +20,9 @@ abbrev pub places_of : Option (Bor (List ℕ)) → List (List ℕ)
 places_of None = []
 places_of (Some text) = pieces_at rule.comma text.now
 
--- the silo that these list
-abbrev pub listed_as_cut : Pieces → Result Listed ℕ
-listed_as_cut pieces = rule.listed_as (rule.status_named pieces.status.now) pieces.silo.now (places_of pieces.places)
-
--- the word lists what its pieces do, or has their fault
+-- the word lists the silo that its pieces list, or has their fault
 abbrev pub Cuts : Result Pieces LineFault → List ℕ → Type 0
-Cuts (Ok pieces) word = rule.listed_word word ≡ listed_as_cut pieces
+Cuts (Ok pieces) word = rule.listed_word word ≡ rule.listed_as (Some pieces.status) pieces.silo.now (places_of pieces.places)
 Cuts (Err fault) word = rule.listed_word word ≡ Err (line_fault_number fault)
 
 -- what stands behind a silo lists it so, whichever it is

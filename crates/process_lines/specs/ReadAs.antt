@@ -23,10 +23,13 @@ Reads view (Ok value) rule = rule ≡ Ok (view value)
 Reads view (Err error) rule = Fails error rule
 
 -- so, but for memory, which may run out at any time
+abbrev pub FailsUnlessMemory : {B : Type 0} → LineError → Result B ℕ → Type 0
+FailsUnlessMemory (Fault fault) rule = rule ≡ Err (line_fault_number fault)
+FailsUnlessMemory OutOfMemory rule = ⊤
+
 abbrev pub ReadsUnlessMemory : {A B : Type 0} → (A → B) → Result A LineError → Result B ℕ → Type 0
 ReadsUnlessMemory view (Ok value) rule = rule ≡ Ok (view value)
-ReadsUnlessMemory view (Err (Fault fault)) rule = rule ≡ Err (line_fault_number fault)
-ReadsUnlessMemory view (Err OutOfMemory) rule = ⊤
+ReadsUnlessMemory view (Err error) rule = FailsUnlessMemory error rule
 
 -- what stands in front of a kind, as the rule has it
 abbrev pub head_of : Head → rule.Head

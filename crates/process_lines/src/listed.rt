@@ -23,7 +23,7 @@ use texts::first_position;
 #[derive(Clone, Copy)]
 pub(crate) struct Pieces<'a> {
     pub silo: &'a [u8],
-    pub status: &'a [u8],
+    pub status: Status,
     pub places: Option<&'a [u8]>,
 }
 
@@ -58,14 +58,11 @@ fn check_word(word: &[u8]) -> Result<(), LineFault>
     ensures { told no_value result ≡ checked (rule.listed_word word.now) }
 {
     let pieces = pieces_of(word)?;
-    let Some(_) = status_named(pieces.status) else {
-        return Err(LineFault::Listed);
-    };
     let _silo = silo_word(pieces.silo)?;
-    let Some(places) = pieces.places else {
-        return Ok(());
-    };
-    check_places(places)
+    match pieces.places {
+        Some(places) => check_places(places),
+        None => Ok(()),
+    }
 }
 
 // The fault of the places, if they have one.
@@ -103,11 +100,9 @@ fn listed_word(alloc: Global, word: &[u8]) -> Result<Listed, LineError>
     ensures { ReadsUnlessMemory listed_of result (rule.listed_word word.now) }
 {
     let pieces = pieces_of(word)?;
-    let Some(status) = status_named(pieces.status) else {
-        return Err(LineError::Fault(LineFault::Listed));
-    };
     let silo = silo_word(pieces.silo)?;
     let places = places_if_any(alloc, pieces.places)?;
+    let status = pieces.status;
     Ok(Listed {
         silo,
         status,
@@ -157,11 +152,15 @@ fn pieces_of(word: &[u8]) -> Result<Pieces<'_>, LineFault>
     let Some((host, behind)) = split_at(word, b':') else {
         return Err(LineFault::Listed);
     };
-    let Some((port, behind)) = split_at(behind, b':') else {
+    let Some((port, rest)) = split_at(behind, b':') else {
         return Err(LineFault::Listed);
     };
-    let silo = &word[..host.len() + 1 + port.len()];
-    let (status, places) = status_and_places(behind)?;
+    let (status, places) = status_and_places(rest)?;
+    let Some(status) = status_named(status) else {
+        return Err(LineFault::Listed);
+    };
+    let end = host.len() + 1 + port.len();
+    let silo = &word[..end];
     Ok(Pieces {
         silo,
         status,
@@ -176,10 +175,10 @@ fn status_and_places(text: &[u8]) -> Result<(&[u8], Option<&[u8]>), LineFault>
     let Some((status, places)) = split_at(text, b':') else {
         return Ok((text, None));
     };
-    if split_at(places, b':').is_some() {
-        return Err(LineFault::Listed);
+    match split_at(places, b':') {
+        None => Ok((status, Some(places))),
+        Some(_) => Err(LineFault::Listed),
     }
-    Ok((status, Some(places)))
 }
 
 // What stands before the first such byte, and behind it, where there is one.

@@ -1,8 +1,10 @@
 //! Letters of transfers and recoveries.
 
-ghost use Rattle.std.specs.Prelude.{◌≡◌, true, IsErrOf};
+ghost use Rattle.std.specs.Prelude.{◌≡◌, [], ◌∷◌, true, IsErrOf, Ok, Some};
 ghost use Rattle.directory_rules.specs.State as letters;
 ghost use Rattle.texts.specs.Words.{words_in};
+ghost use Rattle.script_rules.specs.Script.{◌>>=◌};
+ghost use Rattle.script_rules.specs.Script as script;
 ghost use Rattle.process_rules.specs.ReadLetter as rule;
 ghost use Rattle.process_lines.specs.Made.{OfARange};
 ghost use Rattle.process_lines.specs.ReadAs.{Reads, head_of, told};
@@ -68,36 +70,37 @@ pub(crate) fn a_query(head: Result<Head, LineFault>, words: &[u8]) -> Result<Let
     let Some((range, behind)) = split_word(words) else {
         return Err(LineFault::WordCount);
     };
-    let Some((after, rest)) = split_word(behind) else {
-        return query_of(head, range, None);
+    let Some((after, behind)) = split_word(behind) else {
+        return a_first_query(head, range);
     };
-    if split_word(rest).is_some() {
-        return Err(LineFault::WordCount);
+    match split_word(behind) {
+        None => a_further_query(head, range, after),
+        Some(_) => Err(LineFault::WordCount),
     }
-    query_of(head, range, Some(after))
 }
 
-/// A query of as many words as one may have.
-fn query_of(
-    head: Result<Head, LineFault>,
-    range: &[u8],
-    after: Option<&[u8]>,
-) -> Result<Letter, LineFault> {
+/// A query from the start of a range on.
+fn a_first_query(head: Result<Head, LineFault>, range: &[u8]) -> Result<Letter, LineFault>
+    ensures { told (λ letter. letter) result ≡ rule.a_query (told head_of head) (range.now ∷ []) }
+{
     let head = head?;
     let range = range_word(range)?;
-    let after = after_word(after)?;
+    let after = None;
     Ok(head.letter(Body::Query { range, after }))
 }
 
-/// The grain behind which is asked or told, if a word names one.
-fn after_word(word: Option<&[u8]>) -> Result<Option<GrainId>, LineFault> {
-    match word {
-        Some(word) => {
-            let grain = grain_word(word)?;
-            Ok(Some(grain))
-        }
-        None => Ok(None),
-    }
+/// A query behind a grain.
+fn a_further_query(
+    head: Result<Head, LineFault>,
+    range: &[u8],
+    after: &[u8],
+) -> Result<Letter, LineFault>
+    ensures { told (λ letter. letter) result ≡ rule.a_query (told head_of head) (range.now ∷ after.now ∷ []) }
+{
+    let head = head?;
+    let range = range_word(range)?;
+    let after = Some(grain_word(after)?);
+    Ok(head.letter(Body::Query { range, after }))
 }
 
 pub(crate) fn a_behind(head: Result<Head, LineFault>, words: &[u8]) -> Result<Letter, LineFault>
@@ -156,6 +159,7 @@ fn page_of(
 
 /// A range, perhaps the grain behind which is told, whether it is the silo's last, and the entries. The grain stands there where the words
 /// behind the range are pairs.
+#[tactic(auto, using(crate::proofs::Forms::reports))]
 pub(crate) fn a_report(
     alloc: Global,
     head: Result<Head, LineFault>,
@@ -171,12 +175,20 @@ pub(crate) fn a_report(
         return Err(LineError::Fault(LineFault::WordCount));
     };
     if !are_pairs(behind) {
-        return report_of(alloc, head, range, None, first, others);
+        return report_of(alloc, head, range, Ok(None), first, others);
     }
     let Some((last, entries)) = split_word(others) else {
         return Err(LineError::Fault(LineFault::WordCount));
     };
-    report_of(alloc, head, range, Some(first), last, entries)
+    report_of(alloc, head, range, after_word(first), last, entries)
+}
+
+/// The grain behind which is told.
+fn after_word(word: &[u8]) -> Result<Option<GrainId>, LineFault>
+    ensures { told (λ after. after) result ≡ (script.grain_word word.now >>= (λ grain. Ok (Some grain))) }
+{
+    let grain = grain_word(word)?;
+    Ok(Some(grain))
 }
 
 /// A report whose entries are pairs of words.
@@ -184,13 +196,18 @@ fn report_of(
     alloc: Global,
     head: Result<Head, LineFault>,
     range: &[u8],
-    after: Option<&[u8]>,
+    after: Result<Option<GrainId>, LineFault>,
     last: &[u8],
     entries: &[u8],
-) -> Result<Letter, LineError> {
+) -> Result<Letter, LineError>
+    ensures reads { Reads (λ letter. letter) result
+        (rule.report_behind (told head_of head) range.now (told (λ after. after) after) last.now (words_in entries.now)) }
+    ensures memory { IsErrOf result LineError.OutOfMemory → HasEntries
+        (rule.report_behind (told head_of head) range.now (told (λ after. after) after) last.now (words_in entries.now)) }
+{
     let head = head?;
     let range = range_word(range)?;
-    let after = after_word(after)?;
+    let after = after?;
     let last = last_word(last)?;
     let entries = entries_in(alloc, entries)?;
     let report = Report::new(head.version, range, head.from, after, entries, last);
