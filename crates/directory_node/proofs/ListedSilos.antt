@@ -11,7 +11,7 @@ use Rattle.hash_ring.specs.Places.{PlacesValue, after_add}
 use Rattle.directory_rules.proofs.Cases.{on_bool}
 use Rattle.directory_rules.specs.Settings.{Settings}
 use Rattle.directory_rules.specs.ListedModel.{all_listed_of, listed_of}
-use Rattle.directory_rules.specs.declared.listed.Listed.{Listed as Told}
+use Rattle.directory_rules.specs.declared.Listed.{Listed as Told}
 use Rattle.directory_rules.specs.Membership.{Listed, Membership, begun, listed, listed_all, listed_by, membership_from, placed, with_places}
 use Rattle.node_plans.specs.Follows.{RefusesBy}
 use Rattle.directory_node.specs.MembershipModel.{ListsSome, MayBeListed, RefusesPlaces, places_by, places_of_listed}
@@ -183,27 +183,27 @@ stops_at (Some n) settings version front behind m one is refused =
     ∙ refused_all settings n behind
 
 -- ---- the same of what the code is told
-pub told_next : (settings : Settings) (version : ℕ) (rows : List Told) (index : ℕ) (default : Told) (m next : Membership)
-    → index < length rows → begun settings version (all_listed_of (take index rows)) ≡ Ok m
-    → listed settings m (listed_of (slice_index_or rows index default)) ≡ Ok next
-    → begun settings version (all_listed_of (take (index + 1) rows)) ≡ Ok next
-told_next settings version rows index default m next below is made =
-    ap (λ l. begun settings version l) (map_more listed_of rows index default below)
-    ∙ begun_next settings version (all_listed_of (take index rows)) m (listed_of (slice_index_or rows index default)) is ∙ made
+module _ (settings : Settings) (version : ℕ) (rows : List Told) (index : ℕ) (one : Told) (m : Membership) (below : index < length rows)
+    (its : one ≡ slice_index_or rows index one) (is : begun settings version (all_listed_of (take index rows)) ≡ Ok m) where
+  with_one : all_listed_of (take (index + 1) rows) ≡ all_listed_of (take index rows) ++ listed_of one ∷ []
+  with_one =
+      map_more listed_of rows index one below ∙ ap (λ (t : Told). all_listed_of (take index rows) ++ listed_of t ∷ []) (sym its)
 
-told_parts : (rows : List Told) (index : ℕ) (default : Told) → index < length rows
-    → all_listed_of rows
-    ≡ (all_listed_of (take index rows) ++ listed_of (slice_index_or rows index default) ∷ []) ++ all_listed_of (drop (index + 1) rows)
-told_parts rows index default below =
-    ap all_listed_of (sym (take-append-drop (index + 1) rows))
-    ∙ map-append listed_of (take (index + 1) rows) (drop (index + 1) rows)
-    ∙ ap (λ l. l ++ all_listed_of (drop (index + 1) rows)) (map_more listed_of rows index default below)
+  pub told_next : (next : Membership) → listed settings m (listed_of one) ≡ Ok next
+      → begun settings version (all_listed_of (take (index + 1) rows)) ≡ Ok next
+  told_next next made =
+      ap (λ l. begun settings version l) with_one
+      ∙ begun_next settings version (all_listed_of (take index rows)) m (listed_of one) is ∙ made
 
-pub told_stops : (number : Option ℕ) (settings : Settings) (version : ℕ) (rows : List Told) (index : ℕ) (default : Told) (m : Membership)
-    → index < length rows → begun settings version (all_listed_of (take index rows)) ≡ Ok m
-    → RefusesBy IsOk number (listed settings m (listed_of (slice_index_or rows index default)))
-    → RefusesBy (λ _. ListsSome settings version (all_listed_of rows)) number (begun settings version (all_listed_of rows))
-told_stops number settings version rows index default m below is refused =
-    subst (λ l. RefusesBy (λ _. ListsSome settings version l) number (begun settings version l)) (sym (told_parts rows index default below))
-    (stops_at number settings version (all_listed_of (take index rows)) (all_listed_of (drop (index + 1) rows)) m
-    (listed_of (slice_index_or rows index default)) is refused)
+  in_parts : all_listed_of rows ≡ (all_listed_of (take index rows) ++ listed_of one ∷ []) ++ all_listed_of (drop (index + 1) rows)
+  in_parts =
+      ap all_listed_of (sym (take-append-drop (index + 1) rows))
+      ∙ map-append listed_of (take (index + 1) rows) (drop (index + 1) rows)
+      ∙ ap (λ l. l ++ all_listed_of (drop (index + 1) rows)) with_one
+
+  pub told_stops : (number : Option ℕ) → RefusesBy IsOk number (listed settings m (listed_of one))
+      → RefusesBy (λ _. ListsSome settings version (all_listed_of rows)) number (begun settings version (all_listed_of rows))
+  told_stops number refused =
+      subst (λ l. RefusesBy (λ _. ListsSome settings version l) number (begun settings version l)) (sym in_parts)
+      (stops_at number settings version (all_listed_of (take index rows)) (all_listed_of (drop (index + 1) rows)) m (listed_of one) is
+      refused)
