@@ -65,6 +65,9 @@ living_placed settings places new one living may added =
     (ap (λ (r : Result PlacesValue ℕ). is_ok r) (sym its) ∙ may) added
 
 -- ---- one silo is listed, or refused
+abbrev both : ViewsValue → PlacesValue → Membership
+both views places = record { views = views; places = places }
+
 by_views : (status : Status) (number : ℕ) (settings : Settings) (places : PlacesValue) (one : Listed)
     → listed_by status (Err number) settings places one.silo one.places ≡ Err number
 by_views Active number settings places one = refl
@@ -81,14 +84,14 @@ refused_by_views (Some n) settings m one refused =
 
 by_places : (status : Status) (views : ViewsValue) (settings : Settings) (places new : PlacesValue) (one : Listed)
     → places_by status settings places one.silo one.places ≡ Ok new
-    → listed_by status (Ok views) settings places one.silo one.places ≡ Ok (record { views = views; places = new })
+    → listed_by status (Ok views) settings places one.silo one.places ≡ Ok (both views new)
 by_places Active views settings places new one is = ap (λ p. with_places p views) is
 by_places Leaving views settings places new one is = ap (λ p. with_places p views) is
 by_places Dead views settings places new one is =
     on_bool (λ b. cond b (Ok places) (Err 402) ≡ Ok new
-    → cond b (Ok (record { views = views; places = places })) (Err 402) ≡ Ok (record { views = views; places = new }))
+    → cond b (Ok (both views places)) (Err 402) ≡ Ok (both views new))
     (length one.places == 0)
-    (λ t so. let same : places ≡ new = cc (so) in ap (λ (p : PlacesValue). Ok (record { views = views; places = p })) same)
+    (λ t so. let same : places ≡ new = cc (so) in ap (λ (p : PlacesValue). Ok (both views p)) same)
     (λ f so. absurd (cc (so))) is
 
 pub listed_is : (settings : Settings) (m : Membership) (one : Listed) (views : ViewsValue) (places : PlacesValue)
@@ -105,7 +108,7 @@ by_refusal Active views settings places one number is = ap (λ p. with_places p 
 by_refusal Leaving views settings places one number is = ap (λ p. with_places p views) is
 by_refusal Dead views settings places one number is =
     on_bool (λ b. cond b (Ok places) (Err 402) ≡ Err number
-    → cond b (Ok (record { views = views; places = places })) (Err 402) ≡ Err number)
+    → cond b (Ok (both views places)) (Err 402) ≡ Err number)
     (length one.places == 0) (λ t so. absurd (cc (so)))
     (λ f so. let same : 402 ≡ number = cc (so) in ap (λ n. Err n) same) is
 

@@ -88,16 +88,16 @@ impl Node {
             most: self.settings.report_size(),
         };
         let page = self.host.firm_page(alloc, &asked)?;
-        Ok(self.report_with(range, after, page))
+        Ok(self.report_with(&asked, page))
     }
 
-    // The report that tells this page of what is firm.
-    fn report_with(&self, range: RingRange, after: Option<GrainId>, page: FirmPage) -> Report
-        ensures { result ≡ record { version = self.now.view.version; range = range; silo = self.now.host.silo; after = after; entries = page.entries.items; last = page.last } }
+    // The report that tells the page asked for.
+    fn report_with(&self, asked: &PageAsked, page: FirmPage) -> Report
+        ensures { result ≡ record { version = self.now.view.version; range = asked.now.range; silo = self.now.host.silo; after = asked.now.after; entries = page.entries.items; last = page.last } }
     {
         let (version, silo) = (self.view.version(), self.host.silo());
         let FirmPage { entries, last } = page;
-        Report::new(version, range, silo, after, entries, last)
+        Report::new(version, asked.range, silo, asked.after, entries, last)
     }
 
     // A report comes. Where its silo has more to tell, it is answered by one query.

@@ -142,12 +142,7 @@ impl Sender<'_> {
     }
 
     // A query to the silo for what stands in the range behind that grain, or from its start on.
-    fn query_behind(
-        &self,
-        silo: SiloAddress,
-        range: RingRange,
-        after: Option<GrainId>,
-    ) -> Letter
+    fn query_behind(&self, silo: SiloAddress, range: RingRange, after: Option<GrainId>) -> Letter
         ensures { result ≡ letter_to silo (sending self.now) (Query_letter range after) }
     {
         self.letter_to(silo, Body::Query { range, after })
