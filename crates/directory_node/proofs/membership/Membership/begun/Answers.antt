@@ -1,4 +1,4 @@
-use Rattle.std.proofs.Common.{◌≡◌, ◌∙◌, ap, take, take_all, List}
+use Rattle.std.proofs.Common.{◌≡◌, ◌∙◌, ap, sym, take, take_all, List}
 use Rattle.directory_rules.specs.ListedModel.{all_listed_of}
 use Rattle.directory_rules.specs.declared.Listed.{Listed}
 use Rattle.directory_rules.specs.Membership.{begun}
