@@ -1,17 +1,17 @@
 //! Membership as a world has it, or a silo by what it was told: all that changes of membership make.
 
-ghost use Rattle.std.specs.Prelude.{◌≡◌, ◌≤◌, ◌<◌, ◌↔◌, IfErr, IfOk, IsOk, IsSomeAnd, Ok, OnErr, OnOk};
+ghost use Rattle.std.specs.Prelude.{◌≡◌, ◌≤◌, ◌==◌, [], IfErr, IfOk, IsOk, IsSomeAnd, Ok, OnErr, OnOk, false, length, true};
 ghost use Rattle.membership_view.specs.Beginning.{after_listing, with_listed};
 ghost use Rattle.membership_view.specs.Changes.{after_join, with_join};
 ghost use Rattle.membership_view.specs.Refusal.{views_error_number};
-ghost use Rattle.membership_view.specs.Views.{most_known, view_at};
+ghost use Rattle.membership_view.specs.Views.{view_at};
 ghost use Rattle.hash_ring.specs.Numbers.{ring_error_number};
 ghost use Rattle.hash_ring.specs.Places.{after_add};
 ghost use Rattle.directory_rules.specs.ListedModel.{all_listed_of, listed_of};
-ghost use Rattle.directory_rules.specs.Membership.{Join, Leave, Die, begun, changed, first_membership, is_seeable, listed, membership_from, placed, replaced_by, status_in};
+ghost use Rattle.directory_rules.specs.Membership.{Join, Leave, Die, begun, changed, first_membership, is_seeable, listed, placed, replaced_by, status_in};
 ghost use Rattle.directory_rules.specs.Settings.{Settings as SettingsValue};
 ghost use Rattle.node_plans.specs.Follows.{Follows};
-ghost use Rattle.directory_node.specs.MembershipModel.{IsNumberedUnlessMemory, MayBeListed, RefusesPlaces, change_refusal_number};
+ghost use Rattle.directory_node.specs.MembershipModel.{IsNumberedUnlessMemory, ListsSome, MayBeListed, RefusesPlaces, change_refusal_number, places_of_listed};
 
 use directory_rules::{Listed, Settings};
 use hash_ring::{Hashing, Places, RingError};
@@ -65,14 +65,15 @@ impl Membership {
 
     /// What is known by the view of a version alone, in place of all changes up to it. Refused by 210 where no history may begin with that
     /// version; then silo by silo, the first one first: by 210 where its endpoint was listed, or the version is 0; by 205 where as many
-    /// are known as may be; by 402, 403 as at a join, or by 402 where places are stated for one that is Dead.
+    /// are known as may be; by 402, 403 as at a join, or by 402 where places are stated for one that is Dead. Memory runs out only at a
+    /// silo that isn't refused, behind others that aren't.
     pub fn begun(
         alloc: Global,
         settings: &Settings,
         version: u64,
         rows: &[Listed],
     ) -> Result<Membership, ChangeRefusal>
-        ensures begun { Follows (λ m. m) change_refusal_number IsOk (begun settings.now version (all_listed_of rows.now)) result }
+        ensures begun { Follows (λ m. m) change_refusal_number (λ _. ListsSome settings.now version (all_listed_of rows.now)) (begun settings.now version (all_listed_of rows.now)) result }
         ensures numbered { IfErr result IsNumberedUnlessMemory }
     {
         let mut begun = Membership::before_listing(alloc, settings, version)?;
@@ -82,15 +83,14 @@ impl Membership {
         Ok(begun)
     }
 
-    // Before any silo is known.
+    // Before any silo is listed.
     fn before_listing(
         alloc: Global,
         settings: &Settings,
         version: u64,
     ) -> Result<Membership, ChangeRefusal>
-        ensures made { IfOk result (λ m. m ≡ membership_from settings.now version) }
-        ensures early { IsOk result ↔ (version < most_known) }
-        ensures refused { IfErr result (λ refusal. refusal ≡ ChangeRefusal.Views ViewsError.NotListable) }
+        ensures begun { Follows (λ m. m) change_refusal_number IsOk (begun settings.now version []) result }
+        ensures numbered { IfErr result (λ refusal. refusal ≡ ChangeRefusal.Views ViewsError.NotListable) }
     {
         settings.in_range();
         let Ok(places) = Places::new(alloc, settings.hashing(), settings.points()) else {
@@ -102,7 +102,7 @@ impl Membership {
         }
     }
 
-    // A silo is listed.
+    // A silo is listed. What is begun is lost where memory runs out.
     fn list(&mut self, settings: &Settings, one: &Listed) -> Result<(), ChangeRefusal>
         ensures listed { Follows (λ _. self.new) change_refusal_number IsOk (listed settings.now self.old (listed_of one.now)) result }
         ensures numbered { IfErr result IsNumberedUnlessMemory }
@@ -125,24 +125,19 @@ impl Membership {
         ensures refused { IfErr result (λ refusal. IsSomeAnd (ring_error_number refusal) (λ number. RefusesPlaces settings.now self.now.places (listed_of one.now) number)) }
     {
         match one.status {
-            Status::Active | Status::Leaving => self.may_place(settings, &one.silo, &one.places),
-            Status::Dead if one.places.is_empty() => Ok(()),
-            Status::Dead => Err(RingError::PointCount),
+            Status::Active => self.may_place(settings, &one.silo, &one.places),
+            Status::Leaving => self.may_place(settings, &one.silo, &one.places),
+            Status::Dead => may_state_none(&one.places),
         }
     }
 
-    // A silo that may be listed is, with its places. What is begun is lost where memory runs out.
+    // A silo that may be listed is, with its places.
     fn put_listed(&mut self, settings: &Settings, one: &Listed) -> Result<(), AllocError>
         requires lists { after_listing self.old.views one.now.silo one.now.status ≡ Ok (with_listed self.old.views one.now.silo one.now.status) }
         requires placed { MayBeListed settings.now self.old.places (listed_of one.now) }
         ensures { OnOk result (listed settings.now self.old (listed_of one.now) ≡ Ok self.new) }
     {
-        if one.status != Status::Dead {
-            match self.places.add(one.silo, &one.places) {
-                Ok(()) => {}
-                Err(_) => return Err(AllocError),
-            }
-        }
+        place_listed(&mut self.places, settings, one)?;
         match self.views.list(one.silo, one.status) {
             Ok(()) => Ok(()),
             Err(_) => Err(AllocError),
@@ -302,5 +297,31 @@ impl Membership {
             Ok(_) => Ok(()),
             Err(refusal) => Err(ChangeRefusal::Views(refusal)),
         }
+    }
+}
+
+// Whether no places are stated, as for a silo that is Dead: 402.
+fn may_state_none(stated: &[u32]) -> Result<(), RingError>
+    ensures none { OnOk result ((length stated.now == 0) ≡ true) }
+    ensures some { OnErr result ((length stated.now == 0) ≡ false) }
+    ensures only { IfErr result (λ refusal. refusal ≡ RingError.PointCount) }
+{
+    if !stated.is_empty() {
+        return Err(RingError::PointCount);
+    }
+    Ok(())
+}
+
+// A silo that is listed gets the places stated for it, but for one that is Dead.
+fn place_listed(places: &mut Places, settings: &Settings, one: &Listed) -> Result<(), AllocError>
+    requires { MayBeListed settings.now places.old (listed_of one.now) }
+    ensures { OnOk result (places_of_listed settings.now places.old (listed_of one.now) ≡ Ok places.new) }
+{
+    if one.status == Status::Dead {
+        return Ok(());
+    }
+    match places.add(one.silo, &one.places) {
+        Ok(()) => Ok(()),
+        Err(_) => Err(AllocError),
     }
 }

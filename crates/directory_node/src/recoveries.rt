@@ -1,7 +1,7 @@
 ghost use Rattle.std.specs.BTreeMap.{is_at};
 ghost use Rattle.std.specs.Map.{lookup};
 ghost use Rattle.std.specs.Ordering.{nat_cmp};
-ghost use Rattle.std.specs.Prelude.{◌≡◌, IsTrue, IfOk, IfErr, OnOk, OnErr, Ok, Some, length, true};
+ghost use Rattle.std.specs.Prelude.{◌≡◌, ◌||◌, nat_lt, IsTrue, IfOk, IfErr, OnOk, OnErr, Ok, Some, length, true};
 ghost use Rattle.directory_rules.specs.State.{Recovery as RecoveryValue};
 ghost use Rattle.directory_rules.specs.Recovery.{recovered};
 ghost use Rattle.directory_rules.specs.Standing.{last_grain};
@@ -87,10 +87,17 @@ impl Node {
             after,
             most: self.settings.report_size(),
         };
-        let FirmPage { entries, last } = self.host.firm_page(alloc, &asked)?;
-        let silo = self.host.silo();
-        let version = self.view.version();
-        Ok(Report::new(version, range, silo, after, entries, last))
+        let page = self.host.firm_page(alloc, &asked)?;
+        Ok(self.report_with(&asked, page))
+    }
+
+    // The report that tells the page asked for.
+    fn report_with(&self, asked: &PageAsked, page: FirmPage) -> Report
+        ensures { result ≡ record { version = self.now.view.version; range = asked.now.range; silo = self.now.host.silo; after = asked.now.after; entries = page.entries.items; last = page.last } }
+    {
+        let (version, silo) = (self.view.version(), self.host.silo());
+        let FirmPage { entries, last } = page;
+        Report::new(version, asked.range, silo, asked.after, entries, last)
     }
 
     // A report comes. Where its silo has more to tell, it is answered by one query.
@@ -118,7 +125,9 @@ impl Node {
         }
         match self.progress_with(report) {
             Ok(RecoveryProgress::Continues) => 1,
-            Ok(RecoveryProgress::More | RecoveryProgress::Complete) | Err(_) => 0,
+            Ok(RecoveryProgress::More) => 0,
+            Ok(RecoveryProgress::Complete) => 0,
+            Err(_) => 0,
         }
     }
 
@@ -158,10 +167,8 @@ impl Node {
     fn query_on(&self, report: &Report) -> Letter
         ensures { result ≡ letter_to report.now.silo self.now (Query_letter report.now.range (last_grain report.now.after report.now.entries)) }
     {
-        let after = report.last_grain();
-        let range = report.range();
-        let body = Body::Query { range, after };
-        Letter::new(self.host.silo(), report.silo(), self.view.version(), body)
+        let (range, after) = (report.range(), report.last_grain());
+        self.letter_to(report.silo(), Body::Query { range, after })
     }
 
     // A report that counts is taken.
@@ -203,7 +210,7 @@ impl Node {
             )
             && lie_in(self.settings.hashing(), report.range(), report.entries())
             && are_all_of(letter.from(), report.entries())
-            && (report.is_last() || !report.entries().is_empty())
+            && tells_enough(report)
     }
 
     // Whether a piece of just that range recovers, at that version.
@@ -218,4 +225,11 @@ impl Node {
             None => false,
         }
     }
+}
+
+// Whether the report is the last one, or tells of an activation: one that does neither would be asked for again and again.
+fn tells_enough(report: &Report) -> bool
+    ensures { result ≡ (report.now.last || nat_lt 0 (length report.now.entries)) }
+{
+    report.is_last() || !report.entries().is_empty()
 }

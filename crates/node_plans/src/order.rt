@@ -45,7 +45,7 @@ pub fn rise_behind(
     after: Option<GrainId>,
     entries: &[Entry],
 ) -> bool
-    ensures { result ≡ rise_behind (hash_grain hashing) (range.now ∷ []) after entries.now }
+    ensures { result ≡ rise_behind (hash_grain hashing) (range ∷ []) after entries.now }
 {
     let mut behind = after;
     let mut rest = entries;

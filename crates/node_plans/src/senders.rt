@@ -2,10 +2,10 @@ ghost use Rattle.std.specs.Map.Iter.{ShowsInOrder, deref_pair};
 ghost use Rattle.std.specs.List.{cons_option};
 ghost use Rattle.std.specs.Prelude.{◌≡◌, ◌++◌, ℕ, [], IfOk, OnErr, OnOk, flat_map, length, map};
 ghost use Rattle.directory_rules.specs.Recovery.{told_by};
-ghost use Rattle.directory_rules.specs.Sent.{ask_letters, gathering_of, letter_to, owner_by, query_letters, recovery_of, request_letters, request_of, wants_by};
+ghost use Rattle.directory_rules.specs.Sent.{ask_letters, gathering_of, letter_to, owner_by, query_letters, request_letters, request_of, wants_by};
 ghost use Rattle.directory_letters.specs.LetterModel.{body_of};
 ghost use Rattle.directory_rules.specs.State.{Query_letter, Piece as PieceValue};
-ghost use Rattle.node_plans.specs.Sender.{sending, wants_of};
+ghost use Rattle.node_plans.specs.Sender.{queries_of, sending, wants_of};
 
 use crate::plan::list_of;
 use directory_letters::{Body, Letter};
@@ -120,7 +120,7 @@ impl Sender<'_> {
     /// A query for the recovery's range to each silo that is awaited, by address, behind what it has told. Fails only when memory
     /// runs out.
     pub fn queries(&self, alloc: Global, recovery: &Recovery) -> Result<Vec<Letter>, AllocError>
-        ensures { IfOk result (λ letters. letters.items ≡ map (λ silo. letter_to silo (sending self.now) (Query_letter recovery.now.range (told_by silo recovery.now))) recovery.now.awaiting) }
+        ensures { IfOk result (λ letters. letters.items ≡ queries_of (sending self.now) recovery.now.range recovery.now) }
     {
         let silos = recovery.awaiting(alloc)?;
         self.queries_to(alloc, recovery, &silos)
@@ -141,13 +141,8 @@ impl Sender<'_> {
             .collect(alloc)
     }
 
-    /// A query to the silo for what stands in the range behind that grain, or from its start on.
-    pub fn query_behind(
-        &self,
-        silo: SiloAddress,
-        range: RingRange,
-        after: Option<GrainId>,
-    ) -> Letter
+    // A query to the silo for what stands in the range behind that grain, or from its start on.
+    fn query_behind(&self, silo: SiloAddress, range: RingRange, after: Option<GrainId>) -> Letter
         ensures { result ≡ letter_to silo (sending self.now) (Query_letter range after) }
     {
         self.letter_to(silo, Body::Query { range, after })
@@ -308,8 +303,7 @@ impl Sender<'_> {
         range: RingRange,
         recovery: &Recovery,
     ) -> Result<(), AllocError>
-        requires its { recovery.now ≡ recovery_of (sending self.now) range }
-        ensures { OnOk result (letters.new.items ≡ letters.old.items ++ query_letters (sending self.now) range) }
+        ensures { OnOk result (letters.new.items ≡ letters.old.items ++ queries_of (sending self.now) range recovery.now) }
     {
         let awaiting = recovery.awaiting(alloc)?;
         for silo in &awaiting {
