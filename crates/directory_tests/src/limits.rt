@@ -24,7 +24,9 @@ const PLACES: usize = 128;
 // The world of a directory without caches, before the first event.
 fn empty(rt: &impl Abort, alloc: Global) -> Box<World> {
     let settings = Settings::of_directory(Hashing::Stated, 30, 0).expect(rt, "30 points");
-    let settings = settings.with_activations(ACTIVATIONS as usize).expect(rt, "activations");
+    let settings = settings
+        .with_activations(ACTIVATIONS as usize)
+        .expect(rt, "activations");
     boxed(rt, alloc, settings)
 }
 

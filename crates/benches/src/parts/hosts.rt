@@ -92,7 +92,7 @@ fn sum_of_report(alloc: Global, host: &Host, range: &RingRange) -> Result<u64, F
         after: None,
         most: REPORT_SIZE,
     };
-    loop {
+    for _page in 0..COUNT {
         let page = host.firm_page(alloc, &asked)?;
         for entry in &page.entries {
             sum = sum.wrapping_add(1).wrapping_add(entry.activation.count);
@@ -102,4 +102,5 @@ fn sum_of_report(alloc: Global, host: &Host, range: &RingRange) -> Result<u64, F
             return Ok(sum);
         }
     }
+    Err(Fault::Missing)
 }

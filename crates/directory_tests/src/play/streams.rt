@@ -141,9 +141,7 @@ fn play(
 // Whether the play breaks at the write after so many, and all that those took is there.
 fn breaks_at_write(rt: &impl Abort, alloc: Global, writes: u64) -> bool {
     let (ended, taken) = play(rt, alloc, u64::MAX, writes);
-    ended == Ended::Broken
-        && taken.len() as u64 == writes
-        && TEXT.as_bytes().starts_with(&taken)
+    ended == Ended::Broken && taken.len() as u64 == writes && TEXT.as_bytes().starts_with(&taken)
 }
 
 // Whether it breaks at the read after so many, and whole lines are there, which are a beginning.
