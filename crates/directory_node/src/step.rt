@@ -62,7 +62,7 @@ impl Node {
     pub fn plan_letter(&self, alloc: Global, letter: &Letter) -> Result<Plan, AllocError>
         ensures planned { IfOk result (λ plan. step_by self.now plan ≡ received self.now letter.now) }
         ensures fits { IfOk result (λ plan. Fits plan.change self.now) }
-        ensures answers { OnErr result (length (received self.now letter.now).letters ≡ answer_count self.now letter.now.body) }
+        ensures answers { OnErr result (length (received self.now letter.now).letters ≡ answer_count self.now letter.now letter.now.body) }
     {
         match letter.body() {
             Body::Request(request) => self.plan_request(alloc, letter, request),
