@@ -8,7 +8,7 @@ from time import monotonic, sleep
 
 ETCDS = ("e1", "e2", "e3")
 BROKERS = ("n1", "n2")
-TTL = 3
+TTL = int(os.environ.get("TTL", "3"))
 
 
 class Processes:
