@@ -6,7 +6,7 @@ use Rattle.std.proofs.lemmas.List.{map-append, map_more, take-append-drop}
 use Rattle.membership_view.specs.declared.Status.{Status}
 use Rattle.membership_view.specs.declared.Status.TheVariants.{Active, Leaving, Dead}
 use Rattle.membership_view.specs.Beginning.{after_listing}
-use Rattle.membership_view.specs.Views.{ViewsValue, most_known}
+use Rattle.membership_view.specs.Views.{ViewsValue, most_known, views_from}
 use Rattle.hash_ring.specs.Places.{PlacesValue, after_add}
 use Rattle.directory_rules.proofs.Cases.{on_bool}
 use Rattle.directory_rules.specs.Settings.{Settings}
@@ -88,8 +88,8 @@ by_places : (status : Status) (views : ViewsValue) (settings : Settings) (places
 by_places Active views settings places new one is = ap (λ p. with_places p views) is
 by_places Leaving views settings places new one is = ap (λ p. with_places p views) is
 by_places Dead views settings places new one is =
-    on_bool (λ b. cond b (Ok places) (Err 402) ≡ Ok new
-    → cond b (Ok (both views places)) (Err 402) ≡ Ok (both views new))
+    on_bool (λ b. cond {A = Result PlacesValue ℕ} b (Ok places) (Err 402) ≡ Ok new
+    → cond {A = Result Membership ℕ} b (Ok (both views places)) (Err 402) ≡ Ok (both views new))
     (length one.places == 0)
     (λ t so. let same : places ≡ new = cc (so) in ap (λ (p : PlacesValue). Ok (both views p)) same)
     (λ f so. absurd (cc (so))) is
@@ -107,8 +107,8 @@ by_refusal : (status : Status) (views : ViewsValue) (settings : Settings) (place
 by_refusal Active views settings places one number is = ap (λ p. with_places p views) is
 by_refusal Leaving views settings places one number is = ap (λ p. with_places p views) is
 by_refusal Dead views settings places one number is =
-    on_bool (λ b. cond b (Ok places) (Err 402) ≡ Err number
-    → cond b (Ok (both views places)) (Err 402) ≡ Err number)
+    on_bool (λ b. cond {A = Result PlacesValue ℕ} b (Ok places) (Err 402) ≡ Err number
+    → cond {A = Result Membership ℕ} b (Ok (both views places)) (Err 402) ≡ Err number)
     (length one.places == 0) (λ t so. absurd (cc (so)))
     (λ f so. let same : 402 ≡ number = cc (so) in ap (λ n. Err n) same) is
 
@@ -129,16 +129,35 @@ may_be_listed settings m one views lists may = by (places_of_listed settings m.p
     by (Err number) is may = absurd (cc (may))
 
 -- ---- one after the other
+pub refuses_by : {A : Type 0} (excused : Result A ℕ → Type 0) (number : Option ℕ) (outcome : Result A ℕ)
+    → IsSomeAnd number (λ n. outcome ≡ Err n) → RefusesBy excused number outcome
+refuses_by excused None outcome refused = absurd refused
+refuses_by excused (Some n) outcome refused = refused
+
+pub some_weaker : (number : Option ℕ) (P Q : ℕ → Type 0) → ((n : ℕ) → P n → Q n) → IsSomeAnd number P → IsSomeAnd number Q
+some_weaker None P Q weaker some = some
+some_weaker (Some n) P Q weaker some = weaker n some
+
 pub before_any : (settings : Settings) (version : ℕ) → (¬ (version < most_known) → ⊥)
     → begun settings version [] ≡ Ok (membership_from settings version)
 before_any settings version early =
-    on_bool (λ b. nat_lt version most_known ≡ b → cond b (Ok (membership_from settings version)) (Err 210) ≡ Ok (membership_from settings version))
+    on_bool (λ b. nat_lt version most_known ≡ b → cond {A = Result Membership ℕ} b (Ok (membership_from settings version)) (Err 210) ≡ Ok (membership_from settings version))
     (nat_lt version most_known) (λ t is. refl)
     (λ f is. absurd (early (λ below. cc (sym (lt-ltb version most_known below) ∙ is)))) refl
 
+-- so it is in what the code begins with
+pub begun_so : (settings : Settings) (version : ℕ) (views : ViewsValue) (places : PlacesValue) → (¬ (version < most_known) → ⊥)
+    → views ≡ views_from settings.silos version
+    → places ≡ record { hashing = settings.hashing; points = settings.points; entries = [] }
+    → begun settings version [] ≡ Ok (both views places)
+begun_so settings version views places early views_are places_are =
+    before_any settings version early
+    ∙ ap (λ (v : ViewsValue). Ok (both v (record { hashing = settings.hashing; points = settings.points; entries = [] }))) (sym views_are)
+    ∙ ap (λ (p : PlacesValue). Ok (both views p)) (sym places_are)
+
 pub too_late : (settings : Settings) (version : ℕ) → ¬ (version < most_known) → begun settings version [] ≡ Err 210
 too_late settings version late =
-    on_bool (λ b. nat_lt version most_known ≡ b → cond b (Ok (membership_from settings version)) (Err 210) ≡ Err 210)
+    on_bool (λ b. nat_lt version most_known ≡ b → cond {A = Result Membership ℕ} b (Ok (membership_from settings version)) (Err 210) ≡ Err 210)
     (nat_lt version most_known) (λ t is. absurd (late (ltb-true version most_known is))) (λ f is. refl) refl
 
 pub refused_all : (settings : Settings) (number : ℕ) (rows : List Listed) → listed_all settings (Err number) rows ≡ Err number

@@ -72,12 +72,13 @@ module _ (settings : Settings) (places : PlacesValue) (silo : Silo) (stated : Li
       (is_added places silo) (with_silo places silo stated)
 
 -- ---- and of one that is listed
-none_stated : (none : Bool) (places : PlacesValue) → cond none None (Some 402) ≡ None → IsOk (cond none (Ok places) (Err 402))
+none_stated : (none : Bool) (places : PlacesValue) → cond {A = Option ℕ} none None (Some 402) ≡ None
+    → IsOk (cond {A = Result PlacesValue ℕ} none (Ok places) (Err 402))
 none_stated true places fit = refl
 none_stated false places fit = absurd (cc (fit))
 
-some_stated : (none : Bool) (places : PlacesValue) (number : ℕ) → cond none None (Some 402) ≡ Some number
-    → cond none (Ok places) (Err 402) ≡ Err number
+some_stated : (none : Bool) (places : PlacesValue) (number : ℕ) → cond {A = Option ℕ} none None (Some 402) ≡ Some number
+    → cond {A = Result PlacesValue ℕ} none (Ok places) (Err 402) ≡ Err number
 some_stated true places number is = absurd (cc (is))
 some_stated false places number is = let same : 402 ≡ number = cc (is) in ap (λ n. Err n) same
 
