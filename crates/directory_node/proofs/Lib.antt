@@ -2,4 +2,4 @@ pub mod Numbered
 pub mod SightBy
 mod StatedPlaces
 mod ListedSilos
-pub mod ListedRows
+mod ListedRows

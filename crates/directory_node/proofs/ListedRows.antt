@@ -1,17 +1,17 @@
 -- What is known once silos were listed, as far as one more silo is judged by it.
 use Rattle.std.proofs.Common.{◌≡◌, ◌≢◌, ◌<◌, ◌≤◌, ◌⊎◌, inl, inr, refl, sym, subst, ap, ◌∙◌, ℕ, List, [], ◌∷◌, ◌++◌, append_assoc, append-nil, arith}
-use Rattle.std.specs.Prelude.{Bool, true, false, cond, ◌==◌, ◌&&◌, ◌||◌, not, nat_lt, length, IsOk, IsSomeAnd, is_ok, is_some, Option, Some, None, Result, Ok, Err}
-use Rattle.std.specs.List.{list_all, list_any}
+use Rattle.std.specs.Prelude.{Bool, true, false, cond, ◌==◌, ◌||◌, not, nat_lt, length, IsOk, IsSomeAnd, is_ok, is_some, Option, Some, None, Result, Ok, Err}
+use Rattle.std.specs.List.{list_any}
 use Rattle.std.specs.Map.{lookup}
 use Rattle.std.specs.BTreeMap.{is_at, insert_entry}
 use Rattle.std.specs.Ordering.{match_ordering}
 use Rattle.std.specs.declared.cmp.Ordering.{Ordering}
 use Rattle.std.specs.declared.cmp.Ordering.TheVariants.{Less, Equal, Greater}
-use Rattle.std.proofs.Math.Bool.{and_self_left, or_self_left}
+use Rattle.std.proofs.Math.Bool.{or_self_left}
 use Rattle.std.proofs.lemmas.Bool.{false_from_ne_true, lt-ltb, or_left, or_right}
 use Rattle.std.proofs.lemmas.Bool.Decides.{nat_tests}
 use Rattle.std.proofs.lemmas.List.{length-append, length-map}
-use Rattle.std.proofs.lemmas.List.Folds.{list_all-append, list_any-append}
+use Rattle.std.proofs.lemmas.List.Folds.{list_any-append}
 use Rattle.texts.proofs.Orderings.{Equal-from}
 use Rattle.texts.proofs.Entries.{length-insert_entry, lookup-insert_entry}
 use Rattle.silo_address.specs.Silo.{Silo, silo_cmp}
@@ -19,7 +19,6 @@ use Rattle.silo_address.proofs.Order.{silo_cmp_exact, silo_cmp_total}
 use Rattle.membership_view.specs.declared.Row.{Row}
 use Rattle.membership_view.specs.declared.Status.{Status}
 use Rattle.membership_view.specs.declared.Status.TheVariants.{Active, Leaving, Dead}
-use Rattle.membership_view.specs.Changes.{is_newest}
 use Rattle.membership_view.specs.Beginning.{after_listing, beginning, is_known_endpoint, with_listed}
 use Rattle.membership_view.specs.View.{shares_endpoint}
 use Rattle.membership_view.specs.Views.{ViewsValue, most_known}
@@ -47,7 +46,6 @@ pub record AreListed (settings : Settings) (version : ℕ) (front : List Listed)
   pub limit : m.views.limit ≡ settings.silos
   pub count : length m.views.rows ≡ length front
   pub known : (silo : Silo) → is_known_endpoint silo m.views.rows ≡ is_listed_endpoint silo front
-  pub every : (test : Silo → Bool) → list_all (λ x. test x.0) m.views.rows ≡ list_all (λ one. test one.silo) front
   pub hashing : m.places.hashing ≡ settings.hashing
   pub added : (silo : Silo) → is_added m.places silo ≡ true → is_known_endpoint silo m.views.rows ≡ true
 
@@ -81,33 +79,6 @@ any_put test silo row (e ∷ es) = by (silo_cmp silo e.0) refl (any_put test sil
         ∙ ap (λ (k : Silo). test k || (test e.0 || list_any (λ x. test x.0) es)) (sym (silo_cmp_exact silo e.0 at))
     by Greater at later =
         ap (λ b. test e.0 || b) later ∙ or_swap (test e.0) (test silo) (list_any (λ x. test x.0) es)
-
-and_swap : (a b c : Bool) → (a && (b && c)) ≡ (b && (a && c))
-and_swap true b c = refl
-and_swap false true c = refl
-and_swap false false c = refl
-
-and_last : (a b : Bool) → (a && b) ≡ (b && (a && true))
-and_last true true = refl
-and_last true false = refl
-and_last false true = refl
-and_last false false = refl
-
-all_put : {X : Type 0} (test : Silo → Bool) (silo : Silo) (row : X) (rows : List (Silo × X))
-    → list_all (λ x. test x.0) (insert_entry silo_cmp rows silo row) ≡ (test silo && list_all (λ x. test x.0) rows)
-all_put test silo row [] = refl
-all_put test silo row (e ∷ es) = by (silo_cmp silo e.0) refl (all_put test silo row es)
-  where
-    by : (r : Ordering) → silo_cmp silo e.0 ≡ r
-        → list_all (λ x. test x.0) (insert_entry silo_cmp es silo row) ≡ (test silo && list_all (λ x. test x.0) es)
-        → list_all (λ x. test x.0) (match_ordering r ((silo, row) ∷ e ∷ es) ((e.0, row) ∷ es) (e ∷ insert_entry silo_cmp es silo row))
-        ≡ (test silo && (test e.0 && list_all (λ x. test x.0) es))
-    by Less at later = refl
-    by Equal at later =
-        sym (and_self_left (test e.0) (list_all (λ x. test x.0) es))
-        ∙ ap (λ (k : Silo). test k && (test e.0 && list_all (λ x. test x.0) es)) (sym (silo_cmp_exact silo e.0 at))
-    by Greater at later =
-        ap (λ b. test e.0 && b) later ∙ and_swap (test e.0) (test silo) (list_all (λ x. test x.0) es)
 
 no_row : (silo : Silo) (rows : List (Silo × Row)) → is_known_endpoint silo rows ≡ false → found_row rows silo ≡ None
 no_row silo rows apart = by (found_row rows silo) refl
@@ -204,11 +175,6 @@ module _ (settings : Settings) (version : ℕ) (front : List Listed) (m : Member
         knows_more silo ∙ ap (λ b. shares_endpoint silo one.silo || b) (had.known silo)
         ∙ or_last (shares_endpoint silo one.silo) (is_listed_endpoint silo front)
         ∙ sym (list_any-append (λ x. shares_endpoint silo x.silo) front (one ∷ []));
-    every = λ test.
-        ap (λ (v : ViewsValue). list_all (λ x. test x.0) v.rows) listing.is
-        ∙ all_put test one.silo (beginning m.views.first one.status) m.views.rows ∙ ap (λ b. test one.silo && b) (had.every test)
-        ∙ and_last (test one.silo) (list_all (λ x. test x.silo) front)
-        ∙ sym (list_all-append (λ x. test x.silo) front (one ∷ []));
     hashing = its.hashing ∙ had.hashing;
     added = λ silo yes. elim (its.added silo yes) [
       | inl same ↦ knows_more silo ∙ or_left (shares_endpoint silo one.silo) (is_known_endpoint silo m.views.rows)
@@ -240,7 +206,6 @@ none_listed settings version = record {
   limit = refl;
   count = refl;
   known = λ silo. refl;
-  every = λ test. refl;
   hashing = refl;
   added = λ silo yes. absurd (cc (yes));
 }
@@ -252,12 +217,6 @@ are_listed settings version front m =
     (nat_lt version most_known)
     (λ t is. all_listed settings version front [] (membership_from settings version) m (none_listed settings version) is)
     (λ f is. absurd (cc (is)))
-
--- whether a silo is newer than all of its endpoint that were listed
-pub newest_listed : (settings : Settings) (version : ℕ) (front : List Listed) (m : Membership) → begun settings version front ≡ Ok m
-    → (own : Silo) → is_newest own m.views.rows ≡ list_all (λ one. not (shares_endpoint own one.silo) || nat_lt one.silo.generation own.generation) front
-newest_listed settings version front m is own =
-    (are_listed settings version front m is).every (λ k. not (shares_endpoint own k) || nat_lt k.generation own.generation)
 
 -- ---- what becomes of one more
 made_by : {A : Type 0} (r : Result A ℕ) → IsOk r → (x : A) × (r ≡ Ok x)

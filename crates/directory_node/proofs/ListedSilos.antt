@@ -41,7 +41,7 @@ pub dead_placed : (settings : Settings) (places : PlacesValue) (one : Listed) �
     → places_of_listed settings places one ≡ Ok places
 dead_placed settings places one dead may =
     ap (λ (s : Status). places_by s settings places one.silo one.places) dead
-    ∙ on_bool (λ b. (length one.places == 0) ≡ b → cond b (Ok places) (Err 402) ≡ Ok places) (length one.places == 0) (λ t is. refl)
+    ∙ on_bool (λ b. (length one.places == 0) ≡ b → cond {A = Result PlacesValue ℕ} b (Ok places) (Err 402) ≡ Ok places) (length one.places == 0) (λ t is. refl)
     (λ f is. absurd (not_right (places_of_listed settings places one) 402 (some_for_dead settings places one dead is) may)) refl
 
 -- any other one as at a join
