@@ -65,13 +65,15 @@ module _ (settings : Settings) (own : Silo) where
   newest_all : (m next : Membership) (rows : List Listed) → listed_all settings (Ok m) rows ≡ Ok next
       → is_newest own next.views.rows ≡ (all_let_join own rows && is_newest own m.views.rows)
   newest_all m next [] is = let same : m ≡ next = cc (is) in ap (λ (x : Membership). is_newest own x.views.rows) (sym same)
-  newest_all m next (one ∷ rows) is = by (listed settings m one) refl is
+  newest_all m next (one ∷ rows) is = by (λ after. newest_all after next rows) (listed settings m one) refl is
     where
-      by : (o : Result Membership ℕ) → listed settings m one ≡ o → listed_all settings o rows ≡ Ok next
+      by : ((after : Membership) → listed_all settings (Ok after) rows ≡ Ok next
+          → is_newest own next.views.rows ≡ (all_let_join own rows && is_newest own after.views.rows))
+          → (o : Result Membership ℕ) → listed settings m one ≡ o → listed_all settings o rows ≡ Ok next
           → is_newest own next.views.rows ≡ (all_let_join own (one ∷ rows) && is_newest own m.views.rows)
-      by (Err number) at h = absurd (cc (h))
-      by (Ok after) at h =
-          newest_all after next rows h ∙ ap (λ b. all_let_join own rows && b) (newest_more m after one at)
+      by others (Err number) at h = absurd (cc (h))
+      by others (Ok after) at h =
+          others after h ∙ ap (λ b. all_let_join own rows && b) (newest_more m after one at)
           ∙ in_front (all_let_join own rows) (lets_join own one.silo) (is_newest own m.views.rows)
 
   newest_begun : (version : ℕ) (rows : List Listed) (made : Membership) → begun settings version rows ≡ Ok made

@@ -1,5 +1,5 @@
 -- Bytes cut at their first mark, and a word that lists a silo, cut at its colons.
-use Rattle.std.proofs.Common.{◌≡◌, ◌≢◌, ap, ◌∙◌, sym, refl, ℕ, ◌+◌, ◌-◌, ◌<◌, ◌≤◌, suc, ◌==◌, List, [], ◌∷◌, ◌++◌, length, get_or, take, drop, arith, Option, Some, None, Result, Err, add-one, append_assoc, append-nil, drop-cons}
+use Rattle.std.proofs.Common.{◌≡◌, ◌≢◌, ap, ◌∙◌, sym, ℕ, ◌+◌, ◌-◌, ◌<◌, ◌≤◌, suc, ◌==◌, List, [], ◌∷◌, ◌++◌, length, get_or, take, drop, arith, Option, Some, Err, add-one, append_assoc, append-nil, drop-cons}
 use Rattle.std.proofs.Math.Seq.{take-append_seam}
 use Rattle.std.proofs.lemmas.Bool.{eqb-true, eqb-false}
 use Rattle.std.proofs.lemmas.List.{length-append, length-drop, take-append-drop, take_rest}
