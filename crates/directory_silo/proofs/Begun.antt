@@ -40,20 +40,22 @@ and_true : (b : Bool) → (b && true) ≡ b
 and_true true = refl
 and_true false = refl
 
+-- whether all silos with a row pass a test
+abbrev all_pass : (Silo → Bool) → List (Silo × Row) → Bool
+all_pass p rows = list_all (λ e. p e.0) rows
+
 put_in : (p : Silo → Bool) (silo : Silo) (row : Row) (rows : List (Silo × Row))
-    → list_all (λ e. p e.0) (insert_entry silo_cmp rows silo row) ≡ (p silo && list_all (λ e. p e.0) rows)
+    → all_pass p (insert_entry silo_cmp rows silo row) ≡ (p silo && all_pass p rows)
 put_in p silo row [] = refl
 put_in p silo row (e ∷ es) = by (silo_cmp silo e.0) refl (put_in p silo row es)
   where
-    by : (r : Ordering) → silo_cmp silo e.0 ≡ r
-        → list_all (λ e. p e.0) (insert_entry silo_cmp es silo row) ≡ (p silo && list_all (λ e. p e.0) es)
-        → list_all (λ e. p e.0) (match_ordering r ((silo, row) ∷ e ∷ es) ((e.0, row) ∷ es) (e ∷ insert_entry silo_cmp es silo row))
-        ≡ (p silo && (p e.0 && list_all (λ e. p e.0) es))
+    by : (r : Ordering) → silo_cmp silo e.0 ≡ r → all_pass p (insert_entry silo_cmp es silo row) ≡ (p silo && all_pass p es)
+        → all_pass p (match_ordering r ((silo, row) ∷ e ∷ es) ((e.0, row) ∷ es) (e ∷ insert_entry silo_cmp es silo row))
+        ≡ (p silo && (p e.0 && all_pass p es))
     by Less at later = refl
     by Equal at later =
-        once (p e.0) (list_all (λ e. p e.0) es)
-        ∙ ap (λ (s : Silo). p s && (p e.0 && list_all (λ e. p e.0) es)) (sym (silo_cmp_exact silo e.0 at))
-    by Greater at later = ap (λ b. p e.0 && b) later ∙ swap (p e.0) (p silo) (list_all (λ e. p e.0) es)
+        once (p e.0) (all_pass p es) ∙ ap (λ (s : Silo). p s && (p e.0 && all_pass p es)) (sym (silo_cmp_exact silo e.0 at))
+    by Greater at later = ap (λ b. p e.0 && b) later ∙ swap (p e.0) (p silo) (all_pass p es)
 
 module _ (settings : Settings) (own : Silo) where
   newest_more : (m next : Membership) (one : Listed) → listed settings m one ≡ Ok next
