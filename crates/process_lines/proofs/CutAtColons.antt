@@ -101,7 +101,8 @@ module _ (word host behind port rest : List ℕ) (first : word ≡ host ++ colon
 -- all of it, by its pieces
 pub pieces_listed : (word host port rest silo : List ℕ) (status_text : List ℕ) (status : Status) (places : List (List ℕ))
     → listed_word word ≡ listed_of (host ∷ port ∷ pieces_at colon rest)
-    → ((host port : List ℕ) → listed_of (host ∷ port ∷ pieces_at colon rest) ≡ listed_as (status_named status_text) (host ++ colon ∷ port) places)
+    → ((host port : List ℕ) → listed_of (host ∷ port ∷ pieces_at colon rest) ≡ listed_as (status_named status_text) (host ++ colon ∷ port)
+    places)
     → Some status ≡ status_named status_text → silo ≡ host ++ colon ∷ port → listed_word word ≡ listed_as (Some status) silo places
 pieces_listed word host port rest silo status_text status places cut behind named silo_is =
     cut ∙ behind host port ∙ ap (λ (o : Option Status). listed_as o (host ++ colon ∷ port) places) (sym named)

@@ -11,7 +11,8 @@ pub words-init : goal.words-init
 words-init c = record {
   read =
       silos_first (words_in c.args.words.now)
-      ∙ ap (λ (items : List rule.Listed). behind_these items (listed_in (words_in c.args.words.now))) (ap all_listed_of (sym c.new-rows.ensures.items));
+      ∙ ap (λ (items : List rule.Listed). behind_these items (listed_in (words_in c.args.words.now)))
+      (ap all_listed_of (sym c.new-rows.ensures.items));
   nothing = λ none. none;
 }
 

@@ -26,7 +26,8 @@ returns-in-Err-clause-begun c =
     let number = change_refusal_number c.in-Err.refusal in
     let nothing : s.membership.views.version ≤ 0 = subst (λ (v : ℕ). v ≤ 0) (c.current.ensures ∙ ap (λ (v : ViewsValue). v.version) c.views.ensures) c.if-current-gt0.false in
     let its = c.not_begun.ensures.number ∙ ap (λ (t : SiloValue). number_first (all_let_join t.node.host.silo rows) number) (sym c.self.view_is) in
-    subst (λ (t : SiloValue). RefusesBy IsOk (silo_refusal_number c.not_begun.result) (told_view t.node.settings t.membership t.node.host.silo
+    subst (λ (t : SiloValue). RefusesBy IsOk (silo_refusal_number c.not_begun.result)
+    (told_view t.node.settings t.membership t.node.host.silo
     c.args.version rows)) c.self.view_is
     (subst (λ (n : Option ℕ). RefusesBy IsOk n (told_view s.node.settings s.membership s.node.host.silo c.args.version rows)) (sym its)
     (view_refused s.node.settings s.membership s.node.host.silo c.args.version rows nothing number
