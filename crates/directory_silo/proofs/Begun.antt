@@ -7,12 +7,15 @@ use Rattle.std.specs.Ordering.{match_ordering}
 use Rattle.std.specs.declared.cmp.Ordering.{Ordering}
 use Rattle.std.specs.declared.cmp.Ordering.TheVariants.{Less, Equal, Greater}
 use Rattle.std.proofs.lemmas.Bool.Decides.{nat_tests}
+use Rattle.std.proofs.lemmas.List.Folds.{list_all-map}
 use Rattle.silo_address.specs.Silo.{Silo, silo_cmp}
 use Rattle.silo_address.proofs.Order.{silo_cmp_exact}
 use Rattle.membership_view.specs.declared.Row.{Row}
 use Rattle.membership_view.specs.Beginning.{beginning}
 use Rattle.membership_view.specs.Changes.{is_newest}
 use Rattle.membership_view.specs.Views.{ViewsValue}
+use Rattle.directory_rules.specs.declared.Listed.{Listed as Told}
+use Rattle.directory_rules.specs.ListedModel.{all_listed_of, listed_of}
 use Rattle.directory_rules.specs.Settings.{Settings}
 use Rattle.directory_rules.specs.Membership.{Listed, Membership, begun, listed, listed_all, membership_from}
 use Rattle.directory_node.specs.Follows.{RefusesBy}
@@ -83,6 +86,10 @@ module _ (settings : Settings) (own : Silo) where
   newest_begun version rows made is =
       newest_all (membership_from settings version) made rows (has_begun settings version rows made is).all
       ∙ and_true (all_let_join own rows)
+
+-- the silos as the code is told them
+pub all_told : (own : Silo) (rows : List Told) → list_all (λ one. lets_join own one.silo) rows ≡ all_let_join own (all_listed_of rows)
+all_told own rows = sym (list_all-map (λ (one : Listed). lets_join own one.silo) listed_of rows)
 
 -- ---- The view that is told.
 module _ (settings : Settings) (m : Membership) (own : Silo) (version : ℕ) (rows : List Listed) where
