@@ -144,7 +144,8 @@ module _ (d : Deployment) where
   begins_at_stays silo version (Some s) there =
       on_bool (λ b. HasStayed d (if b then
       begins (told_view s.node.settings s.membership silo version (listing_of d.membership version)) d silo s else d))
-      (nat_le version d.membership.views.version) (λ t. begins_stay silo s _ there) (λ f. stayed)
+      (nat_le version d.membership.views.version)
+      (λ t. begins_stay silo s (told_view s.node.settings s.membership silo version (listing_of d.membership version)) there) (λ f. stayed)
 
   module _ (r : IsAtRest d) where
     -- ---- a silo at rest is told all, and isn't barred
