@@ -292,11 +292,11 @@ module _ (asked : PageAsked) (is_range : IsRange asked.range) (es : List (Grain 
 -- what stands between the bounds of a stretch
 pub stretch_is : (hashing : Hashing) (es : List (Grain × Held)) (hashed : List (HashedCount × ℕ)) → AreByHash hashing es hashed
     → IsStrictlySortedBy hashed_count_cmp (keys_of hashed) → (first end : ℕ) → end ≤ circle
-    → (start : HashedCount) (bound : Bound HashedCount)
-    → start ≡ first_at first → bound ≡ end_at end → (stretch : List (HashedCount × ℕ))
-    → stretch ≡ entries_between hashed_count_cmp (Included start) bound hashed → stretch ≡ hashed_between first end hashed
-stretch_is hashing es hashed by_hash sorted first end within start bound start_is bound_is stretch is =
-    is ∙ (λ i. entries_between hashed_count_cmp (Included (start_is i)) (bound_is i) hashed)
+    → (least : HashedCount) (bound : Bound HashedCount)
+    → least ≡ first_at first → bound ≡ end_at end → (stretch : List (HashedCount × ℕ))
+    → stretch ≡ entries_between hashed_count_cmp (Included least) bound hashed → stretch ≡ hashed_between first end hashed
+stretch_is hashing es hashed by_hash sorted first end within least bound least_is bound_is stretch is =
+    is ∙ (λ i. entries_between hashed_count_cmp (Included (least_is i)) (bound_is i) hashed)
     ∙ between_are first end within hashed (are_hashes hashing es hashed (each_under hashing es hashed by_hash sorted))
 
 pub adds_between : (asked : PageAsked) (es : List (Grain × Held)) (hashed stretch : List (HashedCount × ℕ)) (first end : ℕ)
