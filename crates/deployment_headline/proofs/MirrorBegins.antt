@@ -184,14 +184,14 @@ module _ (settings : Settings) (told : PlacesValue) where
         alive = λ q status there lives. absurd (cc (there));
         other = λ q none. refl;
       })
-  all_listed m last (e ∷ rows) s is = by (listed settings m (listing told e)) refl is
+  all_listed m last (e ∷ rows) s is =
+      by (λ next. all_listed next last rows (sorted_tail silo_cmp e.0 (keys_of rows) s)) (listed settings m (listing told e)) refl is
     where
-      by : (o : Result Membership ℕ) → listed settings m (listing told e) ≡ o → listed_all settings o (map (listing told) rows) ≡ Ok last
+      by : ((next : Membership) → listed_all settings (Ok next) (map (listing told) rows) ≡ Ok last → AreListed told next last rows)
+          → (o : Result Membership ℕ) → listed settings m (listing told e) ≡ o → listed_all settings o (map (listing told) rows) ≡ Ok last
           → AreListed told m last (e ∷ rows)
-      by (Err number) at h = absurd (cc (h))
-      by (Ok next) at h =
-          one_listed m next last e rows s (listed_is settings m next (listing told e) at)
-          (all_listed next last rows (sorted_tail silo_cmp e.0 (keys_of rows) s) h)
+      by others (Err number) at h = absurd (cc (h))
+      by others (Ok next) at h = one_listed m next last e rows s (listed_is settings m next (listing told e) at) (others next h)
 
 -- ---- so it mirrors the version
 -- places that are hashed are those of the silos' texts
@@ -345,7 +345,7 @@ module _ (settings : Settings) (at now m : Membership) (all : Are settings at) (
       ]
     where
       never : was_dead (beginning v Dead) ≡ false → ⊥
-      never no = let yes : was_dead (beginning v Dead) ≡ true = eq-eqb v v refl in cc (yes, no)
+      never lives = let so : was_dead (beginning v Dead) ≡ true = eq-eqb v v refl in cc (so, lives)
 
   begins_added : (q : Silo) → is_added m.places q ≡ true → is_added at.places q ≡ true
   begins_added q there = by (found q) refl

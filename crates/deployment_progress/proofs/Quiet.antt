@@ -1,5 +1,5 @@
 -- In the quiet each step is one of a silo's node that sees no version, or none at all.
-use Rattle.std.proofs.Common.{arith, ◌≡◌, ◌≢◌, ℕ, ◌+◌, [], ◌∷◌, ◌++◌, refl, sym, ap, ◌∙◌, subst, drop, append-nil, ◌⊎◌, inl, inr}
+use Rattle.std.proofs.Common.{arith, ◌≡◌, ◌≢◌, ℕ, ◌+◌, [], ◌∷◌, ◌++◌, refl, sym, ap, ◌∙◌, subst, append-nil, ◌⊎◌, inl, inr}
 use Rattle.std.specs.Prelude.{⊤, Bool, true, false, not, is_some, nat_lt, nat_le, slice_get, if◌then◌else◌, Option, Some, None, Result, Ok, Err}
 use Rattle.std.specs.Option.{option_map, unwrap_or}
 use Rattle.std.specs.BTreeMap.{is_at, insert_entry}
@@ -144,7 +144,8 @@ module _ (d : Deployment) where
   begins_at_stays silo version (Some s) there =
       on_bool (λ b. HasStayed d (if b then
       begins (told_view s.node.settings s.membership silo version (listing_of d.membership version)) d silo s else d))
-      (nat_le version d.membership.views.version) (λ t. begins_stay silo s _ there) (λ f. stayed)
+      (nat_le version d.membership.views.version)
+      (λ t. begins_stay silo s (told_view s.node.settings s.membership silo version (listing_of d.membership version)) there) (λ f. stayed)
 
   module _ (r : IsAtRest d) where
     -- ---- a silo at rest is told all, and isn't barred

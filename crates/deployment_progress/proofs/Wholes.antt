@@ -85,7 +85,7 @@ module _ (d : Deployment) (are : AreSettings d.settings) (wholes : AreWholes d) 
       on_bool (λ b. AreWholes (if b then
       begins (told_view s.node.settings s.membership silo version (listing_of d.membership version)) d silo s else d))
       (nat_le version d.membership.views.version)
-      (λ t. begins_whole silo s _
+      (λ t. begins_whole silo s (told_view s.node.settings s.membership silo version (listing_of d.membership version))
       (λ its is. stays_whole.begins s silo version (listing_of d.membership version) its (its_whole silo s there) is)) (λ f. wholes)
 
   sees_at_whole : (silo : Silo) (version : ℕ) (o : Option SiloValue) → process_of d silo ≡ o → AreWholes (sees_at o d silo version)

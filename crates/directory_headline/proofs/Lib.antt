@@ -15,6 +15,7 @@ pub mod Finds
 pub mod Beginnings
 pub mod Closes
 pub mod Replies
+pub mod NewNumbers
 pub mod Renewals
 pub mod Distinct
 pub mod RenewedAbout

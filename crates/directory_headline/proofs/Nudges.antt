@@ -29,7 +29,8 @@ use Rattle.directory_headline.specs.Shown.{IsShownLetter, IsShownRequest}
 use Rattle.directory_headline.proofs.Actors.{leaves_run}
 use Rattle.directory_headline.proofs.Frame.{Here, Moves, stays, alive, node_facts, node_shown, host_is, seen_is, no_letters, one_letter}
 use Rattle.directory_headline.proofs.Hosts.{host_changes, request_shown}
-use Rattle.directory_headline.proofs.Renewals.{IsRenewal, IsSent, sends_anew}
+use Rattle.directory_headline.proofs.NewNumbers.{IsRenewal, IsSent}
+use Rattle.directory_headline.proofs.Renewals.{sends_anew}
 use Rattle.directory_headline.proofs.Distinct.{all_renewed}
 use Rattle.directory_headline.proofs.RenewedAbout.{grain_renewed}
 

@@ -1,5 +1,4 @@
 -- How what the code's silo answers, and leaves, is what the definitions make.
-use Rattle.std.specs.Prelude.{⊤, ℕ, Result}
 use Rattle.directory_rules.specs.Step.{Stepped}
 use Rattle.directory_silo.specs.declared.answer.Answer.{Answer}
 use Rattle.silo_rules.specs.declared.news.News.{News}
@@ -13,7 +12,3 @@ stepped_as after answer = record { node = after.node; letters = answer.letters.i
 -- a change that leaves this silo, and is told so
 abbrev pub heard_as : SiloValue → News → Heard
 heard_as after news = record { membership = after.membership; news = news }
-
--- any outcome: a view is told row by row, so memory may run out before a later row is refused
-abbrev pub IsAny : {A : Type 0} → Result A ℕ → Type 0
-IsAny outcome = ⊤

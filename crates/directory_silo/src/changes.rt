@@ -1,15 +1,16 @@
 ghost use Rattle.std.specs.Prelude.{◌≡◌, ◌==◌, ◌+◌, ◌<◌, Err, IfErr, IsOk, IsTrue, Ok, OnErr, false};
 ghost use Rattle.directory_node.specs.Follows.{Follows};
-ghost use Rattle.directory_silo.specs.AnswerModel.{IsAny, heard_as};
+ghost use Rattle.directory_silo.specs.AnswerModel.{heard_as};
 ghost use Rattle.directory_rules.specs.Membership.{Join, Leave, Die, changed, replaced_by};
-ghost use Rattle.directory_silo.specs.Numbers.{IsNumberedUnlessMemory, silo_refusal_number};
+ghost use Rattle.directory_silo.specs.Numbers.{IsNumberedUnlessMemory, is_newer_than, joins_later, not_taken, silo_refusal_number};
+ghost use Rattle.directory_node.specs.MembershipModel.{change_refusal_number};
 ghost use Rattle.directory_rules.specs.ListedModel.{all_listed_of};
 ghost use Rattle.silo_rules.specs.Begun.{told_view};
 ghost use Rattle.silo_rules.specs.Told.{IsNever, heard_by, told};
 
 use crate::known::{is_before, is_known_death, is_known_join, is_known_leave};
 use crate::{Silo, SiloRefusal};
-use directory_node::Membership;
+use directory_node::{ChangeRefusal, Membership};
 use directory_rules::Listed;
 use membership_view::ViewsError;
 use silo_address::SiloAddress;
@@ -86,9 +87,9 @@ impl Silo {
     /// are left out but for the newest silo of each endpoint, and the silo itself joins later. Refused by 211 where it was told a
     /// change or a view before; by 210 where no history may begin with that version; then silo by silo, the first one first, by 210,
     /// 205, 402, 403; last by 201 where the silo itself, or a newer one of its endpoint, is listed
-    /// (`docs/RULES.md#a-silo-by-itself`). A refusal changes nothing. Memory may run out before a later silo is refused.
+    /// (`docs/RULES.md#a-silo-by-itself`). A refusal changes nothing. Memory runs out only where the view isn't refused.
     pub fn begins(&mut self, version: u64, rows: &[Listed]) -> Result<(), SiloRefusal>
-        ensures begun { Follows (λ _. self.new.membership) silo_refusal_number IsAny (told_view self.old.node.settings self.old.membership self.old.node.host.silo version (all_listed_of rows.now)) result }
+        ensures begun { Follows (λ _. self.new.membership) silo_refusal_number IsOk (told_view self.old.node.settings self.old.membership self.old.node.host.silo version (all_listed_of rows.now)) result }
         ensures numbered { IfErr result IsNumberedUnlessMemory }
         ensures node { self.new.node ≡ self.old.node }
         ensures unchanged { OnErr result (self.new ≡ self.old) }
@@ -100,7 +101,7 @@ impl Silo {
 
     // What the silo knows once it was told that view.
     fn begun(&self, version: u64, rows: &[Listed]) -> Result<Membership, SiloRefusal>
-        ensures begun { Follows (λ membership. membership) silo_refusal_number IsAny (told_view self.now.node.settings self.now.membership self.now.node.host.silo version (all_listed_of rows.now)) result }
+        ensures begun { Follows (λ membership. membership) silo_refusal_number IsOk (told_view self.now.node.settings self.now.membership self.now.node.host.silo version (all_listed_of rows.now)) result }
         ensures numbered { IfErr result IsNumberedUnlessMemory }
     {
         if self.membership.views().current() > 0 {
@@ -109,7 +110,7 @@ impl Silo {
         let settings = self.node.settings();
         let begun = match Membership::begun(self.alloc, &settings, version, rows) {
             Ok(begun) => begun,
-            Err(refusal) => return Err(SiloRefusal::of_change(refusal)),
+            Err(refusal) => return Err(view_refusal(refusal, &self.address(), rows)),
         };
         if !begun.views().is_newest(&self.address()) {
             return Err(SiloRefusal::Views(ViewsError::OldGeneration));
@@ -130,6 +131,39 @@ impl Silo {
             Err(refusal) => Err(SiloRefusal::of_change(refusal)),
         }
     }
+}
+
+// Why a view isn't taken that isn't made: where only memory was wanting, the silo itself, or a newer one of its endpoint, may be listed.
+fn view_refusal(refusal: ChangeRefusal, own: &SiloAddress, rows: &[Listed]) -> SiloRefusal
+    ensures number { silo_refusal_number result ≡ not_taken (change_refusal_number refusal) (joins_later own.now rows.now) }
+    ensures numbered { IsNumberedUnlessMemory result }
+{
+    match SiloRefusal::of_change(refusal) {
+        SiloRefusal::OutOfMemory => {
+            if !joins_later(own, rows) {
+                return SiloRefusal::Views(ViewsError::OldGeneration);
+            }
+            SiloRefusal::OutOfMemory
+        }
+        told => told,
+    }
+}
+
+// Whether the silo is newer than all of its endpoint that are listed.
+fn joins_later(own: &SiloAddress, rows: &[Listed]) -> bool
+    ensures { result ≡ joins_later own.now rows.now }
+{
+    rows.iter().all(|one| is_newer(own, &one.silo))
+}
+
+// Whether the silo is newer than that one, or of another endpoint.
+fn is_newer(own: &SiloAddress, other: &SiloAddress) -> bool
+    ensures { result ≡ is_newer_than own.now other.now }
+{
+    if !own.same_endpoint(other) {
+        return true;
+    }
+    other.generation() < own.generation()
 }
 
 // Whether the version, which isn't known, is the next one.

@@ -1,30 +1,26 @@
 -- What begins with a view is whole.
-use Rattle.std.proofs.Common.{arith, ◌≡◌, ◌≢◌, ◌⊎◌, ℕ, ◌<◌, ◌≤◌, List, [], ◌∷◌, length, inl, inr, refl, sym, ap, ◌∙◌, subst}
-use Rattle.std.specs.Prelude.{Bool, true, false, cond, nat_lt, nat_le, ◌==◌, if◌then◌else◌, Some, None, Result, Ok, Err}
+use Rattle.std.proofs.Common.{arith, ◌≡◌, ◌≢◌, ◌⊎◌, ℕ, ◌<◌, List, [], ◌∷◌, length, inl, inr, refl, sym, ap, ◌∙◌, subst}
+use Rattle.std.specs.Prelude.{Bool, true, false, cond, nat_lt, ◌==◌, if◌then◌else◌, Result, Ok, Err}
 use Rattle.std.proofs.lemmas.Bool.{ltb-true, ltb-false, eq-eqb}
-use Rattle.std.proofs.lemmas.Option.{same_Some}
 use Rattle.silo_address.specs.Silo.{Silo}
-use Rattle.membership_view.specs.declared.row.Row.{Row}
 use Rattle.membership_view.specs.declared.status.Status.{Status}
 use Rattle.membership_view.specs.declared.status.Status.TheVariants.{Active, Leaving, Dead}
 use Rattle.membership_view.specs.Row.{was_dead}
 use Rattle.membership_view.specs.View.{ViewValue}
 use Rattle.membership_view.specs.Views.{ViewsValue, most_known, row_of, view_at}
-use Rattle.membership_view.specs.Beginning.{after_listing, beginning, with_listed}
+use Rattle.membership_view.specs.Beginning.{after_listing, beginning}
 use Rattle.membership_view.specs.Changes.{is_newest}
 use Rattle.membership_view.specs.Whole.{IsViews}
 use Rattle.membership_view.proofs.Beginnings.{IsListing, listing_is, listed_row, whole-listed}
 use Rattle.membership_view.proofs.Unchanged.{first_is_empty}
 use Rattle.hash_ring.specs.Places.{PlacesValue, after_add, is_added, with_silo}
-use Rattle.hash_ring.specs.Ring.{RingValue, ring_of}
+use Rattle.hash_ring.specs.Ring.{ring_of}
 use Rattle.directory_rules.specs.Settings.{Settings}
 use Rattle.directory_rules.specs.Membership.{Listed, Membership, begun, joined, listed, listed_all, listed_by, membership_from, placed, with_no_places, with_places}
-use Rattle.directory_facts.specs.Seen.{SeesItsVersion}
 use Rattle.directory_facts.proofs.Places.{added_is, added_itself}
 use Rattle.silo_rules.specs.SiloValue.{SiloValue}
 use Rattle.silo_rules.specs.Begun.{told_view, unless_joined}
 use Rattle.silo_rules.specs.Whole.{AreWhole, IsWhole}
-use Rattle.silo_rules.proofs.Placed.{ArePlaced}
 use Rattle.silo_rules.proofs.Whole.{added_still, from_whole}
 
 -- a silo that is listed: its row, and its places, but for one that is Dead
@@ -75,10 +71,12 @@ module _ (settings : Settings) (m next : Membership) (one : Listed) where
     where
       never : was_dead (beginning m.views.first one.status) ≡ false → ⊥
       never lived =
-          let yes : was_dead (beginning m.views.first one.status) ≡ true = ap (λ t. was_dead (beginning m.views.first t)) its ∙ was m.views.first in
-          cc (yes, lived)
+          let so : was_dead (beginning m.views.first one.status) ≡ true = ap (λ t. was_dead (beginning m.views.first t)) its ∙ was m.views.first in
+          cc (so, lived)
 
-      by : (b : Bool) → (if b then Ok (record { views = views; places = m.places }) else Err 402) ≡ Ok next → IsListed settings m one next
+      by : (b : Bool)
+          → ◌≡◌ {A = Result Membership ℕ} (if b then Ok (record { views = views; places = m.places }) else Err 402) (Ok next)
+          → IsListed settings m one next
       by false h = absurd (cc (h))
       by true h =
           let same : record { views = views; places = m.places } ≡ next = cc (h) in
@@ -120,11 +118,12 @@ module _ (settings : Settings) (m next : Membership) (one : Listed) where
 pub all_whole : (settings : Settings) (m next : Membership) (rows : List Listed) → AreWhole settings m
     → listed_all settings (Ok m) rows ≡ Ok next → AreWhole settings next
 all_whole settings m next [] are is = let same : m ≡ next = cc (is) in subst (AreWhole settings) same are
-all_whole settings m next (one ∷ rows) are is = by (listed settings m one) refl is
+all_whole settings m next (one ∷ rows) are is = by (λ after. all_whole settings after next rows) (listed settings m one) refl is
   where
-    by : (o : Result Membership ℕ) → listed settings m one ≡ o → listed_all settings o rows ≡ Ok next → AreWhole settings next
-    by (Err number) at h = absurd (cc (h))
-    by (Ok after) at h = all_whole settings after next rows (listed_whole settings m after one are (listed_is settings m after one at)) h
+    by : ((after : Membership) → AreWhole settings after → listed_all settings (Ok after) rows ≡ Ok next → AreWhole settings next)
+        → (o : Result Membership ℕ) → listed settings m one ≡ o → listed_all settings o rows ≡ Ok next → AreWhole settings next
+    by others (Err number) at h = absurd (cc (h))
+    by others (Ok after) at h = others after (listed_whole settings m after one are (listed_is settings m after one at)) h
 
 -- what begins has that first version, and is at it
 pub record HasBegun (settings : Settings) (version : ℕ) (rows : List Listed) (m : Membership) : Type 0 where
@@ -151,11 +150,11 @@ pub told_view_is : (settings : Settings) (m : Membership) (own : Silo) (version 
     → told_view settings m own version rows ≡ Ok next → IsToldView settings m own version rows next
 told_view_is settings m own version rows next is = by (nat_lt 0 m.views.version) refl (begun settings version rows) refl is
   where
-    zero : nat_lt 0 m.views.version ≡ false → m.views.version ≡ 0
-    zero at = let none = ltb-false 0 m.views.version at in omega (none, arith)
+    untold : nat_lt 0 m.views.version ≡ false → m.views.version ≡ 0
+    untold at = let none = ltb-false 0 m.views.version at in omega (none, arith)
 
     joins : (made : Membership) → m.views.version ≡ 0 → begun settings version rows ≡ Ok made → (b : Bool) → is_newest own made.views.rows ≡ b
-        → (if b then Ok made else Err 201) ≡ Ok next → IsToldView settings m own version rows next
+        → ◌≡◌ {A = Result Membership ℕ} (if b then Ok made else Err 201) (Ok next) → IsToldView settings m own version rows next
     joins made none at false newest h = absurd (cc (h))
     joins made none at true newest h =
         let same : made ≡ next = cc (h) in
@@ -169,7 +168,7 @@ told_view_is settings m own version rows next is = by (nat_lt 0 m.views.version)
         → (if b then Err 211 else unless_joined own o) ≡ Ok next → IsToldView settings m own version rows next
     by true told o at h = absurd (cc (h))
     by false told (Err number) at h = absurd (cc (h))
-    by false told (Ok made) at h = joins made (zero told) at (is_newest own made.views.rows) refl h
+    by false told (Ok made) at h = joins made (untold told) at (is_newest own made.views.rows) refl h
 
 -- ---- so a silo stays whole
 first_ring : (rows_here : ViewValue) (one other : PlacesValue) → rows_here ≡ record { version = 0; rows = [] }

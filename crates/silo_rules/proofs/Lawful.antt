@@ -1,5 +1,5 @@
 -- The laws of a silo by itself.
-use Rattle.std.proofs.Common.{arith, ◌≡◌, ℕ, ◌+◌, List, refl, sym, ap, ◌∙◌, subst}
+use Rattle.std.proofs.Common.{arith, ◌≡◌, ℕ, ◌+◌, refl, sym, ap, ◌∙◌, subst}
 use Rattle.std.specs.Prelude.{Bool, true, false, not, ◌==◌, nat_le, nat_lt, is_some, if◌then◌else◌, Option, Some, None, option_and_then, Result, Ok, Err}
 use Rattle.std.specs.Option.{unwrap_or}
 use Rattle.std.proofs.lemmas.Bool.{leb-true}
