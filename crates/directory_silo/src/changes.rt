@@ -1,14 +1,16 @@
 ghost use Rattle.std.specs.Prelude.{◌≡◌, ◌==◌, ◌+◌, ◌<◌, Err, IfErr, IsOk, IsTrue, Ok, OnErr, false};
 ghost use Rattle.directory_node.specs.Follows.{Follows};
-ghost use Rattle.directory_silo.specs.AnswerModel.{heard_as};
-ghost use Rattle.directory_rules.specs.Membership.{Join, Leave, Die, changed, replaced_by};
-ghost use Rattle.directory_silo.specs.Numbers.{IsNumberedUnlessMemory, is_newer_than, joins_later, not_taken, silo_refusal_number};
 ghost use Rattle.directory_node.specs.MembershipModel.{change_refusal_number};
+ghost use Rattle.directory_silo.specs.AnswerModel.{heard_as};
+ghost use Rattle.directory_silo.specs.Later.{all_let_join, number_first};
+ghost use Rattle.directory_rules.specs.Membership.{Join, Leave, Die, changed, replaced_by};
+ghost use Rattle.directory_silo.specs.Numbers.{IsNumberedUnlessMemory, silo_refusal_number};
 ghost use Rattle.directory_rules.specs.ListedModel.{all_listed_of};
 ghost use Rattle.silo_rules.specs.Begun.{told_view};
 ghost use Rattle.silo_rules.specs.Told.{IsNever, heard_by, told};
 
 use crate::known::{is_before, is_known_death, is_known_join, is_known_leave};
+use crate::later::all_let_join;
 use crate::{Silo, SiloRefusal};
 use directory_node::{ChangeRefusal, Membership};
 use directory_rules::Listed;
@@ -20,8 +22,9 @@ use silo_rules::News;
 // `see`, but that a silo takes no step before its own join, and none once it is Dead.
 impl Silo {
     /// The silo is told that a silo joined, which made that version, with the places stated for it; none are stated where they are
-    /// hashed. Refused by 212 where the version was told by the view with which the silo began, by 207 where the version was told before and says otherwise, by 206 where it isn't the next one, then by
-    /// 201, 205, 402, 403 (`docs/RULES.md#a-silo-by-itself`). A refusal changes nothing.
+    /// hashed. Refused by 212 where the version was told by the view with which the silo began, by 207 where the version was told
+    /// before and says otherwise, by 206 where it isn't the next one, then by 201, 205, 402, 403
+    /// (`docs/RULES.md#a-silo-by-itself`). A refusal changes nothing.
     pub fn joined(
         &mut self,
         version: u64,
@@ -43,8 +46,8 @@ impl Silo {
         self.admit(silo, places)
     }
 
-    /// The silo is told that a silo began to leave, which made that version. Refused by 207, 206, then by 202, and by 203 where the
-    /// silo is Leaving or Dead (`docs/RULES.md#a-silo-by-itself`). Needs no memory.
+    /// The silo is told that a silo began to leave, which made that version. Refused by 212, 207, 206, then by 202, and by 203 where
+    /// the silo is Leaving or Dead (`docs/RULES.md#a-silo-by-itself`). Needs no memory.
     pub fn leaving(&mut self, version: u64, silo: &SiloAddress) -> Result<News, SiloRefusal>
         ensures told { Follows (heard_as self.new) silo_refusal_number IsNever (told self.old.node.settings self.old.membership version (Leave silo.now)) result }
         ensures node { self.new.node ≡ self.old.node }
@@ -63,7 +66,7 @@ impl Silo {
         }
     }
 
-    /// The silo is told that a silo died, which made that version. Refused by 207, 206, then by 202, 204
+    /// The silo is told that a silo died, which made that version. Refused by 212, 207, 206, then by 202, 204
     /// (`docs/RULES.md#a-silo-by-itself`). Needs no memory.
     pub fn dead(&mut self, version: u64, silo: &SiloAddress) -> Result<News, SiloRefusal>
         ensures told { Follows (heard_as self.new) silo_refusal_number IsNever (told self.old.node.settings self.old.membership version (Die silo.now)) result }
@@ -87,7 +90,7 @@ impl Silo {
     /// are left out but for the newest silo of each endpoint, and the silo itself joins later. Refused by 211 where it was told a
     /// change or a view before; by 210 where no history may begin with that version; then silo by silo, the first one first, by 210,
     /// 205, 402, 403; last by 201 where the silo itself, or a newer one of its endpoint, is listed
-    /// (`docs/RULES.md#a-silo-by-itself`). A refusal changes nothing. Memory runs out only where the view isn't refused.
+    /// (`docs/RULES.md#a-silo-by-itself`). A refusal changes nothing. Memory runs out only where nothing refuses the view.
     pub fn begins(&mut self, version: u64, rows: &[Listed]) -> Result<(), SiloRefusal>
         ensures begun { Follows (λ _. self.new.membership) silo_refusal_number IsOk (told_view self.old.node.settings self.old.membership self.old.node.host.silo version (all_listed_of rows.now)) result }
         ensures numbered { IfErr result IsNumberedUnlessMemory }
@@ -110,12 +113,27 @@ impl Silo {
         let settings = self.node.settings();
         let begun = match Membership::begun(self.alloc, &settings, version, rows) {
             Ok(begun) => begun,
-            Err(refusal) => return Err(view_refusal(refusal, &self.address(), rows)),
+            Err(refusal) => return Err(self.not_begun(refusal, rows)),
         };
         if !begun.views().is_newest(&self.address()) {
             return Err(SiloRefusal::Views(ViewsError::OldGeneration));
         }
         Ok(begun)
+    }
+
+    // Why nothing begins with these silos: their refusal. Where there is none, memory ran out, and 201 comes before that.
+    fn not_begun(&self, refusal: ChangeRefusal, rows: &[Listed]) -> SiloRefusal
+        ensures number { silo_refusal_number result ≡ number_first (all_let_join self.now.node.host.silo (all_listed_of rows.now)) (change_refusal_number refusal) }
+        ensures numbered { IsNumberedUnlessMemory result }
+    {
+        let refusal = SiloRefusal::of_change(refusal);
+        if refusal.number().is_some() {
+            return refusal;
+        }
+        if all_let_join(&self.address(), rows) {
+            return SiloRefusal::OutOfMemory;
+        }
+        SiloRefusal::Views(ViewsError::OldGeneration)
     }
 
     // A join of the next version is told.
@@ -131,39 +149,6 @@ impl Silo {
             Err(refusal) => Err(SiloRefusal::of_change(refusal)),
         }
     }
-}
-
-// Why a view isn't taken that isn't made: where only memory was wanting, the silo itself, or a newer one of its endpoint, may be listed.
-fn view_refusal(refusal: ChangeRefusal, own: &SiloAddress, rows: &[Listed]) -> SiloRefusal
-    ensures number { silo_refusal_number result ≡ not_taken (change_refusal_number refusal) (joins_later own.now rows.now) }
-    ensures numbered { IsNumberedUnlessMemory result }
-{
-    match SiloRefusal::of_change(refusal) {
-        SiloRefusal::OutOfMemory => {
-            if !joins_later(own, rows) {
-                return SiloRefusal::Views(ViewsError::OldGeneration);
-            }
-            SiloRefusal::OutOfMemory
-        }
-        told => told,
-    }
-}
-
-// Whether the silo is newer than all of its endpoint that are listed.
-fn joins_later(own: &SiloAddress, rows: &[Listed]) -> bool
-    ensures { result ≡ joins_later own.now rows.now }
-{
-    rows.iter().all(|one| is_newer(own, &one.silo))
-}
-
-// Whether the silo is newer than that one, or of another endpoint.
-fn is_newer(own: &SiloAddress, other: &SiloAddress) -> bool
-    ensures { result ≡ is_newer_than own.now other.now }
-{
-    if !own.same_endpoint(other) {
-        return true;
-    }
-    other.generation() < own.generation()
 }
 
 // Whether the version, which isn't known, is the next one.

@@ -6,6 +6,7 @@ mod answer;
 mod changes;
 mod commands;
 mod known;
+mod later;
 mod questions;
 mod refusal;
 mod sight;

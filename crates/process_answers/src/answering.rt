@@ -26,8 +26,8 @@ const ANOTHERS_JOIN: u16 = 208;
 
 /// Answers what a line of a silo's process asks for: the silo is told, asked or shown, and what came of it is written behind what
 /// is written already; whether the process ends, since the silo is Dead. A process that was started with a token refuses any other
-/// process's join by 208. Fails only when memory runs out, and only where something
-/// is written; then nothing is written, and the silo may have changed (`docs/RULES.md#lines-of-a-silos-process`).
+/// process's join by 208. Fails only when memory runs out, and only where something is written; then nothing is written, and the
+/// silo may have changed (`docs/RULES.md#lines-of-a-silos-process`).
 #[tactic(auto, using(script_lines::proofs::Fronts::front_taken))]
 pub fn answer(
     alloc: Global,

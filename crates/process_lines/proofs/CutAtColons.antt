@@ -1,5 +1,5 @@
 -- Bytes cut at their first mark, and a word that lists a silo, cut at its colons.
-use Rattle.std.proofs.Common.{◌≡◌, ◌≢◌, ap, ◌∙◌, sym, refl, ℕ, ◌+◌, ◌-◌, ◌<◌, ◌≤◌, suc, ◌==◌, List, [], ◌∷◌, ◌++◌, length, get_or, take, drop, arith, Option, Some, None, Result, Err, add-one, append_assoc, append-nil, drop-cons}
+use Rattle.std.proofs.Common.{◌≡◌, ◌≢◌, ap, ◌∙◌, sym, ℕ, ◌+◌, ◌-◌, ◌<◌, ◌≤◌, suc, ◌==◌, List, [], ◌∷◌, ◌++◌, length, get_or, take, drop, arith, Option, Some, Err, add-one, append_assoc, append-nil, drop-cons}
 use Rattle.std.proofs.Math.Seq.{take-append_seam}
 use Rattle.std.proofs.lemmas.Bool.{eqb-true, eqb-false}
 use Rattle.std.proofs.lemmas.List.{length-append, length-drop, take-append-drop, take_rest}
@@ -101,7 +101,8 @@ module _ (word host behind port rest : List ℕ) (first : word ≡ host ++ colon
 -- all of it, by its pieces
 pub pieces_listed : (word host port rest silo : List ℕ) (status_text : List ℕ) (status : Status) (places : List (List ℕ))
     → listed_word word ≡ listed_of (host ∷ port ∷ pieces_at colon rest)
-    → ((host port : List ℕ) → listed_of (host ∷ port ∷ pieces_at colon rest) ≡ listed_as (status_named status_text) (host ++ colon ∷ port) places)
+    → ((host port : List ℕ) → listed_of (host ∷ port ∷ pieces_at colon rest) ≡ listed_as (status_named status_text) (host ++ colon ∷ port)
+    places)
     → Some status ≡ status_named status_text → silo ≡ host ++ colon ∷ port → listed_word word ≡ listed_as (Some status) silo places
 pieces_listed word host port rest silo status_text status places cut behind named silo_is =
     cut ∙ behind host port ∙ ap (λ (o : Option Status). listed_as o (host ++ colon ∷ port) places) (sym named)

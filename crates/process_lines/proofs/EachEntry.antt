@@ -115,7 +115,8 @@ report_made head range after last entries =
       last = last;
     }))
 
-module _ (read : Result Head ℕ) (first : List ℕ) (behind_read : Result (Option Grain) ℕ) (second : List ℕ) (words : List (List ℕ)) (head : Head)
+module _ (read : Result Head ℕ) (first : List ℕ) (behind_read : Result (Option Grain) ℕ) (second : List ℕ) (words : List (List ℕ))
+    (head : Head)
     (range : Range) (after : Option Grain) (last : Bool) where
   report_is : read ≡ Ok head → range_word first ≡ Ok range → behind_read ≡ Ok after → last_word second ≡ Ok last
       → report_behind read first behind_read second words ≡ (entries_in words >>= λ entries. Ok (report_made head range after last entries))
@@ -127,7 +128,8 @@ module _ (read : Result Head ℕ) (first : List ℕ) (behind_read : Result (Opti
       Ok (report_made head range after last entries)) after_is
       ∙ ap (λ (x : Result Bool ℕ). x >>= λ last. entries_in words >>= λ entries. Ok (report_made head range after last entries)) last_is
 
-  pub report_fails : (error : LineError) → read ≡ Ok head → range_word first ≡ Ok range → behind_read ≡ Ok after → last_word second ≡ Ok last
+  pub report_fails : (error : LineError) → read ≡ Ok head → range_word first ≡ Ok range → behind_read ≡ Ok after
+      → last_word second ≡ Ok last
       → Fails error (entries_in words) → Fails error (report_behind read first behind_read second words)
   report_fails error read_is range_is after_is last_is fails =
       subst (Fails error) (sym (report_is read_is range_is after_is last_is))

@@ -42,7 +42,8 @@ module _ (pieces behind : List (List ℕ)) (piece : List ℕ) (split : pieces �
   -- a piece that is a place
   pub places_checked : (place : ℕ) → Ok place ≡ hash_word piece → checked (places_in pieces) ≡ checked (places_in behind)
   places_checked place reads =
-      ap (λ (r : Result (List ℕ) ℕ). checked r) (places_by (Ok place) (sym reads)) ∙ checked_then (places_in behind) (λ places. place ∷ places)
+      ap (λ (r : Result (List ℕ) ℕ). checked r) (places_by (Ok place) (sym reads))
+      ∙ checked_then (places_in behind) (λ places. place ∷ places)
 
   -- one that is none
   pub places_fault : (fault : ℕ) → Err fault ≡ hash_word piece → Err fault ≡ checked (places_in pieces)
@@ -85,7 +86,8 @@ pushed_last pieces piece split before after pushed =
 abbrev as_listed : Silo → Status → List ℕ → Listed
 as_listed silo status places = record { silo = silo; status = status; places = places }
 
-module _ (word text : List ℕ) (status : Status) (places : List (List ℕ)) (cut : listed_word word ≡ listed_as (Some status) text places) where
+module _ (word text : List ℕ) (status : Status) (places : List (List ℕ))
+    (cut : listed_word word ≡ listed_as (Some status) text places) where
   listed_by : (read : Result Silo ℕ) → silo_word text ≡ read
       → listed_word word ≡ (read >>= λ silo. places_in places >>= λ stated. Ok (as_listed silo status stated))
   listed_by read is =
@@ -137,7 +139,8 @@ module _ (words behind : List (List ℕ)) (word : List ℕ) (split : words ≡ w
   pub silos_checked : Ok tt ≡ checked (listed_word word) → checked (listed_in words) ≡ checked (listed_in behind)
   silos_checked ok = by (listed_word word) refl ok
     where
-      by : (read : Result Listed ℕ) → listed_word word ≡ read → Ok tt ≡ checked read → checked (listed_in words) ≡ checked (listed_in behind)
+      by : (read : Result Listed ℕ) → listed_word word ≡ read → Ok tt ≡ checked read
+          → checked (listed_in words) ≡ checked (listed_in behind)
       by (Ok one) at is =
           ap (λ (r : Result (List Listed) ℕ). checked r) (silos_by (Ok one) at) ∙ checked_then (listed_in behind) (λ others. one ∷ others)
       by (Err fault) at is = absurd (cc (is))
@@ -156,7 +159,8 @@ module _ (words behind : List (List ℕ)) (word : List ℕ) (split : words ≡ w
   silos_fail before fault reads = ap (behind_these before) (silos_by (Err fault) reads)
 
 -- ---- a version, and then the silos
-module _ (words behind : List (List ℕ)) (word : List ℕ) (version : ℕ) (split : words ≡ word ∷ behind) (reads : Ok version ≡ number_word word)
+module _ (words behind : List (List ℕ)) (word : List ℕ) (version : ℕ) (split : words ≡ word ∷ behind)
+    (reads : Ok version ≡ number_word word)
   where
     pub view_is : a_view words ≡ (listed_in behind >>= λ rows. Ok (Begin version rows))
     view_is =

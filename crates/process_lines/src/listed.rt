@@ -46,7 +46,7 @@ fn check_listed(words: &[u8]) -> Result<(), LineFault>
     ensures { told no_value result ≡ checked (rule.listed_in (words_in words.now)) }
 {
     let mut rest = words;
-    while let Some((word, behind)) = split_word(rest) {
+    'words: while let Some((word, behind)) = split_word(rest) {
         check_word(word)?;
         rest = behind;
     }
@@ -70,7 +70,7 @@ fn check_places(text: &[u8]) -> Result<(), LineFault>
     ensures { told no_value result ≡ checked (script.places_in (pieces_at rule.comma text.now)) }
 {
     let mut rest = text;
-    while let Some((place, behind)) = split_at(rest, b',') {
+    'pieces: while let Some((place, behind)) = split_at(rest, b',') {
         let _place = place_word(place)?;
         rest = behind;
     }
@@ -85,7 +85,7 @@ fn listed_in(alloc: Global, words: &[u8]) -> Result<Vec<Listed>, LineError>
 {
     let mut rows = Vec::new(alloc);
     let mut rest = words;
-    while let Some((word, behind)) = split_word(rest) {
+    'words: while let Some((word, behind)) = split_word(rest) {
         let one = listed_word(alloc, word)?;
         if rows.push(one).is_err() {
             return Err(LineError::OutOfMemory);
@@ -126,7 +126,7 @@ fn places_between(alloc: Global, text: &[u8]) -> Result<Vec<u32>, LineError>
 {
     let mut places = Vec::new(alloc);
     let mut rest = text;
-    while let Some((place, behind)) = split_at(rest, b',') {
+    'pieces: while let Some((place, behind)) = split_at(rest, b',') {
         push_place(&mut places, place)?;
         rest = behind;
     }

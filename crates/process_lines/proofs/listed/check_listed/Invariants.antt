@@ -4,8 +4,8 @@ use Rattle.process_rules.specs.ReadLine.{listed_in}
 use Rattle.process_lines.specs.Colons.{checked}
 use Rattle.process_lines.proofs.listed.check_listed.Given as goal
 
-abbrev pub invariant-loop-word : goal.invariant-loop-word
-invariant-loop-word l = checked (listed_in (words_in l.words)) ≡ checked (listed_in (words_in l.rest))
+abbrev pub invariant-words : goal.invariant-words
+invariant-words l = checked (listed_in (words_in l.words)) ≡ checked (listed_in (words_in l.rest))
 
-abbrev pub decreases-loop-word : goal.decreases-loop-word
-decreases-loop-word l = length l.rest
+abbrev pub decreases-words : goal.decreases-words
+decreases-words l = length l.rest

@@ -4,7 +4,7 @@ use Rattle.process_rules.specs.ReadLine.{comma}
 use Rattle.process_lines.proofs.EachSilo.{places_checked}
 use Rattle.process_lines.proofs.listed.check_places.Goals as goal
 
-pub loop-place-preserved : goal.loop-place-preserved
-loop-place-preserved c =
-    c.loop-place.invariant ∙ places_checked (pieces_at comma c.loop-place.rest.now) (pieces_at comma c.in-Some.behind.now) c.in-Some.place.now
+pub pieces-preserved : goal.pieces-preserved
+pieces-preserved c =
+    c.pieces.invariant ∙ places_checked (pieces_at comma c.pieces.rest.now) (pieces_at comma c.in-Some.behind.now) c.in-Some.place.now
     c.in-Some.ensures.pieces _ c.in_ok-_place.ensures

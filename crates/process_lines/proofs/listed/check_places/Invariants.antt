@@ -5,8 +5,8 @@ use Rattle.process_rules.specs.ReadLine.{comma}
 use Rattle.process_lines.specs.Colons.{checked}
 use Rattle.process_lines.proofs.listed.check_places.Given as goal
 
-abbrev pub invariant-loop-place : goal.invariant-loop-place
-invariant-loop-place l = checked (places_in (pieces_at comma l.text)) ≡ checked (places_in (pieces_at comma l.rest))
+abbrev pub invariant-pieces : goal.invariant-pieces
+invariant-pieces l = checked (places_in (pieces_at comma l.text)) ≡ checked (places_in (pieces_at comma l.rest))
 
-abbrev pub decreases-loop-place : goal.decreases-loop-place
-decreases-loop-place l = length l.rest
+abbrev pub decreases-pieces : goal.decreases-pieces
+decreases-pieces l = length l.rest

@@ -35,7 +35,8 @@ returns-clause-reads c =
     (words_in c.in-Some-split_word.others.now) range c.in-Some-split_word.first.now
     c.in-Some.ensures.words c.in-Some-split_word.ensures.words last entries c.in-Some-split_word-2.ensures.words
     (sym c.are_pairs.ensures ∙ c.if-not-are_pairs.false)))
-    (subst (λ (after : Result (Option Grain) ℕ). Reads (λ letter. letter) c.report_of-2.result (report_behind head range after last entries))
+    (subst (λ (after : Result (Option Grain) ℕ). Reads (λ letter. letter) c.report_of-2.result
+    (report_behind head range after last entries))
     c.after_word.ensures c.report_of-2.ensures.reads)
 
 pub returns-clause-memory : goal.returns-clause-memory

@@ -15,12 +15,15 @@ returns-in_err-entries-clause-reads c =
     c.from_residual-in_err-entries.ensures.1
     (report_fails read c.args.range.now behind c.args.last.now (words_in c.args.entries.now) (head_of c.in_ok-head.head) c.in_ok-range.range
     c.in_ok-after.after c.in_ok-last.last error
-    (ap (told head_of) c.in_ok-head.was) (sym c.in_ok-range.ensures) (ap (told (λ after. after)) c.in_ok-after.was) (sym c.in_ok-last.ensures)
+    (ap (told head_of) c.in_ok-head.was) (sym c.in_ok-range.ensures) (ap (told (λ after. after)) c.in_ok-after.was)
+    (sym c.in_ok-last.ensures)
     c.in_err-entries.ensures.reads)
 
 pub returns-in_err-entries-clause-memory : goal.returns-in_err-entries-clause-memory
 returns-in_err-entries-clause-memory c memory =
-    report_brings (told head_of c.args.head) c.args.range.now (told (λ after. after) c.args.after) c.args.last.now (words_in c.args.entries.now)
+    report_brings (told head_of c.args.head) c.args.range.now (told (λ after. after) c.args.after) c.args.last.now
+    (words_in c.args.entries.now)
     (head_of c.in_ok-head.head) c.in_ok-range.range c.in_ok-after.after c.in_ok-last.last
-    (ap (told head_of) c.in_ok-head.was) (sym c.in_ok-range.ensures) (ap (told (λ after. after)) c.in_ok-after.was) (sym c.in_ok-last.ensures)
+    (ap (told head_of) c.in_ok-head.was) (sym c.in_ok-range.ensures) (ap (told (λ after. after)) c.in_ok-after.was)
+    (sym c.in_ok-last.ensures)
     (c.in_err-entries.ensures.memory (search rules))

@@ -15,7 +15,8 @@ returns-in_err-push_word-clause-kept c =
 
 pub returns-in_err-push_entries-clause-kept : goal.returns-in_err-push_entries-clause-kept
 returns-in_err-push_entries-clause-kept c =
-    begins_with_the_first _ _ _ (begins_with_the_first _ _ _ (begins_with_the_first _ _ _ c.push_range.ensures.kept c.push_after.ensures.kept)
+    begins_with_the_first _ _ _ (begins_with_the_first _ _ _
+    (begins_with_the_first _ _ _ c.push_range.ensures.kept c.push_after.ensures.kept)
     c.push_word.ensures.kept) c.push_entries.ensures.kept
 
 pub returns-clause-written : goal.returns-clause-written
@@ -30,5 +31,6 @@ returns-clause-written c =
 
 pub returns-clause-kept : goal.returns-clause-kept
 returns-clause-kept c =
-    begins_with_the_first _ _ _ (begins_with_the_first _ _ _ (begins_with_the_first _ _ _ c.push_range.ensures.kept c.push_after.ensures.kept)
+    begins_with_the_first _ _ _ (begins_with_the_first _ _ _
+    (begins_with_the_first _ _ _ c.push_range.ensures.kept c.push_after.ensures.kept)
     c.push_word.ensures.kept) c.push_entries.ensures.kept
