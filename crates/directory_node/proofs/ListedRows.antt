@@ -32,7 +32,7 @@ use Rattle.directory_rules.specs.Settings.{Settings}
 use Rattle.directory_rules.specs.ListedModel.{all_listed_of, listed_of}
 use Rattle.directory_rules.specs.declared.Listed.{Listed as Told}
 use Rattle.directory_rules.specs.Membership.{Listed, Membership, begun, listed, listed_all, listed_by, membership_from, placed, with_places}
-use Rattle.directory_node.specs.MembershipModel.{MayBeListed, count_refused_by}
+use Rattle.directory_node.specs.MembershipModel.{count_refused_by}
 use Rattle.directory_node.proofs.ListedSilos.{begun_next, by_views, may_be_listed, refused_all, refused_by_places, refused_by_views, some_weaker}
 use Rattle.directory_node.proofs.StatedPlaces.{listed_new, not_listed, placed_is}
 

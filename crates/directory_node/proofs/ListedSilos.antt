@@ -1,5 +1,5 @@
 -- Silos that a view lists, one after the other: what makes each be listed, or refused.
-use Rattle.std.proofs.Common.{◌≡◌, ◌≢◌, refl, sym, subst, ap, ◌∙◌, ℕ, List, [], ◌∷◌, ◌++◌, arith}
+use Rattle.std.proofs.Common.{◌≡◌, ◌≢◌, refl, sym, ap, ◌∙◌, ℕ, List, [], ◌∷◌, ◌++◌}
 use Rattle.std.specs.Prelude.{Bool, true, false, cond, ◌==◌, ◌+◌, ◌<◌, nat_lt, length, take, drop, slice_index_or, IfNone, IsOk, is_ok, IsSomeAnd, Option, Some, None, Result, Ok, Err}
 use Rattle.std.proofs.lemmas.Bool.{lt-ltb, ltb-true}
 use Rattle.std.proofs.lemmas.List.{map-append, map_more, take-append-drop}

@@ -1,10 +1,9 @@
 -- How many places are stated for a silo, and what is refused by it.
-use Rattle.std.proofs.Common.{◌≡◌, ap, refl, ◌∙◌, ℕ, List, length}
+use Rattle.std.proofs.Common.{◌≡◌, ap, refl, ℕ, List, length}
 use Rattle.std.specs.Prelude.{Bool, true, false, cond, not, ◌||◌, ◌==◌, nat_lt, IsOk, is_ok, Option, Some, None, Result, Ok, Err}
 use Rattle.silo_address.specs.Silo.{Silo}
 use Rattle.membership_view.specs.declared.Status.{Status}
 use Rattle.membership_view.specs.declared.Status.TheVariants.{Active, Leaving, Dead}
-use Rattle.hash_ring.specs.declared.Hashing.{Hashing}
 use Rattle.hash_ring.specs.Places.{PlacesValue, has_points, is_added, is_point_count, with_silo}
 use Rattle.directory_rules.specs.Settings.{Settings}
 use Rattle.directory_rules.specs.Membership.{Listed, placed}

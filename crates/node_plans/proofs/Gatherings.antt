@@ -1,6 +1,6 @@
 -- What is gathered and reported, found again where it was put, and what a node sends then.
 use Rattle.std.proofs.Common.{arith, ◌≡◌, ◌-◌, refl, sym, subst, ap, ◌∙◌, ℕ, List, [], ◌∷◌, ◌++◌}
-use Rattle.std.specs.Prelude.{Bool, true, false, cond, ◌&&◌, ◌==◌, ◌+◌, All, Option, Some, None, Ok, Err, IsSomeAnd, map, length, slice_index_or}
+use Rattle.std.specs.Prelude.{Bool, true, false, cond, ◌&&◌, ◌==◌, ◌+◌, All, Option, Some, None, Ok, Err, IsSomeAnd, length, slice_index_or}
 use Rattle.std.specs.Option.{unwrap_or}
 use Rattle.std.specs.Ordering.{is_eq, nat_cmp}
 use Rattle.std.proofs.lemmas.List.{length-map}

@@ -1,9 +1,8 @@
-use Rattle.std.proofs.Common.{◌≡◌, sym, subst, ap, ◌∙◌, ℕ, []}
+use Rattle.std.proofs.Common.{sym, subst, ap, ◌∙◌, ℕ, []}
 use Rattle.std.specs.Prelude.{Err, IsOk}
 use Rattle.membership_view.specs.Refusal.{views_error_number}
 use Rattle.membership_view.specs.Views.{views_from}
 use Rattle.membership_view.specs.declared.ViewsError.{ViewsError}
-use Rattle.hash_ring.specs.declared.Hashing.{Hashing}
 use Rattle.directory_rules.specs.Membership.{begun}
 use Rattle.directory_node.specs.Follows.{RefusesBy}
 use Rattle.directory_node.proofs.ListedSilos.{begun_so, too_late}

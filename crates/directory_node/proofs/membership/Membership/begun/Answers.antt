@@ -1,4 +1,4 @@
-use Rattle.std.proofs.Common.{◌≡◌, ◌∙◌, ap, sym, take, take_all, List}
+use Rattle.std.proofs.Common.{◌∙◌, ap, sym, take_all, List}
 use Rattle.std.specs.Prelude.{IsOk}
 use Rattle.std.proofs.lemmas.Result.{err_from_is_err_and}
 use Rattle.directory_rules.specs.ListedModel.{all_listed_of}

@@ -1,6 +1,5 @@
 use Rattle.std.proofs.Common.{◌≡◌, subst}
 use Rattle.std.specs.Prelude.{IsOk, Ok}
-use Rattle.membership_view.specs.declared.Status.{Status}
 use Rattle.membership_view.specs.Beginning.{after_listing, with_listed}
 use Rattle.membership_view.specs.Refusal.{views_error_number}
 use Rattle.hash_ring.specs.Numbers.{ring_error_number}

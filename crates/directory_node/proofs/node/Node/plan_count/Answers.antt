@@ -1,7 +1,6 @@
-use Rattle.std.proofs.Common.{◌≡◌, sym, ap, ◌∙◌, [], ◌∷◌}
+use Rattle.std.proofs.Common.{sym, ap, ◌∙◌, [], ◌∷◌}
 use Rattle.std.specs.Prelude.{Ok}
 use Rattle.std.proofs.lemmas.Result.{IfOk-weaker}
-use Rattle.directory_rules.specs.State.{Report}
 use Rattle.directory_rules.specs.declared.Effect.TheVariants as effect
 use Rattle.range_recovery.specs.declared.RecoveryProgress.{RecoveryProgress}
 use Rattle.node_plans.proofs.AskedOn.{asks_on, awaits_others, completes, refuses}

@@ -1,4 +1,4 @@
-use Rattle.std.proofs.Common.{◌≡◌, sym, ap, ◌∙◌, length}
+use Rattle.std.proofs.Common.{sym, ap, ◌∙◌, length}
 use Rattle.std.specs.Prelude.{Ok}
 use Rattle.directory_rules.specs.Step.{Stepped}
 use Rattle.range_recovery.specs.declared.RecoveryProgress.{RecoveryProgress}

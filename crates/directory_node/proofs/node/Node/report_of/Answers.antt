@@ -1,8 +1,7 @@
-use Rattle.std.proofs.Common.{◌≡◌, ap, ◌∙◌, [], ◌∷◌, length, take}
+use Rattle.std.proofs.Common.{ap, ◌∙◌, length, take}
 use Rattle.std.specs.Prelude.{nat_le}
 use Rattle.directory_rules.specs.Host.{firm_behind}
 use Rattle.directory_rules.specs.State.{Node, Report}
-use Rattle.directory_node.specs.NodeModel.{node_of}
 use Rattle.directory_node.proofs.node.Node.report_of.Goals as goal
 
 pub returns : goal.returns
