@@ -15,7 +15,7 @@ returns-in_err-may_list_behind-clause-refused c =
     let one = c.index-rows-index.result in
     let p = err_from_is_err_and c.from_residual.result c.from_residual.ensures.1 in
     rw (p.1, p.2)
-    (some_weaker (change_refusal_number c.in_err-may_list_behind.field-0)
+    (some_weaker (change_refusal_number c.in_err-may_list_behind.field-0.0)
     (λ (n : ℕ). begun settings c.args.version (all_listed_of (take index rows) ++ listed_of one ∷ []) ≡ Err n)
     (λ (n : ℕ). begun settings c.args.version (all_listed_of rows) ≡ Err n)
     (λ n refused. all_stop rows index one c.loop-index-test.true c.index-rows-index.is settings c.args.version n refused)

@@ -17,13 +17,13 @@ pub returns-in_err-may_begin-clause-begun : goal.returns-in_err-may_begin-clause
 returns-in_err-may_begin-clause-begun c =
     let p = err_from_is_err_and c.from_residual-in_err-may_begin.result c.from_residual-in_err-may_begin.ensures.1 in
     rw (p.1, p.2)
-    (refuses_by IsOk (change_refusal_number c.in_err-may_begin.field-0) (begun c.args.settings.now c.args.version (all_listed_of c.args.rows.now))
+    (refuses_by IsOk (change_refusal_number c.in_err-may_begin.field-0.0) (begun c.args.settings.now c.args.version (all_listed_of c.args.rows.now))
     c.in_err-may_begin.ensures.refused)
 
 pub returns-in_err-may_begin-clause-numbered : goal.returns-in_err-may_begin-clause-numbered
 returns-in_err-may_begin-clause-numbered c =
     let p = err_from_is_err_and c.from_residual-in_err-may_begin.result c.from_residual-in_err-may_begin.ensures.1 in
-    rw (p.1, p.2) (has_number _ (change_refusal_number c.in_err-may_begin.field-0) _ c.in_err-may_begin.ensures.refused)
+    rw (p.1, p.2) (has_number _ (change_refusal_number c.in_err-may_begin.field-0.0) _ c.in_err-may_begin.ensures.refused)
 
 pub returns-in-Err-clause-begun : goal.returns-in-Err-clause-begun
 returns-in-Err-clause-begun c =
