@@ -17,9 +17,15 @@ pub enum Body {
     /// A silo to the owner of a grain's hash.
     Request(HashedRequest),
     /// The owner back, under the request's number.
-    Reply { number: u64, reply: Reply },
+    Reply {
+        number: u64,
+        reply: Reply,
+    },
     /// The new owner of a range to the previous one: for the page of that number of its snapshot.
-    Ask { range: RingRange, page: u64 },
+    Ask {
+        range: RingRange,
+        page: u64,
+    },
     /// A page of the snapshot.
     Page(Page),
     /// The asked silo has no such snapshot or page.

@@ -1,3 +1,5 @@
 pub mod Numbered
 pub mod SightBy
+mod StatedPlaces
 mod ListedSilos
+pub mod ListedRows

@@ -2,11 +2,11 @@
 use Rattle.std.proofs.Common.{◌≡◌, ◌≢◌, refl, sym, subst, ap, ◌∙◌, ℕ, List, [], ◌∷◌, ◌++◌, arith}
 use Rattle.std.specs.Prelude.{Bool, true, false, cond, ◌==◌, ◌+◌, ◌<◌, nat_lt, length, take, drop, slice_index_or, IfNone, IsOk, is_ok, IsSomeAnd, Option, Some, None, Result, Ok, Err}
 use Rattle.std.proofs.lemmas.Bool.{lt-ltb, ltb-true}
-use Rattle.std.proofs.lemmas.List.{length-append, map-append, map_more, take-append-drop}
+use Rattle.std.proofs.lemmas.List.{map-append, map_more, take-append-drop}
 use Rattle.membership_view.specs.declared.Status.{Status}
 use Rattle.membership_view.specs.declared.Status.TheVariants.{Active, Leaving, Dead}
 use Rattle.membership_view.specs.Beginning.{after_listing}
-use Rattle.membership_view.specs.Views.{ViewsValue, most_known}
+use Rattle.membership_view.specs.Views.{ViewsValue, most_known, views_from}
 use Rattle.hash_ring.specs.Places.{PlacesValue, after_add}
 use Rattle.directory_rules.proofs.Cases.{on_bool}
 use Rattle.directory_rules.specs.Settings.{Settings}
@@ -14,7 +14,7 @@ use Rattle.directory_rules.specs.ListedModel.{all_listed_of, listed_of}
 use Rattle.directory_rules.specs.declared.Listed.{Listed as Told}
 use Rattle.directory_rules.specs.Membership.{Listed, Membership, begun, listed, listed_all, listed_by, membership_from, placed, with_places}
 use Rattle.node_plans.specs.Follows.{RefusesBy}
-use Rattle.directory_node.specs.MembershipModel.{ListsSome, MayBeListed, RefusesPlaces, places_by, places_of_listed}
+use Rattle.directory_node.specs.MembershipModel.{MayBeListed, RefusesPlaces, places_by, places_of_listed}
 
 -- a refusal with a number isn't out of memory
 pub has_number : (P : ℕ → Type 0) (number : Option ℕ) (Unnumbered : Type 0) → IsSomeAnd number P → IfNone number Unnumbered
@@ -68,7 +68,7 @@ living_placed settings places new one living may added =
 abbrev both : ViewsValue → PlacesValue → Membership
 both views places = record { views = views; places = places }
 
-by_views : (status : Status) (number : ℕ) (settings : Settings) (places : PlacesValue) (one : Listed)
+pub by_views : (status : Status) (number : ℕ) (settings : Settings) (places : PlacesValue) (one : Listed)
     → listed_by status (Err number) settings places one.silo one.places ≡ Err number
 by_views Active number settings places one = refl
 by_views Leaving number settings places one = refl
@@ -88,8 +88,8 @@ by_places : (status : Status) (views : ViewsValue) (settings : Settings) (places
 by_places Active views settings places new one is = ap (λ p. with_places p views) is
 by_places Leaving views settings places new one is = ap (λ p. with_places p views) is
 by_places Dead views settings places new one is =
-    on_bool (λ b. cond b (Ok places) (Err 402) ≡ Ok new
-    → cond b (Ok (both views places)) (Err 402) ≡ Ok (both views new))
+    on_bool (λ b. cond {A = Result PlacesValue ℕ} b (Ok places) (Err 402) ≡ Ok new
+    → cond {A = Result Membership ℕ} b (Ok (both views places)) (Err 402) ≡ Ok (both views new))
     (length one.places == 0)
     (λ t so. let same : places ≡ new = cc (so) in ap (λ (p : PlacesValue). Ok (both views p)) same)
     (λ f so. absurd (cc (so))) is
@@ -107,8 +107,8 @@ by_refusal : (status : Status) (views : ViewsValue) (settings : Settings) (place
 by_refusal Active views settings places one number is = ap (λ p. with_places p views) is
 by_refusal Leaving views settings places one number is = ap (λ p. with_places p views) is
 by_refusal Dead views settings places one number is =
-    on_bool (λ b. cond b (Ok places) (Err 402) ≡ Err number
-    → cond b (Ok (both views places)) (Err 402) ≡ Err number)
+    on_bool (λ b. cond {A = Result PlacesValue ℕ} b (Ok places) (Err 402) ≡ Err number
+    → cond {A = Result Membership ℕ} b (Ok (both views places)) (Err 402) ≡ Err number)
     (length one.places == 0) (λ t so. absurd (cc (so)))
     (λ f so. let same : 402 ≡ number = cc (so) in ap (λ n. Err n) same) is
 
@@ -129,19 +129,38 @@ may_be_listed settings m one views lists may = by (places_of_listed settings m.p
     by (Err number) is may = absurd (cc (may))
 
 -- ---- one after the other
+pub refuses_by : {A : Type 0} (excused : Result A ℕ → Type 0) (number : Option ℕ) (outcome : Result A ℕ)
+    → IsSomeAnd number (λ n. outcome ≡ Err n) → RefusesBy excused number outcome
+refuses_by excused None outcome refused = absurd refused
+refuses_by excused (Some n) outcome refused = refused
+
+pub some_weaker : (number : Option ℕ) (P Q : ℕ → Type 0) → ((n : ℕ) → P n → Q n) → IsSomeAnd number P → IsSomeAnd number Q
+some_weaker None P Q weaker some = some
+some_weaker (Some n) P Q weaker some = weaker n some
+
 pub before_any : (settings : Settings) (version : ℕ) → (¬ (version < most_known) → ⊥)
     → begun settings version [] ≡ Ok (membership_from settings version)
 before_any settings version early =
-    on_bool (λ b. nat_lt version most_known ≡ b → cond b (Ok (membership_from settings version)) (Err 210) ≡ Ok (membership_from settings version))
+    on_bool (λ b. nat_lt version most_known ≡ b → cond {A = Result Membership ℕ} b (Ok (membership_from settings version)) (Err 210) ≡ Ok (membership_from settings version))
     (nat_lt version most_known) (λ t is. refl)
     (λ f is. absurd (early (λ below. cc (sym (lt-ltb version most_known below) ∙ is)))) refl
 
+-- so it is in what the code begins with
+pub begun_so : (settings : Settings) (version : ℕ) (views : ViewsValue) (places : PlacesValue) → (¬ (version < most_known) → ⊥)
+    → views ≡ views_from settings.silos version
+    → places ≡ record { hashing = settings.hashing; points = settings.points; entries = [] }
+    → begun settings version [] ≡ Ok (both views places)
+begun_so settings version views places early views_are places_are =
+    before_any settings version early
+    ∙ ap (λ (v : ViewsValue). Ok (both v (record { hashing = settings.hashing; points = settings.points; entries = [] }))) (sym views_are)
+    ∙ ap (λ (p : PlacesValue). Ok (both views p)) (sym places_are)
+
 pub too_late : (settings : Settings) (version : ℕ) → ¬ (version < most_known) → begun settings version [] ≡ Err 210
 too_late settings version late =
-    on_bool (λ b. nat_lt version most_known ≡ b → cond b (Ok (membership_from settings version)) (Err 210) ≡ Err 210)
+    on_bool (λ b. nat_lt version most_known ≡ b → cond {A = Result Membership ℕ} b (Ok (membership_from settings version)) (Err 210) ≡ Err 210)
     (nat_lt version most_known) (λ t is. absurd (late (ltb-true version most_known is))) (λ f is. refl) refl
 
-refused_all : (settings : Settings) (number : ℕ) (rows : List Listed) → listed_all settings (Err number) rows ≡ Err number
+pub refused_all : (settings : Settings) (number : ℕ) (rows : List Listed) → listed_all settings (Err number) rows ≡ Err number
 refused_all settings number [] = refl
 refused_all settings number (one ∷ rows) = refl
 
@@ -170,33 +189,16 @@ begun_next settings version front m one is =
     begun_more settings version front (one ∷ []) ∙ ap (λ r. listed_all settings r (one ∷ [])) is ∙ none_more settings (listed settings m one)
 
 -- where one is refused, so are all
-pub stops_at : (number : Option ℕ) (settings : Settings) (version : ℕ) (front behind : List Listed) (m : Membership) (one : Listed)
-    → begun settings version front ≡ Ok m → RefusesBy IsOk number (listed settings m one)
-    → RefusesBy (λ _. ListsSome settings version ((front ++ one ∷ []) ++ behind)) number (begun settings version ((front ++ one ∷ []) ++ behind))
-stops_at None settings version front behind m one is may = record {
-  front = front ++ one ∷ [];
-  behind = behind;
-  all = refl;
-  some = omega (arith, length-append front (one ∷ []));
-  listed = ap (λ (r : Result Membership ℕ). is_ok r) (begun_next settings version front m one is) ∙ may;
-}
-stops_at (Some n) settings version front behind m one is refused =
-    begun_more settings version (front ++ one ∷ []) behind
-    ∙ ap (λ r. listed_all settings r behind) (begun_next settings version front m one is ∙ refused)
-    ∙ refused_all settings n behind
+stops_at : (number : ℕ) (settings : Settings) (version : ℕ) (front behind : List Listed) → begun settings version front ≡ Err number
+    → begun settings version (front ++ behind) ≡ Err number
+stops_at number settings version front behind refused =
+    begun_more settings version front behind ∙ ap (λ r. listed_all settings r behind) refused ∙ refused_all settings number behind
 
 -- ---- the same of what the code is told
-module _ (settings : Settings) (version : ℕ) (rows : List Told) (index : ℕ) (one : Told) (m : Membership) (below : index < length rows)
-    (its : one ≡ slice_index_or rows index one) (is : begun settings version (all_listed_of (take index rows)) ≡ Ok m) where
-  with_one : all_listed_of (take (index + 1) rows) ≡ all_listed_of (take index rows) ++ listed_of one ∷ []
+module _ (rows : List Told) (index : ℕ) (one : Told) (below : index < length rows) (its : one ≡ slice_index_or rows index one) where
+  pub with_one : all_listed_of (take (index + 1) rows) ≡ all_listed_of (take index rows) ++ listed_of one ∷ []
   with_one =
       map_more listed_of rows index one below ∙ ap (λ (t : Told). all_listed_of (take index rows) ++ listed_of t ∷ []) (sym its)
-
-  pub told_next : (next : Membership) → listed settings m (listed_of one) ≡ Ok next
-      → begun settings version (all_listed_of (take (index + 1) rows)) ≡ Ok next
-  told_next next made =
-      ap (λ l. begun settings version l) with_one
-      ∙ begun_next settings version (all_listed_of (take index rows)) m (listed_of one) is ∙ made
 
   in_parts : all_listed_of rows ≡ (all_listed_of (take index rows) ++ listed_of one ∷ []) ++ all_listed_of (drop (index + 1) rows)
   in_parts =
@@ -204,9 +206,23 @@ module _ (settings : Settings) (version : ℕ) (rows : List Told) (index : ℕ) 
       ∙ map-append listed_of (take (index + 1) rows) (drop (index + 1) rows)
       ∙ ap (λ l. l ++ all_listed_of (drop (index + 1) rows)) with_one
 
-  pub told_stops : (number : Option ℕ) → RefusesBy IsOk number (listed settings m (listed_of one))
-      → RefusesBy (λ _. ListsSome settings version (all_listed_of rows)) number (begun settings version (all_listed_of rows))
-  told_stops number refused =
-      subst (λ l. RefusesBy (λ _. ListsSome settings version l) number (begun settings version l)) (sym in_parts)
-      (stops_at number settings version (all_listed_of (take index rows)) (all_listed_of (drop (index + 1) rows)) m (listed_of one) is
-      refused)
+  module _ (settings : Settings) (version : ℕ) where
+    pub all_stop : (number : ℕ) → begun settings version (all_listed_of (take index rows) ++ listed_of one ∷ []) ≡ Err number
+        → begun settings version (all_listed_of rows) ≡ Err number
+    all_stop number refused =
+        ap (λ l. begun settings version l) in_parts
+        ∙ stops_at number settings version (all_listed_of (take index rows) ++ listed_of one ∷ []) (all_listed_of (drop (index + 1) rows)) refused
+
+    module _ (m : Membership) (is : begun settings version (all_listed_of (take index rows)) ≡ Ok m) where
+      pub told_next : (next : Membership) → listed settings m (listed_of one) ≡ Ok next
+          → begun settings version (all_listed_of (take (index + 1) rows)) ≡ Ok next
+      told_next next made =
+          ap (λ l. begun settings version l) with_one
+          ∙ begun_next settings version (all_listed_of (take index rows)) m (listed_of one) is ∙ made
+
+      -- one that isn't refused may have found no memory, where none is refused
+      pub told_stops : (number : Option ℕ) → RefusesBy IsOk number (listed settings m (listed_of one))
+          → IsOk (begun settings version (all_listed_of rows)) → RefusesBy IsOk number (begun settings version (all_listed_of rows))
+      told_stops None may all = all
+      told_stops (Some number) refused all =
+          all_stop number (begun_next settings version (all_listed_of (take index rows)) m (listed_of one) is ∙ refused)

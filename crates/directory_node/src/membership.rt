@@ -11,10 +11,12 @@ ghost use Rattle.directory_rules.specs.ListedModel.{all_listed_of, listed_of};
 ghost use Rattle.directory_rules.specs.Membership.{Join, Leave, Die, begun, changed, first_membership, is_seeable, listed, placed, replaced_by, status_in};
 ghost use Rattle.directory_rules.specs.Settings.{Settings as SettingsValue};
 ghost use Rattle.node_plans.specs.Follows.{Follows};
-ghost use Rattle.directory_node.specs.MembershipModel.{IsNumberedUnlessMemory, ListsSome, MayBeListed, RefusesPlaces, change_refusal_number, places_of_listed};
+ghost use Rattle.directory_node.specs.MembershipModel.{IsNumberedUnlessMemory, MayBeListed, RefusesPlaces, change_refusal_number, places_of_listed};
 
+use crate::beginnings::may_begin;
+use crate::stated::{may_state, may_state_none};
 use directory_rules::{Listed, Settings};
-use hash_ring::{Hashing, Places, RingError};
+use hash_ring::{Places, RingError};
 use membership_view::{Status, View, Views, ViewsError};
 use silo_address::SiloAddress;
 use std::alloc::{AllocError, Global};
@@ -65,20 +67,24 @@ impl Membership {
 
     /// What is known by the view of a version alone, in place of all changes up to it. Refused by 210 where no history may begin with that
     /// version; then silo by silo, the first one first: by 210 where its endpoint was listed, or the version is 0; by 205 where as many
-    /// are known as may be; by 402, 403 as at a join, or by 402 where places are stated for one that is Dead. Memory runs out only at a
-    /// silo that isn't refused, behind others that aren't.
+    /// are known as may be; by 402, 403 as at a join, or by 402 where places are stated for one that is Dead. Memory runs out only where
+    /// none of them is refused.
     pub fn begun(
         alloc: Global,
         settings: &Settings,
         version: u64,
         rows: &[Listed],
     ) -> Result<Membership, ChangeRefusal>
-        ensures begun { Follows (λ m. m) change_refusal_number (λ _. ListsSome settings.now version (all_listed_of rows.now)) (begun settings.now version (all_listed_of rows.now)) result }
+        ensures begun { Follows (λ m. m) change_refusal_number IsOk (begun settings.now version (all_listed_of rows.now)) result }
         ensures numbered { IfErr result IsNumberedUnlessMemory }
     {
         let mut begun = Membership::before_listing(alloc, settings, version)?;
         for one in rows {
-            begun.list(settings, one)?;
+            if let Err(refusal) = begun.list(settings, one) {
+                // Memory may have run out in front of a silo that is refused.
+                may_begin(settings, version, rows)?;
+                return Err(refusal);
+            }
         }
         Ok(begun)
     }
@@ -215,14 +221,7 @@ impl Membership {
         ensures placed { OnOk result (IsOk (placed settings.now self.now.places silo.now stated.now)) }
         ensures refused { IfErr result (λ refusal. IsSomeAnd (ring_error_number refusal) (λ number. placed settings.now self.now.places silo.now stated.now ≡ Err number)) }
     {
-        settings.in_range();
-        let is_hashed = self.places.hashing() == Hashing::Sha256;
-        if stated.len() > settings.places() || is_hashed && !stated.is_empty() {
-            return Err(RingError::PointCount);
-        }
-        if !is_hashed && stated.is_empty() {
-            return Err(RingError::PointsMissing);
-        }
+        may_state(settings, self.places.hashing(), stated)?;
         if self.places.is_added(silo) {
             return Err(RingError::AlreadyAdded);
         }
@@ -298,18 +297,6 @@ impl Membership {
             Err(refusal) => Err(ChangeRefusal::Views(refusal)),
         }
     }
-}
-
-// Whether no places are stated, as for a silo that is Dead: 402.
-fn may_state_none(stated: &[u32]) -> Result<(), RingError>
-    ensures none { OnOk result ((length stated.now == 0) ≡ true) }
-    ensures some { OnErr result ((length stated.now == 0) ≡ false) }
-    ensures only { IfErr result (λ refusal. refusal ≡ RingError.PointCount) }
-{
-    if !stated.is_empty() {
-        return Err(RingError::PointCount);
-    }
-    Ok(())
 }
 
 // A silo that is listed gets the places stated for it, but for one that is Dead.

@@ -1,11 +1,8 @@
 -- The rows of a world's dump have the shape that they must have.
-use Rattle.std.proofs.Common.{arith, ◌≡◌, ℕ, suc, ◌+◌, ◌<◌, ◌≤◌, List, [], ◌∷◌, IsSome, refl, sym, ap, subst}
-use Rattle.std.specs.Prelude.{◌^◌, true, if◌then◌else◌, is_some, length, All, Option, Some, None}
+use Rattle.std.proofs.Common.{arith, ◌≡◌, ℕ, ◌<◌, ◌≤◌, List, [], IsSome, refl, sym, subst}
+use Rattle.std.specs.Prelude.{◌^◌, true, is_some, length, All, Option, Some, None}
 use Rattle.std.specs.Option.{unwrap_or}
-use Rattle.std.specs.List.{slice_index_or}
-use Rattle.std.specs.Map.{values_of}
 use Rattle.std.proofs.lemmas.List.Elements.{All-nil, All-map}
-use Rattle.std.proofs.lemmas.List.Sums.{sum_by-le}
 use Rattle.silo_address.specs.Silo.{Silo, silo_cmp}
 use Rattle.silo_address.specs.Grain.{Grain}
 use Rattle.silo_address.proofs.Order.{silo_cmp_total, silo_cmp_exact}
@@ -18,7 +15,6 @@ use Rattle.hash_ring.specs.declared.hashing.Hashing.{Hashing}
 use Rattle.hash_ring.specs.declared.hashing.Hashing.TheVariants.{Sha256, Stated}
 use Rattle.hash_ring.specs.Places.{PlacesValue, IsPlaces, places_of, is_added, named_places}
 use Rattle.directory_rules.specs.State.{World}
-use Rattle.directory_rules.proofs.Cases.{on_bool}
 use Rattle.directory_facts.proofs.Places.{added_row}
 use Rattle.directory_headline.proofs.Facts.{WorldFacts}
 use Rattle.dump_rules.specs.Dump.{dump_row, dump_of}

@@ -1,6 +1,6 @@
 -- What is listed stretch by stretch in the order of hashes is the first of what is asked for.
-use Rattle.std.proofs.Common.{◌≡◌, ◌⊎◌, inl, inr, refl, sym, ap, subst, ◌∙◌, ℕ, ◌+◌, ◌-◌, ◌<◌, ◌≤◌, List, [], ◌∷◌, ◌++◌, append_assoc, cond, Bool, true, false, ◌&&◌, ◌||◌, filter, length, map, Option, Some, None, is_some, slice_get, arith}
-use Rattle.std.specs.Prelude.{nat_le, nat_lt}
+use Rattle.std.proofs.Common.{◌≡◌, ◌⊎◌, inl, inr, refl, sym, ap, ◌∙◌, ℕ, ◌+◌, ◌-◌, ◌<◌, ◌≤◌, List, [], ◌∷◌, ◌++◌, cond, Bool, true, false, ◌||◌, filter, length, map, Option, Some, None, is_some, slice_get, arith}
+use Rattle.std.specs.Prelude.{nat_lt}
 use Rattle.std.specs.BTreeMap.{is_at}
 use Rattle.std.specs.BTreeMap.Range.{entries_between}
 use Rattle.std.specs.List.{AllByRecursion, IsDistinct}
@@ -9,17 +9,15 @@ use Rattle.std.specs.Map.{lookup, keys_of}
 use Rattle.std.specs.declared.ops.Bound.{Bound}
 use Rattle.std.specs.declared.ops.Bound.TheVariants.{Included}
 use Rattle.std.proofs.lemmas.Bool.{and_parts, cases_lt, lt-ltb, ltb-true}
-use Rattle.std.proofs.lemmas.List.{append-nil, map-append}
+use Rattle.std.proofs.lemmas.List.{map-append}
 use Rattle.std.proofs.lemmas.List.Elements.{filter-append, filter_map-append}
-use Rattle.std.proofs.lemmas.Option.{none-some, same_Some}
 use Rattle.silo_address.specs.Grain.{Grain, grain_cmp, grain_eq}
-use Rattle.ring_range.specs.Range.{Range, IsRange, circle, holds}
+use Rattle.ring_range.specs.Range.{IsRange, circle, holds}
 use Rattle.hash_ring.specs.declared.Hashing.{Hashing}
 use Rattle.hash_ring.specs.Hash.{hash_grain}
 use Rattle.hash_ring.proofs.HashesBelow.{grain_below}
 use Rattle.directory_rules.specs.declared.Held.{Held}
 use Rattle.directory_rules.specs.Standing.{stands_behind, steps_to}
-use Rattle.directory_rules.proofs.Cases.{on_bool}
 use Rattle.host_activations.specs.Begun.{AreApart}
 use Rattle.host_activations.specs.ByHash.{AreByHash, IsUnder, hashed_count_cmp}
 use Rattle.host_activations.specs.Firm.{is_told}
@@ -292,11 +290,11 @@ module _ (asked : PageAsked) (is_range : IsRange asked.range) (es : List (Grain 
 -- what stands between the bounds of a stretch
 pub stretch_is : (hashing : Hashing) (es : List (Grain × Held)) (hashed : List (HashedCount × ℕ)) → AreByHash hashing es hashed
     → IsStrictlySortedBy hashed_count_cmp (keys_of hashed) → (first end : ℕ) → end ≤ circle
-    → (start : HashedCount) (bound : Bound HashedCount)
-    → start ≡ first_at first → bound ≡ end_at end → (stretch : List (HashedCount × ℕ))
-    → stretch ≡ entries_between hashed_count_cmp (Included start) bound hashed → stretch ≡ hashed_between first end hashed
-stretch_is hashing es hashed by_hash sorted first end within start bound start_is bound_is stretch is =
-    is ∙ (λ i. entries_between hashed_count_cmp (Included (start_is i)) (bound_is i) hashed)
+    → (least : HashedCount) (bound : Bound HashedCount)
+    → least ≡ first_at first → bound ≡ end_at end → (stretch : List (HashedCount × ℕ))
+    → stretch ≡ entries_between hashed_count_cmp (Included least) bound hashed → stretch ≡ hashed_between first end hashed
+stretch_is hashing es hashed by_hash sorted first end within least bound least_is bound_is stretch is =
+    is ∙ (λ i. entries_between hashed_count_cmp (Included (least_is i)) (bound_is i) hashed)
     ∙ between_are first end within hashed (are_hashes hashing es hashed (each_under hashing es hashed by_hash sorted))
 
 pub adds_between : (asked : PageAsked) (es : List (Grain × Held)) (hashed stretch : List (HashedCount × ℕ)) (first end : ℕ)

@@ -1,14 +1,13 @@
 -- The loops that list what is asked for, of all activations and of a stretch of hashes: what is listed so far, and what is left.
-use Rattle.std.proofs.Common.{◌≡◌, ◌≢◌, ◌⊎◌, inl, inr, refl, sym, ap, subst, ◌∙◌, ℕ, ◌+◌, ◌<◌, ◌≤◌, List, [], ◌∷◌, ◌++◌, append_assoc, drop, cond, Bool, true, false, not, filter, length, Option, Some, None, slice_get, arith}
-use Rattle.std.specs.Prelude.{⊤, MatchOption, nat_lt}
+use Rattle.std.proofs.Common.{◌≡◌, ◌≢◌, inl, inr, refl, sym, ap, subst, ◌∙◌, eq-eqb, eqb, ℕ, ◌+◌, ◌<◌, ◌≤◌, List, [], ◌∷◌, ◌++◌, append_assoc, drop, cond, true, false, not, length, Option, Some, None, slice_get, arith}
+use Rattle.std.specs.Prelude.{nat_lt}
 use Rattle.std.specs.List.{AllByRecursion, cons_option}
-use Rattle.std.specs.Option.{option_map}
+use Rattle.std.specs.Option.{option_eq, option_map}
 use Rattle.std.proofs.lemmas.Bool.{le-ltb, lt-ltb}
 use Rattle.std.proofs.lemmas.List.{append-nil}
-use Rattle.std.proofs.lemmas.List.Elements.{filter-append, filter_map-append}
-use Rattle.std.proofs.lemmas.Option.{none-some, same_Some}
+use Rattle.std.proofs.lemmas.List.Elements.{filter-append}
+use Rattle.std.proofs.lemmas.Option.{same_Some}
 use Rattle.silo_address.specs.Grain.{Grain}
-use Rattle.hash_ring.specs.declared.Hashing.{Hashing}
 use Rattle.hash_ring.specs.Hash.{hash_grain}
 use Rattle.directory_rules.specs.declared.Held.{Held}
 use Rattle.host_activations.specs.ByHash.{IsUnder, key_of}
@@ -31,6 +30,10 @@ asked_on asked es index e there firm new new_is before =
     ∙ before
 
 -- ---- A stretch.
+-- a hash that isn't the last one
+pub other_hash : (last : Option ℕ) (hash : ℕ) → true ≡ not (option_eq eqb last (Some hash)) → last ≡ Some hash → ⊥
+other_hash last hash differs same =
+    let no : true ≡ false = differs ∙ ap (λ (o : Option ℕ). not (option_eq eqb o (Some hash))) same ∙ ap not (eq-eqb hash hash refl) in cc
 
 -- the hash of the last that was passed, if there was one: none that was passed is above it, and none that is left below
 abbrev IsUpTo : (passed left : List (HashedCount × ℕ)) → Option ℕ → Type 0

@@ -12,7 +12,7 @@ use Rattle.range_moves.specs.Arcs.{owner_silo}
 use Rattle.directory_rules.specs.declared.act.Act.{Act}
 use Rattle.directory_rules.specs.declared.act.Request.{Request}
 use Rattle.directory_rules.specs.Host as host
-use Rattle.directory_rules.specs.State.{Host, Letter, Request_letter, Node, World, Accepted}
+use Rattle.directory_rules.specs.State.{Letter, Request_letter, Node, World, Accepted}
 use Rattle.directory_rules.specs.Host.{outstanding, grain_of}
 use Rattle.directory_rules.specs.Answer.{last_served, is_numbered}
 use Rattle.directory_rules.specs.Event.{Do}

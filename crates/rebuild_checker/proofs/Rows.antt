@@ -203,8 +203,8 @@ active_told dump is version silo =
 -- ---- Each row of a dump says something of its current version.
 row_made : (dump : DumpValue) → is_dump dump ≡ true → (rows : List DumpRow) → rows ≡ dump.rows → All (λ row. row.joined ≤ dump.current) rows
 row_made dump is rows its =
-    subst (λ l. All (λ row. row.joined ≤ dump.current) l) (sym its)
-    (All-weaker (IsRowOf dump) (λ row. row.joined ≤ dump.current) (λ row of. of.made) dump.rows (dump_is dump is).rows)
+    subst (λ (l : List DumpRow). All (λ (row : DumpRow). row.joined ≤ dump.current) l) (sym its)
+    (All-weaker (IsRowOf dump) (λ (row : DumpRow). row.joined ≤ dump.current) (λ row of. of.made) dump.rows (dump_is dump is).rows)
 
 says_by : (dead left joined : Bool) → joined ≡ true
     → (status : Status) × ((if dead then Some Dead else (if left then Some Leaving else (if joined then Some Active else None))) ≡ Some status)
@@ -231,10 +231,10 @@ shown_all : (version : ℕ) (rows : List DumpRow) → All (λ row. row.joined �
     → rows_in version (map row_in_dump rows) ≡ map (λ row. (row.silo, now_status version row)) rows
 shown_all version [] all = refl
 shown_all version (row ∷ rows) all =
-    let its = says version (its_row row) (All-head (λ r. r.joined ≤ version) row rows all) in
+    let its = says version (its_row row) (All-head (λ (r : DumpRow). r.joined ≤ version) row rows all) in
     let known : status_in version (its_row row) ≡ Some (now_status version row) = its.1 ∙ ap Some (ap (λ o. unwrap_or o Active) (sym its.1)) in
     ap (λ o. cons_option (option_map (λ status. (row.silo, status)) o) (rows_in version (map row_in_dump rows))) known
-    ∙ ap (λ l. (row.silo, now_status version row) ∷ l) (shown_all version rows (All-tail (λ r. r.joined ≤ version) row rows all))
+    ∙ ap (λ l. (row.silo, now_status version row) ∷ l) (shown_all version rows (All-tail (λ (r : DumpRow). r.joined ≤ version) row rows all))
 
 -- the row where one would stand that has none says whether it is outlived
 gap_says : (version : ℕ) (silo : Silo) (o : Option DumpRow) → ((row : DumpRow) → o ≡ Some row → row.joined ≤ version)
@@ -253,8 +253,8 @@ pub dead_by_row : (dump : DumpValue) → is_dump dump ≡ true → (rows : List 
     → row ≡ get_or rows index row → answer ≡ has_come (row_in_dump row).1.dead dump.current
     → answer ≡ is_dead_in (dump_view dump dump.current) silo
 dead_by_row dump is rows its silo index row answer within hit read tells =
-    let joined : row.joined ≤ dump.current = subst (λ r. r.joined ≤ dump.current) (sym read)
-    (All-get_or (λ r. r.joined ≤ dump.current) rows index row within (row_made dump is rows its)) in
+    let joined : row.joined ≤ dump.current = subst (λ (r : DumpRow). r.joined ≤ dump.current) (sym read)
+    (All-get_or (λ (r : DumpRow). r.joined ≤ dump.current) rows index row within (row_made dump is rows its)) in
     let outlived = is_outlived silo (shown_in dump.current dump) in
     tells ∙ sym (ap is_known_dead (status_told dump is dump.current silo
     ∙ ap (λ o. or_outlived o outlived) (row_told dump is dump.current silo
@@ -274,8 +274,8 @@ dead_by_gap dump is rows its silo index answer bound parts tells =
     let shown : shown_in version dump ≡ entries = ap (λ l. rows_in version (map row_in_dump l)) (sym its) ∙ shown_all version rows made in
     let rise : IsStrictlySortedBy silo_cmp (keys_of entries) = subst (λ l. IsStrictlySortedBy silo_cmp (keys_of l)) shown (shown_rise dump is version) in
     let there : (row : DumpRow) → slice_get rows index ≡ Some row → row.joined ≤ version = λ row at.
-    subst (λ r. r.joined ≤ version) (get_or_from_slice_get rows index row row at)
-    (All-get_or (λ r. r.joined ≤ version) rows index row (slice_get_within rows index row at) made) in
+    subst (λ (r : DumpRow). r.joined ≤ version) (get_or_from_slice_get rows index row row at)
+    (All-get_or (λ (r : DumpRow). r.joined ≤ version) rows index row (slice_get_within rows index row at) made) in
     tells ∙ sym (ap is_known_dead (status_told dump is version silo
     ∙ ap (λ l. or_outlived (lookup (is_at (silo_cmp silo)) l) (is_outlived silo l)) shown
     ∙ sym (status_miss entries rise silo index (parted (now_status version) rows silo index bound parts))

@@ -5,6 +5,7 @@ use Rattle.worked_rows.specs.FirstSilo as first
 use Rattle.worked_rows.specs.SecondSilo as second
 use Rattle.worked_rows.specs.Recovery as recovering
 use Rattle.worked_rows.specs.MissingSnapshot as missing
+use Rattle.worked_rows.specs.Parts as parts
 use Rattle.worked_rows.specs.Refused as refused
 use Rattle.worked_rows.specs.Begun as begun
 use Rattle.worked_rows.specs.Tokens as tokens
@@ -29,6 +30,10 @@ a_view_skipped = (record { ip = 10 ∷ 0 ∷ 0 ∷ 1 ∷ []; port = 1000; genera
 pub a_snapshot_missing : Writes missing.a_snapshot_missing
 unfolding all_opened
 a_snapshot_missing = (record { ip = 10 ∷ 0 ∷ 0 ∷ 2 ∷ []; port = 1000; generation = 1 }, refl, refl)
+
+pub a_range_told_in_parts : Writes parts.a_range_told_in_parts
+unfolding all_opened
+a_range_told_in_parts = (record { ip = 10 ∷ 0 ∷ 0 ∷ 2 ∷ []; port = 1000; generation = 1 }, refl, refl)
 
 pub refused_changes : Writes refused.refused_changes
 unfolding all_opened

@@ -5,6 +5,7 @@ ghost use Rattle.worked_rows.specs.FirstSilo as first;
 ghost use Rattle.worked_rows.specs.SecondSilo as second;
 ghost use Rattle.worked_rows.specs.Recovery as recovering;
 ghost use Rattle.worked_rows.specs.MissingSnapshot as missing;
+ghost use Rattle.worked_rows.specs.Parts as parts;
 ghost use Rattle.worked_rows.specs.Refused as refused;
 ghost use Rattle.worked_rows.specs.Begun as begun;
 ghost use Rattle.worked_rows.specs.Tokens as tokens;
@@ -35,6 +36,13 @@ pub fn a_view_skipped()
 #[tactic(auto, using(crate::proofs::ProcessesComputed::a_snapshot_missing))]
 pub fn a_snapshot_missing()
     ensures { Writes missing.a_snapshot_missing }
+{}
+
+/// A silo reports a range part by part, and is asked on behind what it told. A part that tells nothing, isn't in order or doesn't go on
+/// there is ignored. What is firm is told from the grain on behind which a query asks.
+#[tactic(auto, using(crate::proofs::ProcessesComputed::a_range_told_in_parts))]
+pub fn a_range_told_in_parts()
+    ensures { Writes parts.a_range_told_in_parts }
 {}
 
 /// A refusal changes nothing.

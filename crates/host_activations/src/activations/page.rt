@@ -55,6 +55,7 @@ impl Activations {
     ) -> Result<FirmPage, AllocError>
         ensures { IfOk result (IsPage (told_behind silo asked.now self.now.entries) asked.now.most) }
     {
+        self.whole();
         let mut firm = self.first_firm(alloc, asked)?;
         firm.sort_unstable();
         page_of(alloc, silo, &firm, asked.most)

@@ -1,20 +1,34 @@
 use Rattle.std.proofs.Common.{◌≡◌, ◌∙◌, ap, sym, take, take_all, List}
+use Rattle.std.specs.Prelude.{IsOk}
+use Rattle.std.proofs.lemmas.Result.{err_from_is_err_and}
 use Rattle.directory_rules.specs.ListedModel.{all_listed_of}
 use Rattle.directory_rules.specs.declared.Listed.{Listed}
 use Rattle.directory_rules.specs.Membership.{begun}
 use Rattle.directory_node.specs.MembershipModel.{change_refusal_number}
-use Rattle.directory_node.proofs.ListedSilos.{told_next, told_stops}
+use Rattle.directory_node.proofs.ListedSilos.{has_number, refuses_by, told_next, told_stops}
 use Rattle.directory_node.proofs.membership.Membership.begun.Goals as goal
 
 pub loop-one-preserved : goal.loop-one-preserved
 loop-one-preserved c =
-    told_next c.args.settings.now c.args.version c.args.rows.now c.loop-one.one-index c.one-item.result c.loop-one.begun c.loop-one-test.true
-    c.one-item.is c.loop-one.invariant c.list.new.begun c.in_ok-list.ensures.listed
+    told_next c.args.rows.now c.loop-one.one-index c.one-item.result c.loop-one-test.true c.one-item.is c.args.settings.now c.args.version
+    c.loop-one.begun c.loop-one.invariant c.list.new.begun c.in_default.ensures.listed
 
-pub returns-in_err-list-clause-begun : goal.returns-in_err-list-clause-begun
-returns-in_err-list-clause-begun c =
-    let stops = told_stops c.args.settings.now c.args.version c.args.rows.now c.loop-one.one-index c.one-item.result c.loop-one.begun c.loop-one-test.true c.one-item.is c.loop-one.invariant (change_refusal_number c.in_err-list.field-0) c.in_err-list.ensures.listed in
-    ?
+pub returns-in_err-may_begin-clause-begun : goal.returns-in_err-may_begin-clause-begun
+returns-in_err-may_begin-clause-begun c =
+    let p = err_from_is_err_and c.from_residual.result c.from_residual.ensures.1 in
+    rw (p.1, p.2)
+    (refuses_by IsOk (change_refusal_number c.in_err-may_begin.field-0) (begun c.args.settings.now c.args.version (all_listed_of c.args.rows.now))
+    c.in_err-may_begin.ensures.refused)
+
+pub returns-in_err-may_begin-clause-numbered : goal.returns-in_err-may_begin-clause-numbered
+returns-in_err-may_begin-clause-numbered c =
+    let p = err_from_is_err_and c.from_residual.result c.from_residual.ensures.1 in
+    rw (p.1, p.2) (has_number _ (change_refusal_number c.in_err-may_begin.field-0) _ c.in_err-may_begin.ensures.refused)
+
+pub returns-in-Err-clause-begun : goal.returns-in-Err-clause-begun
+returns-in-Err-clause-begun c =
+    told_stops c.args.rows.now c.loop-one.one-index c.one-item.result c.loop-one-test.true c.one-item.is c.args.settings.now c.args.version
+    c.loop-one.begun c.loop-one.invariant (change_refusal_number c.in-Err.refusal) c.in-Err.ensures.listed c.in_ok-may_begin.ensures.begins
 
 pub returns-clause-begun : goal.returns-clause-begun
 returns-clause-begun c =

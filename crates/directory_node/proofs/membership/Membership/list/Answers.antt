@@ -1,5 +1,5 @@
 use Rattle.std.proofs.Common.{◌≡◌, subst}
-use Rattle.std.specs.Prelude.{Err, IsOk}
+use Rattle.std.specs.Prelude.{IsOk, Ok}
 use Rattle.membership_view.specs.declared.Status.{Status}
 use Rattle.membership_view.specs.Beginning.{after_listing, with_listed}
 use Rattle.membership_view.specs.Refusal.{views_error_number}
@@ -7,8 +7,8 @@ use Rattle.hash_ring.specs.Numbers.{ring_error_number}
 use Rattle.directory_rules.specs.ListedModel.{listed_of}
 use Rattle.directory_rules.specs.Membership.{Membership, listed}
 use Rattle.node_plans.specs.Follows.{RefusesBy}
-use Rattle.directory_node.specs.MembershipModel.{RefusesPlaces, membership_of}
-use Rattle.directory_node.proofs.ListedSilos.{has_number, may_be_listed, refused_by_places, refused_by_views}
+use Rattle.directory_node.specs.MembershipModel.{membership_of}
+use Rattle.directory_node.proofs.ListedSilos.{has_number, refused_by_places, refused_by_views}
 use Rattle.directory_node.proofs.membership.Membership.list.Goals as goal
 
 pub returns-in-Err-clause-listed : goal.returns-in-Err-clause-listed
@@ -24,11 +24,11 @@ returns-in-Err-clause-numbered c = has_number _ (views_error_number c.in-Err.ref
 pub returns-in-Err-may_place_listed-clause-listed : goal.returns-in-Err-may_place_listed-clause-listed
 returns-in-Err-may_place_listed-clause-listed c =
     let one = listed_of c.args.one.now in
-    let views = c.self.inside.views in
-    subst (λ (m : Membership). RefusesBy IsOk (ring_error_number c.in-Err-may_place_listed.refusal) (listed c.args.settings.now m one))
-    c.self.view_is
-    (refused_by_places (ring_error_number c.in-Err-may_place_listed.refusal) c.args.settings.now (membership_of c.self.inside) one
-    (with_listed views one.silo one.status) (c.in_default.ensures.lists one.status) c.in-Err-may_place_listed.ensures.refused)
+    let now = c.args.self.now in
+    let lists = subst (λ (m : Membership). after_listing m.views one.silo one.status ≡ Ok (with_listed m.views one.silo one.status))
+    c.self.view_is (c.in_default.ensures.lists one.status) in
+    refused_by_places (ring_error_number c.in-Err-may_place_listed.refusal) c.args.settings.now now one
+    (with_listed now.views one.silo one.status) lists c.in-Err-may_place_listed.ensures.refused
 
 pub returns-in-Err-may_place_listed-clause-numbered : goal.returns-in-Err-may_place_listed-clause-numbered
 returns-in-Err-may_place_listed-clause-numbered c =
