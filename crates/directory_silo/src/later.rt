@@ -1,14 +1,14 @@
 //! Whether the silos of a view let a silo join later (`docs/RULES.md#a-silo-by-itself`).
+ghost use Rattle.std.specs.List.{list_all};
 ghost use Rattle.std.specs.Prelude.{◌≡◌};
-ghost use Rattle.directory_rules.specs.ListedModel.{all_listed_of};
-ghost use Rattle.directory_silo.specs.Later.{all_let_join, lets_join};
+ghost use Rattle.directory_silo.specs.Later.{lets_join};
 
 use directory_rules::Listed;
 use silo_address::SiloAddress;
 
 /// Whether no silo that a view lists is this one, or a newer one of its endpoint.
 pub(crate) fn all_let_join(own: &SiloAddress, rows: &[Listed]) -> bool
-    ensures { result ≡ all_let_join own.now (all_listed_of rows.now) }
+    ensures { result ≡ list_all (λ one. lets_join own.now one.silo) rows.now }
 {
     rows.iter().all(|one| lets_join(own, one))
 }

@@ -1,4 +1,4 @@
--- A silo that skips the version of its joining, and recovers by reports, one of which comes again and one of which is out of turn.
+-- A silo that skips the version of its joining, and recovers.
 use Rattle.std.specs.Prelude.{[], ◌∷◌, codes, None}
 use Rattle.texts.specs.Printed.{text_of_lines}
 use Rattle.worked_rows.specs.ProcessRow.{ProcessRow}
@@ -15,10 +15,7 @@ a_view_skipped = record {
       ∷ codes "wake user/eve#2147483650"
       ∷ codes "letter 10.0.0.2:1000@1 10.0.0.1:1000@1 3 retry 1 601 3"
       ∷ codes "letter 10.0.0.2:1000@1 10.0.0.1:1000@1 3 retry 9 601 3"
-      ∷ codes "letter 10.0.0.2:1000@1 10.0.0.1:1000@1 2 report 0+2147483648 more user/ann#7 10.0.0.2:1000@1!1"
-      ∷ codes "letter 10.0.0.2:1000@1 10.0.0.1:1000@1 2 report 0+2147483648 more user/ann#7 10.0.0.2:1000@1!1"
       ∷ codes "letter 10.0.0.2:1000@1 10.0.0.1:1000@1 2 report 0+2147483648 last"
-      ∷ codes "letter 10.0.0.2:1000@1 10.0.0.1:1000@1 2 report 0+2147483648 user/ann#7 last"
       ∷ codes "letter 10.0.0.1:1000@1 10.0.0.1:1000@1 2 query 0+2147483648"
       ∷ codes "letter 10.0.0.1:1000@1 10.0.0.1:1000@1 2 report 0+2147483648 last"
       ∷ codes "letter 10.0.0.2:1000@1 10.0.0.1:1000@1 3 query 0+4294967296"
@@ -43,10 +40,6 @@ a_view_skipped = record {
       ∷ codes "letter 10.0.0.1:1000@1 10.0.0.2:1000@1 2 register 1 user/eve#2147483650 10.0.0.1:1000@1!1"
       ∷ codes "delivered retry noted user/eve#2147483650 601"
       ∷ codes "delivered retry ignored"
-      ∷ codes "delivered report more"
-      ∷ codes "letter 10.0.0.1:1000@1 10.0.0.2:1000@1 2 query 0+2147483648 user/ann#7"
-      ∷ codes "delivered report ignored"
-      ∷ codes "delivered report ignored"
       ∷ codes "delivered report more"
       ∷ codes "delivered query report"
       ∷ codes "letter 10.0.0.1:1000@1 10.0.0.1:1000@1 2 report 0+2147483648 last"

@@ -26,7 +26,7 @@ pub fn second_silo()
     ensures { Writes second.second_silo }
 {}
 
-/// A silo skips the version of its joining, and recovers: it asks another one on, and takes no report that is out of turn.
+/// A silo skips the version of its joining, and recovers.
 #[tactic(auto, using(crate::proofs::ProcessesComputed::a_view_skipped))]
 pub fn a_view_skipped()
     ensures { Writes recovering.a_view_skipped }

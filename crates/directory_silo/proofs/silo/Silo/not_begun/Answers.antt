@@ -1,9 +1,9 @@
-use Rattle.std.proofs.Common.{◌∙◌, ap, sym, rules}
-use Rattle.std.specs.Prelude.{is_some, Option, ℕ}
+use Rattle.std.proofs.Common.{◌∙◌, ap, sym, ℕ, Option, rules}
+use Rattle.std.specs.Prelude.{is_some}
 use Rattle.directory_rules.specs.ListedModel.{all_listed_of}
 use Rattle.directory_node.specs.MembershipModel.{change_refusal_number}
 use Rattle.directory_silo.specs.Later.{all_let_join}
-use Rattle.directory_silo.proofs.Begun.{itself_first, memory_first, refusal_first}
+use Rattle.directory_silo.proofs.Begun.{all_told, itself_first, memory_first, refusal_first}
 use Rattle.directory_silo.proofs.silo.Silo.not_begun.Goals as goal
 
 pub returns-then-is_some-clause-number : goal.returns-then-is_some-clause-number
