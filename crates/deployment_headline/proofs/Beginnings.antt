@@ -10,7 +10,7 @@ use Rattle.membership_view.proofs.Joins.{found_after, new_row}
 use Rattle.membership_view.proofs.ChangedRow.{found_changed}
 use Rattle.membership_view.proofs.Kept.{join_is, leave_is, death_is}
 use Rattle.directory_rules.specs.Settings.{Settings}
-use Rattle.directory_rules.specs.Membership.{Change, Join, Leave, Die, Membership, changed, first_membership, listed_all, listing_of, membership_from}
+use Rattle.directory_rules.specs.Membership.{Change, Membership, changed, first_membership, listed_all, listing_of, membership_from}
 use Rattle.silo_rules.specs.Begun.{told_view}
 use Rattle.silo_rules.proofs.Begun.{all_whole, told_view_is}
 use Rattle.silo_rules.proofs.Whole.{Are, made, from_whole}

@@ -59,7 +59,7 @@ abbrev pub skipping : List Step
 skipping = Decide (Join silo_c (9 ∷ [])) ∷ Decide (Leave silo_c) ∷ Tell silo_b 3 ∷ Tell silo_b 4 ∷ See silo_b 5 ∷ []
 
 -- a fourth silo, at the first one's endpoint, begins with the view before its join, in which the first silo is Dead: it is told nothing of what
--- was before; it can't begin once more, nor with the view in which it is. It recovers what it owns
+-- was before; it can't begin once more, nor with the view in which it is. It awaits the second one's entries of what it owns
 abbrev pub beginning : List Step
 beginning =
     Decide (Join silo_a_again (0 ∷ [])) ∷ Begin silo_a_again 6 ∷ Begin silo_a_again 5 ∷ Begin silo_a_again 5 ∷ Tell silo_a_again 4 ∷ Tell silo_a_again 5

@@ -1,7 +1,7 @@
 -- A worked cluster whose second and third process begin with a view, each with that before its silo's join. It is told nothing of the changes
 -- before that.
 use Rattle.std.specs.Prelude.{◌≡◌, List, [], ◌∷◌, ◌++◌, codes}
-use Rattle.directory_rules.specs.Worked.{silo_a, silo_b, silo_c}
+use Rattle.directory_rules.specs.Worked.{silo_b, silo_c}
 use Rattle.directory_rules.specs.Membership.{Join}
 use Rattle.deployment_headline.specs.Worked.{worked_settings}
 use Rattle.process_deployment.specs.Allowed.{MayAll}

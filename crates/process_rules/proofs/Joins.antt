@@ -7,7 +7,6 @@ use Rattle.texts.specs.Words.{sentence}
 use Rattle.silo_address.specs.Silo.{Silo, silo_eq}
 use Rattle.silo_address.proofs.Same.{Decides-silo}
 use Rattle.membership_view.specs.declared.status.Status.{Status}
-use Rattle.membership_view.specs.declared.status.Status.TheVariants.{Dead}
 use Rattle.membership_view.specs.Views.{ViewsValue, status_at}
 use Rattle.membership_view.specs.Changes as change
 use Rattle.membership_view.specs.Whole.{IsViews}
@@ -84,7 +83,8 @@ module _ (s : SiloValue) (whole : IsWhole s) (untold : IsUntold s) where
       (changed s.node.settings s.membership it) refl so
     where
       again : (before known : Bool)
-          → cond before (Err 212) (cond known (Ok (record { membership = s.membership; news = Known })) (Err 207)) ≡ Ok heard
+          → ◌≡◌ {A = Result Heard ℕ} (cond before (Err 212) (cond known (Ok (record { membership = s.membership; news = Known })) (Err 207)))
+          (Ok heard)
           → IsUntold (record s { membership = heard.membership })
       again true known told_so = absurd (cc (told_so))
       again false false told_so = absurd (cc (told_so))
@@ -121,7 +121,7 @@ module _ (s : SiloValue) (whole : IsWhole s) (untold : IsUntold s) where
   begun_untold version rows (Err number) is = untold
   begun_untold version rows (Ok m) is =
       let its = told_view_is s.node.settings s.membership s.node.host.silo version rows m is in
-      let kept = stays_whole.begins s version rows m whole is in
+      let kept = stays_whole.begins s s.node.host.silo version rows m whole is in
       newest_absent m.views kept.membership.whole s.node.host.silo its.later
 
   -- it takes no step

@@ -44,7 +44,7 @@ told_whole version change s whole = heard_whole version change s (told s.node.se
 begun_whole : (version : ℕ) (rows : List Listed) (s : SiloValue) (outcome : Result Membership ℕ) → IsWhole s
     → told_view s.node.settings s.membership s.node.host.silo version rows ≡ outcome → IsWhole (begun outcome version s).silo
 begun_whole version rows s (Err number) whole is = whole
-begun_whole version rows s (Ok m) whole is = stays_whole.begins s version rows m whole is
+begun_whole version rows s (Ok m) whole is = stays_whole.begins s s.node.host.silo version rows m whole is
 
 step_whole : (happened : Effect → List (List ℕ)) (s : SiloValue) (outcome : Result Stepped ℕ) → IsWhole s
     → ((it : Stepped) → outcome ≡ Ok it → IsWhole (record s { node = it.node })) → IsWhole (stepped happened outcome s).silo
