@@ -50,7 +50,7 @@ pub struct Pieces(pub Vec<Piece>);
 
 /// A snapshot, sealed for another silo, in the order of grains.
 pub struct Snapshot {
-    pub version: u32,
+    pub version: u64,
     pub range: Range,
     pub to: Address,
     pub entries: Vec<Entry>,
@@ -148,7 +148,7 @@ pub fn sort(entries: &mut [Entry]) {
 
 impl Snapshot {
     /// Without entries, until it is sealed.
-    pub fn new(version: u32, range: Range, to: Address) -> Snapshot {
+    pub fn new(version: u64, range: Range, to: Address) -> Snapshot {
         Snapshot { version, range, to, entries: Vec::new(), digest: [0; 64] }
     }
 

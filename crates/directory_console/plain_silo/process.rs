@@ -108,6 +108,7 @@ impl Process {
             Asked::Receive(letter) if letter.to == self.name => self.receive(letter),
             Asked::Receive(_) => Ok(()),
             Asked::Told { version, change } => self.told(version, change),
+            Asked::Begin { version, rows } => self.begin(version, rows),
             Asked::See { version } => self.see(version),
             Asked::Wake { grain } => self.wake(grain),
             Asked::Close { grain } => self.close(grain),

@@ -19,7 +19,7 @@ enum Paged {
 
 impl Snapshot {
     fn is_of(&self, version: u64, range: Span, to: Address) -> bool {
-        u64::from(self.version) == version && Span::from(self.range) == range && self.to == to
+        self.version == version && Span::from(self.range) == range && self.to == to
     }
 }
 
@@ -61,7 +61,7 @@ impl Process {
 
     /// A page of a snapshot that waits for the asker.
     pub fn answer_ask(&mut self, from: Address, version: u64, range: Span, page: u64) {
-        if version > self.seen.into() {
+        if version > self.seen {
             self.delivered("ask behind");
             return self.answer_ranged(from, version, "behind", range);
         }
@@ -84,7 +84,7 @@ impl Process {
 
     /// The piece of the range, if it awaits the snapshot of the letter's sender.
     fn awaiting(&mut self, from: Address, version: u64, range: Span) -> Option<&mut Piece> {
-        let piece = self.pieces.of_range(range).filter(|_| version == u64::from(self.seen))?;
+        let piece = self.pieces.of_range(range).filter(|_| version == self.seen)?;
         let awaits = matches!(piece.state, State::Awaiting { from: awaited, .. } if awaited == from);
         awaits.then_some(piece)
     }
@@ -148,7 +148,7 @@ impl Process {
 
     /// The first firm activations of a range behind a grain, where the silo has seen just the query's version.
     pub fn answer_query(&mut self, from: Address, version: u64, range: Span, after: Option<&[u8]>) {
-        let seen = u64::from(self.seen);
+        let seen = self.seen;
         if seen != version {
             let kind = if seen < version { "behind" } else { "ahead" };
             self.out.word("delivered query ").word(kind).word("\n");
@@ -170,7 +170,7 @@ impl Process {
     /// the first stays.
     pub fn take_report(&mut self, from: Address, version: u64, report: &Report) {
         let range = report.range;
-        let counts = version == u64::from(self.seen) && self.is_well_formed(from, report);
+        let counts = version == self.seen && self.is_well_formed(from, report);
         let piece = self.pieces.of_range(range).filter(|_| counts);
         let Some(Piece { state: state @ State::Recovering { .. }, .. }) = piece else {
             return self.delivered("report ignored");
