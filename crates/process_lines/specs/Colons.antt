@@ -2,6 +2,7 @@
 use Rattle.std.specs.Prelude.{◌≡◌, ⊤, ℕ, List, [], ◌∷◌, ◌++◌, Option, Some, None, Result, Ok, Err}
 use Rattle.std.specs.Borrow.{Bor}
 use Rattle.texts.specs.Words.{pieces_at}
+use Rattle.script_rules.specs.Script.{hash_word, ◌>>=◌}
 use Rattle.process_rules.specs.ReadLine as rule
 use Rattle.process_lines.specs.declared.fault.LineFault.{LineFault}
 use Rattle.process_lines.specs.declared.listed.Pieces.{Pieces}
@@ -19,6 +20,12 @@ no_value value = tt
 abbrev pub places_of : Option (Bor (List ℕ)) → List (List ℕ)
 places_of None = []
 places_of (Some text) = pieces_at rule.comma text.now
+
+-- these places, with the one that the word names
+abbrev pub with_place : List ℕ → (word : List ℕ) → Result (List ℕ) ℕ
+with_place places word = do
+  place ← hash_word word
+  Ok (places ++ place ∷ [])
 
 -- the word lists the silo that its pieces list, or has their fault
 abbrev pub Cuts : Result Pieces LineFault → List ℕ → Type 0

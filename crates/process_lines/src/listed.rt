@@ -1,15 +1,14 @@
 //! The silos of a view, each in one word.
 
-ghost use Rattle.std.specs.Prelude.{◌≡◌, ◌≢◌, ◌<◌, ℕ, [], ◌∷◌, ◌++◌, IfSome, IsErrOf, MatchOption, Ok, length};
+ghost use Rattle.std.specs.Prelude.{◌≡◌, ◌≢◌, ◌<◌, [], ◌∷◌, ◌++◌, IfSome, IsErrOf, MatchOption, length};
 ghost use Rattle.texts.specs.Words.{pieces_at, words_in};
 ghost use Rattle.directory_rules.specs.ListedModel.{all_listed_of, listed_of};
-ghost use Rattle.script_rules.specs.Script.{◌>>=◌};
 ghost use Rattle.script_rules.specs.Script as script;
 ghost use Rattle.process_rules.specs.ReadLine as rule;
 ghost use Rattle.process_lines.specs.ReadAs.{Reads, ReadsUnlessMemory, told};
 ghost use Rattle.process_lines.specs.AskedModel.{asked_of};
 ghost use Rattle.process_lines.specs.Memory.{WordsNeedMemory};
-ghost use Rattle.process_lines.specs.Colons.{Cuts, CutsRest, checked, no_value, places_of};
+ghost use Rattle.process_lines.specs.Colons.{Cuts, CutsRest, checked, no_value, places_of, with_place};
 
 use crate::words::place_word;
 use crate::{Asked, LineError, LineFault, number_word, silo_word};
@@ -136,7 +135,7 @@ fn places_between(alloc: Global, text: &[u8]) -> Result<Vec<u32>, LineError>
 
 // With the place that the word names.
 fn push_place(places: &mut Vec<u32>, word: &[u8]) -> Result<(), LineError>
-    ensures { ReadsUnlessMemory (λ _. places.new.items) result (script.hash_word word.now >>= (λ place. Ok (places.old.items ++ place ∷ []))) }
+    ensures { ReadsUnlessMemory (λ _. places.new.items) result (with_place places.old.items word.now) }
 {
     let place = place_word(word)?;
     if places.push(place).is_err() {

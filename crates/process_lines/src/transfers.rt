@@ -1,12 +1,10 @@
 //! Letters of transfers and recoveries.
 
-ghost use Rattle.std.specs.Prelude.{◌≡◌, [], ◌∷◌, true, IsErrOf, Ok, Some};
+ghost use Rattle.std.specs.Prelude.{◌≡◌, [], ◌∷◌, true, IsErrOf};
 ghost use Rattle.directory_rules.specs.State as letters;
 ghost use Rattle.texts.specs.Words.{words_in};
-ghost use Rattle.script_rules.specs.Script.{◌>>=◌};
-ghost use Rattle.script_rules.specs.Script as script;
 ghost use Rattle.process_rules.specs.ReadLetter as rule;
-ghost use Rattle.process_lines.specs.Made.{OfARange};
+ghost use Rattle.process_lines.specs.Made.{OfARange, after_in};
 ghost use Rattle.process_lines.specs.ReadAs.{Reads, head_of, told};
 ghost use Rattle.process_lines.specs.Short.{HasEntries};
 
@@ -185,7 +183,7 @@ pub(crate) fn a_report(
 
 /// The grain behind which is told.
 fn after_word(word: &[u8]) -> Result<Option<GrainId>, LineFault>
-    ensures { told (λ after. after) result ≡ (script.grain_word word.now >>= (λ grain. Ok (Some grain))) }
+    ensures { told (λ after. after) result ≡ after_in word.now }
 {
     let grain = grain_word(word)?;
     Ok(Some(grain))
