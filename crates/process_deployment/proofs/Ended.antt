@@ -181,7 +181,8 @@ module _ (settings : Settings) (steps : List deployment.Step) (are : AreSettings
       let whole = told_whole settings steps are named silo s there in
       let was : status_at s.membership.views version silo ≡ Some status.Dead = ap (status_at s.membership.views version) (sym own) ∙ dead in
       let said : status_of (view_at s.membership.views version) silo ≡ Some status.Dead =
-      views_say_statuses s.membership.views whole silo version (omega arith) (subst (λ (o : Option Status). IsSome o) (sym was) refl) ∙ was in
+      views_say_statuses s.membership.views whole silo version (omega arith) (subst (λ (o : Option Status). IsSome o) (sym was) refl)
+      ∙ was in
       let then_dead : status_of (view_at d.membership.views version) silo ≡ Some status.Dead =
       ap (λ (view : ViewValue). status_of view silo) (sym (behind.views version behind.first (omega arith))) ∙ said in
       let upto = behind.version in

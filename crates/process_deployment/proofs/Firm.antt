@@ -272,7 +272,7 @@ module _ (s : SiloValue) (once : HoldsOnce s.node.host) (own : IsSilo s.node.hos
       outcome (Page_letter page) same = delivered _ same (λ number entry is. cc is) refl
       outcome (Missing_letter range) same = delivered _ same (λ number entry is. cc is) refl
       outcome (Done_letter range) same = delivered _ same (λ number entry is. cc is) refl
-      outcome (Query_letter range) same = delivered _ same (λ number entry is. cc is) refl
+      outcome (Query_letter range after) same = delivered _ same (λ number entry is. cc is) refl
       outcome (Report_letter report) same = delivered _ same (λ number entry is. cc is) refl
       outcome (Behind_letter range) same = delivered _ same (λ number entry is. cc is) refl
       outcome (Ahead_letter range) same = delivered _ same (λ number entry is. cc is) refl

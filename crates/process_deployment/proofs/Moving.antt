@@ -73,7 +73,8 @@ known_same settings m version change its old is =
     (if not (version == m.views.version + 1) then Err 206 else heard_by (changed settings m change) (replaced_by m change))) old) ∙ is)
   where
     by : (before known : Bool)
-        → ◌≡◌ {A = Result Heard ℕ} (if before then Err 212 else (if known then Ok (record { membership = m; news = Known }) else Err 207)) (Ok its)
+        → ◌≡◌ {A = Result Heard ℕ} (if before then Err 212 else (if known then Ok (record { membership = m; news = Known }) else Err 207))
+        (Ok its)
         → its.membership ≡ m
     by true known given = absurd (cc given)
     by false true given =

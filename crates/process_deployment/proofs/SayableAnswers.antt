@@ -124,7 +124,8 @@ told_to_grains : (silo : Silo) (o : Option Grain) (told : List (Silo × Grain)) 
 told_to_grains silo None told all is = all
 told_to_grains silo (Some grain) told all is = all_put silo_cmp silo_cmp_exact (λ (e : Silo × Grain). IsGrain e.1) silo grain told all is
 
-last_is_grain : (after : Option Grain) (entries : List Entry) → IfSome after IsGrain → AllNamed entries → IfSome (last_grain after entries) IsGrain
+last_is_grain : (after : Option Grain) (entries : List Entry) → IfSome after IsGrain → AllNamed entries
+    → IfSome (last_grain after entries) IsGrain
 last_is_grain after [] is named = is
 last_is_grain after (entry ∷ entries) is named =
     last_is_grain (Some entry.grain) entries (All-head IsNamed entry entries named).grain (All-tail IsNamed entry entries named)

@@ -187,7 +187,8 @@ module _ (node : Node) (its : Knows node) (sends : Sends node.host node.recoveri
   pub queries_go : (range : Range) → All Goes (query_letters node range)
   queries_go range =
       All-map Goes (query_to node range) (recovery_of node range).awaiting
-      (All-weaker IsSilo (λ silo. Goes (query_to node range silo)) (query_goes range) (recovery_of node range).awaiting (asks_on range).silos)
+      (All-weaker IsSilo (λ silo. Goes (query_to node range silo)) (query_goes range) (recovery_of node range).awaiting
+      (asks_on range).silos)
 
   want_goes : (its_state : PieceState) (range : Range) → AwaitsSilo its_state → All Goes (wants_by its_state node range)
   want_goes state.Settled range awaits = none_goes

@@ -128,9 +128,11 @@ early_asks c p (Err fault) early = tt
 
 -- what the first changes make, they make whatever follows
 more_view : (changes more : List Change) (s : SiloValue) (version : ℕ) (m : Membership)
-    → (version ≤ length changes) × (told_view s.node.settings s.membership s.node.host.silo version (listing_of (decided_by s.node.settings (take version changes)) version) ≡ Ok m)
+    → (version ≤ length changes) × (told_view s.node.settings s.membership s.node.host.silo version
+    (listing_of (decided_by s.node.settings (take version changes)) version) ≡ Ok m)
     → (version ≤ length (changes ++ more))
-    × (told_view s.node.settings s.membership s.node.host.silo version (listing_of (decided_by s.node.settings (take version (changes ++ more))) version) ≡ Ok m)
+    × (told_view s.node.settings s.membership s.node.host.silo version
+    (listing_of (decided_by s.node.settings (take version (changes ++ more))) version) ≡ Ok m)
 more_view changes more s version m early =
     let upto = early.0 in
     let longer = length-append changes more in (
