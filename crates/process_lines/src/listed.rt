@@ -111,7 +111,7 @@ fn listed_word(alloc: Global, word: &[u8]) -> Result<Listed, LineError>
 
 // The places, where there are any.
 fn places_if_any(alloc: Global, text: Option<&[u8]>) -> Result<Vec<u32>, LineError>
-    ensures { ReadsUnlessMemory (λ places. places.items) result (script.places_in (places_of text)) }
+    ensures { ReadsUnlessMemory (λ places. places.items) result (script.places_in (places_of text.entry)) }
 {
     match text {
         Some(text) => places_between(alloc, text),

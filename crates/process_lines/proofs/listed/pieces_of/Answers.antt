@@ -29,10 +29,9 @@ returns c =
     let behind = c.in-Some.behind.now in
     let port = c.in-Some-split_at.port.now in
     let rest = c.in-Some-split_at.rest.now in
-    let long : c.len.result + 1 + c.len-2.result ≡ length host + 1 + length port = omega arith in
-    pieces_listed word host port rest (take (c.len.result + 1 + c.len-2.result) word) c.in_ok-status.status.now
+    pieces_listed word host port rest (take (length host + 1 + length port) word) c.in_ok-status.status.now
     c.in-Some-status_named.status
     (places_of c.in_ok-status.places)
     (two_colons word host behind c.in-Some.ensures.pieces port rest c.in-Some-split_at.ensures.pieces) c.in_ok-status.ensures
     c.in-Some-status_named.ensures
-    (ap (λ (n : ℕ). take n word) long ∙ silo_text word host behind port rest c.in-Some.ensures.whole c.in-Some-split_at.ensures.whole)
+    (silo_text word host behind port rest c.in-Some.ensures.whole c.in-Some-split_at.ensures.whole)

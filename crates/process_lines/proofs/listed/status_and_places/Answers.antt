@@ -8,6 +8,6 @@ pub returns-in-None : goal.returns-in-None
 returns-in-None c =
     status_then_places c.args.text.now c.in-Some.status.now c.in-Some.places.now c.in-Some.ensures.pieces c.in-None.ensures.pieces
 
-pub returns-in-Some : goal.returns-in-Some
-returns-in-Some c =
+pub returns-in-Some-split_at : goal.returns-in-Some-split_at
+returns-in-Some-split_at c =
     too_many_colons c.args.text.now c.in-Some.status.now c.in-Some.places.now c.in-Some.ensures.pieces _ _ c.in-Some-split_at.ensures.pieces
