@@ -31,7 +31,7 @@ returns-in-More-clause-planned c =
     let node = c.args.self.now in
     let report = c.args.report.now in
     let is = c.in-Ok.ensures.judged ∙ ap (λ (p : RecoveryProgress). Ok p) c.in-More.is in
-    c.silent-in-More.ensures.planned node
+    c.silent.ensures.planned node
     ∙ (λ i. record { node = (counted node (c.in_ok-copy.ensures i)).node; letters = []; effect = effect.More })
     ∙ sym (awaits_others node report is)
 

@@ -11,7 +11,7 @@ returns-clause-fits c =
     let node = c.args.self.now in
     let version = c.args.letter.now.version in
     let to = c.args.letter.now.from in
-    let told = subst (λ (d : List ℕ). IsDigestFor version c.args.range to node.shelf d) (sym c.digest.ensures) c.requires.digest in
-    let handed = subst (λ (t : Silo). IsDigestFor version c.args.range t node.shelf c.digest.result) (sym c.from.ensures) told in
-    let its = subst (λ (v : ℕ). IsDigestFor v c.args.range c.from.result node.shelf c.digest.result) (sym c.version.ensures) handed in
+    let told = subst (λ (d : List ℕ). IsDigestFor version c.args.range to node.shelf d) (sym c.digest-digest.ensures) c.requires.digest in
+    let handed = subst (λ (t : Silo). IsDigestFor version c.args.range t node.shelf c.digest-digest.result) (sym c.from-to.ensures) told in
+    let its = subst (λ (v : ℕ). IsDigestFor v c.args.range c.from-to.result node.shelf c.digest-digest.result) (sym c.version-version.ensures) handed in
     IfOk-weaker c.of_one.result _ _ (λ plan change. subst (λ (ch : Change). Fits ch node) (sym change) its) c.of_one.ensures.change
