@@ -85,6 +85,7 @@ class Work:
     last: int
     token: int
     node: str
+    kind: str  # whether the process `asks` before each stamp, or `relies` on being killed
     stamps: tuple
 
 
@@ -92,17 +93,18 @@ def works(folder):
     """All works so far, name by name in the order in which they began."""
     found = []
     for file in os.scandir(folder / "stamps"):
-        name, token, node, *_ = file.name.split("-")
+        name, token, node, kind, *_ = file.name.split("-")
         with open(file.path, "rb") as stamped:
             text = stamped.read()
         stamps = struct.unpack(f">{len(text) // 8}Q", text[:len(text) // 8 * 8])
         if stamps:
-            found.append(Work(int(name), stamps[0], stamps[-1], int(token), node, stamps))
+            found.append(Work(int(name), stamps[0], stamps[-1], int(token), node, kind, stamps))
     return sorted(found)
 
 
 def judge(all_works, wakings):
-    """What is wrong with works, and how long frozen ones went on when they woke, though another had begun: their tokens have to be lower."""
+    """What is wrong with works, and of what kind those are that went on when they woke, though another had begun, and for how long: their tokens
+    have to be lower."""
     wrong, late = [], []
     for one in range(len(all_works)):
         work = all_works[one]
@@ -113,9 +115,11 @@ def judge(all_works, wakings):
                 wrong.append(f"a token fell from {work.token} at {work.node} to {other.token} at {other.node}, of name {work.name}")
             if other.first <= work.last:
                 took = beyond(work, other, wakings[work.node])
-                (late if took is not None else wrong).append(took if took is not None else
-                                                             f"name {work.name}: {work.node} worked on for {(work.last - other.first) / 1e6:.3f} ms beside {other.node}"
-                                                             f" (tokens {work.token}, {other.token})")
+                if took is not None:
+                    late.append((work.kind, took))
+                else:
+                    wrong.append(f"name {work.name}: {work.node} worked on for {(work.last - other.first) / 1e6:.3f} ms beside {other.node}"
+                                 f" (tokens {work.token}, {other.token})")
     return wrong, late
 
 

@@ -46,11 +46,11 @@ impl Fault {
             Fault::PlanRefused => "an event of a quiet end is refused",
             Fault::Unseen => "in a quiet end a silo hasn't seen the current view",
             Fault::Unsettled => "after a round of a quiet end a range isn't settled",
-            Fault::Undelivered => "after a round of a quiet end a letter is still to come",
+            Fault::Undelivered => "after a round of a quiet end a message is still to come",
             Fault::Outstanding => "after a quiet end an activation isn't firm, or a silo waits for an answer",
             Fault::Inexact => "after a quiet end the entries aren't just the firm activations, each at its owner",
             Fault::Shown => "after a quiet end something else is shown than that all has come back",
-            Fault::Letters => "a quiet end took more letters than it may",
+            Fault::Letters => "a quiet end took more messages than it may",
         }
     }
 }

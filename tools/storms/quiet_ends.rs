@@ -32,6 +32,6 @@ impl QuietEnds {
         let QuietEnds { unowned, needed: [none, one, two], at_most, letters, most } = self;
         eprintln!("{} quiet ends, and all had come back after each", unowned + none + one + two);
         eprintln!("{unowned} without an Active silo; of the others {none} needed no round, {one} needed one, and {two} needed two");
-        eprintln!("{letters} letters of the {most} that they may take, and at {at_most} quiet ends just as many");
+        eprintln!("{letters} messages of the {most} that they may take, and at {at_most} quiet ends just as many");
     }
 }

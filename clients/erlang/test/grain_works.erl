@@ -91,15 +91,20 @@ life(Folder, Name) ->
         _ -> exit(Pid, kill)
     end.
 
-%% Works under a name for a while. Then the process just ends, gives the name up, or hands it over to one at another node.
+%% Works under a name for a while. Then the process just ends, gives the name up, or hands it over to one at another node. Every second one asks
+%% before each stamp whether it may, as applications are told to; the others rely on being killed.
 work(Folder, Name) ->
     receive go -> ok after 60000 -> exit(normal) end,
     Token = grain_registry:token({n, Name}),
     [Self, _] = string:split(atom_to_list(node()), "@"),
-    Words = [Name, Token, Self, os:getpid(), erlang:unique_integer([positive])],
+    {Kind, May} = case rand:uniform(2) of
+                      1 -> {asks, fun() -> grain_registry:may({n, Name}) end};
+                      2 -> {relies, fun() -> true end}
+                  end,
+    Words = [Name, Token, Self, Kind, os:getpid(), erlang:unique_integer([positive])],
     {ok, File} = file:open(filename:join([Folder, "stamps", lists:join("-", [lists:concat([W]) || W <- Words])]), [write, raw, binary]),
     Long = case rand:uniform(4) of 1 -> 10000; _ -> 400 end,
-    stamp(File, Folder, os:system_time(nanosecond) + Long * rand:uniform(1000) * 1000),
+    stamp(File, Folder, May, os:system_time(nanosecond) + Long * rand:uniform(1000) * 1000),
     case {rand:uniform(4), nodes()} of
         {1, _} -> ok;
         {2, [_ | _] = Others} ->
@@ -111,13 +116,13 @@ work(Folder, Name) ->
         _ -> grain_registry:unregister_name({n, Name})
     end.
 
-stamp(File, Folder, Until) ->
+stamp(File, Folder, May, Until) ->
     Now = os:system_time(nanosecond),
     case Now < Until andalso (Now band 15 =/= 0 orelse is_working(Folder)) of
         true ->
-            ok = file:write(File, <<Now:64>>),
+            May() andalso (ok = file:write(File, <<(os:system_time(nanosecond)):64>>)),
             timer:sleep(rand:uniform(2) - 1),
-            stamp(File, Folder, Until);
+            stamp(File, Folder, May, Until);
         false -> file:close(File)
     end.
 
