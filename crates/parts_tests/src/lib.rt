@@ -37,6 +37,7 @@ mod rules;
 mod samples;
 #[cfg(test)]
 mod shelf;
+#[cfg(test)]
 mod short_entries;
 #[cfg(test)]
 mod tables;
