@@ -116,7 +116,7 @@ module _ {Y : Type 0} (entry : DumpRow → Y) where
           (ap (λ x. ordering_index (its_order x)) (as_entry rows i e d low))
           (up i j e upto (omega arith)))
 
-its_row : DumpRow → Row
+abbrev its_row : DumpRow → Row
 its_row row = (row_in_dump row).1
 
 pub row_hit : (dump : DumpValue) → is_dump dump ≡ true → (rows : List DumpRow) → rows ≡ dump.rows
