@@ -1,5 +1,5 @@
 -- Bytes cut at their first mark, and a word that lists a silo, cut at its colons.
-use Rattle.std.proofs.Common.{◌≡◌, ◌≢◌, ap, ◌∙◌, sym, ℕ, ◌+◌, ◌-◌, ◌<◌, ◌≤◌, suc, ◌==◌, List, [], ◌∷◌, ◌++◌, length, get_or, take, drop, arith, Option, Some, Err, add-one, append_assoc, append-nil, drop-cons}
+use Rattle.std.proofs.Common.{◌≡◌, ◌≢◌, ap, ◌∙◌, sym, ℕ, ◌+◌, ◌-◌, ◌<◌, suc, ◌==◌, List, [], ◌∷◌, ◌++◌, length, get_or, take, drop, arith, Option, Some, Err, add-one, append_assoc, append-nil, drop-cons}
 use Rattle.std.proofs.Math.Seq.{take-append_seam}
 use Rattle.std.proofs.lemmas.Bool.{eqb-true, eqb-false}
 use Rattle.std.proofs.lemmas.List.{length-append, length-drop, take-append-drop, take_rest}
@@ -86,12 +86,6 @@ module _ (word host behind port rest : List ℕ) (first : word ≡ host ++ colon
 
   silo_long : length (host ++ colon ∷ port) ≡ length host + 1 + length port
   silo_long = let long = length-append host (colon ∷ port) in omega (long, arith)
-
-  pub silo_within : length host + 1 + length port ≤ length word
-  silo_within =
-      let long = silo_long in
-      let whole : length word ≡ length (host ++ colon ∷ port) + length (colon ∷ rest) = ap length silo_front ∙ length-append (host ++ colon ∷ port) (colon ∷ rest) in
-      omega (long, whole, arith)
 
   pub silo_text : take (length host + 1 + length port) word ≡ host ++ colon ∷ port
   silo_text =

@@ -1,8 +1,8 @@
-use Rattle.std.proofs.Common.{◌≡◌, ◌∙◌, ◌+◌, ◌++◌, ◌∷◌, ap, arith, ℕ, length, sym, take, Option}
+use Rattle.std.proofs.Common.{◌∙◌, ◌+◌, ◌++◌, ◌∷◌, ap, length, sym, take, Option}
 use Rattle.membership_view.specs.declared.status.Status.{Status}
 use Rattle.process_rules.specs.ReadLine.{colon, listed_as}
 use Rattle.process_lines.specs.Colons.{places_of}
-use Rattle.process_lines.proofs.CutAtColons.{no_colon, one_colon, pieces_listed, silo_text, silo_within, two_colons}
+use Rattle.process_lines.proofs.CutAtColons.{no_colon, one_colon, pieces_listed, silo_text, two_colons}
 use Rattle.process_lines.proofs.listed.pieces_of.Goals as goal
 
 pub returns-in_default : goal.returns-in_default

@@ -10,4 +10,5 @@ returns-in-None c =
 
 pub returns-in-Some-split_at : goal.returns-in-Some-split_at
 returns-in-Some-split_at c =
-    too_many_colons c.args.text.now c.in-Some.status.now c.in-Some.places.now c.in-Some.ensures.pieces _ _ c.in-Some-split_at.ensures.pieces
+    too_many_colons c.args.text.now c.in-Some.status.now c.in-Some.places.now c.in-Some.ensures.pieces c.in-Some-split_at.field-0.0.now
+    c.in-Some-split_at.field-0.1.now c.in-Some-split_at.ensures.pieces
