@@ -1,4 +1,4 @@
-use Rattle.std.proofs.Common.{◌≡◌, ◌∙◌, ◌<◌, ◌≤◌, ap, sym, subst, ℕ, Option, Result}
+use Rattle.std.proofs.Common.{◌∙◌, ◌<◌, ◌≤◌, ap, sym, subst, ℕ, Option}
 use Rattle.std.specs.Prelude.{IsOk}
 use Rattle.membership_view.specs.Views.{ViewsValue}
 use Rattle.directory_rules.specs.ListedModel.{all_listed_of}
