@@ -14,8 +14,8 @@ use std::collections::BTreeMap;
 
 impl Host {
     /// The first entries of those of the firm activations that are hashed into the range and stand behind a grain, so many at most, and
-    /// whether no others stand behind them. Costs what it tells, and a logarithm, where the hashing is the host's own; otherwise it looks
-    /// at all activations. Fails only when memory runs out.
+    /// whether no others stand behind them. Where the hashing is the host's own it costs a logarithm, what it tells, and what it passes over
+    /// that isn't firm; otherwise it looks at all activations. Fails only when memory runs out.
     pub fn firm_page(&self, alloc: Global, asked: &PageAsked) -> Result<FirmPage, AllocError>
         ensures { IfOk result (IsPage (firm_behind asked.now.hashing self.now asked.now.range asked.now.after) asked.now.most) }
     {
