@@ -5,7 +5,7 @@
 //!   storms worlds SEED EVENTS FOLDER       so many events in one world after another
 //!   storms judged SEED EVENTS              the same, without scripts, and without a look at dumps
 //!   storms seeded FOLDER                   the forty seeded storms
-//!   storms stored FOLDER                   the same without their quiet ends, as the program `crates/storms` plays them
+//!   storms stored FOLDER                   the same without their quiet ends, as `crates/stored_scripts` plays them
 //!   storms script SEED EVENTS              the first events of the world of a seed, as a script
 //!   storms views|offers SEED EVENTS        those of a seeded storm
 //!
