@@ -5,6 +5,7 @@ package directory
 import (
 	"fmt"
 	"net"
+	"sort"
 	"strconv"
 	"strings"
 )
@@ -87,9 +88,6 @@ const (
 	IsDead    Status = "dead"
 )
 
-// MostJoins is how many silos may ever join a directory.
-const MostJoins = 65536
-
 // Views is what the changes so far have made. It isn't safe for use by several goroutines.
 type Views struct {
 	version uint64
@@ -128,6 +126,25 @@ func (v *Views) Members() []Silo {
 	return members
 }
 
+// Listed is a silo as a view lists it.
+type Listed struct {
+	Silo   Silo
+	Status Status
+}
+
+func (l Listed) String() string { return string(l.Silo) + ":" + string(l.Status) }
+
+// Listing is what the last view lists, by silo: of each endpoint the newest one, which alone may not be dead.
+func (v *Views) Listing() []Listed {
+	rows := make([]Listed, 0, len(v.newest))
+	for endpoint, generation := range v.newest {
+		silo := At(endpoint, generation)
+		rows = append(rows, Listed{silo, v.status[silo]})
+	}
+	sort.Slice(rows, func(i, j int) bool { return rows[i].Silo < rows[j].Silo })
+	return rows
+}
+
 // IsMember says whether a silo joined and isn't dead.
 func (v *Views) IsMember(silo Silo) bool {
 	return v.status[silo] == IsActive || v.status[silo] == IsLeaving
@@ -143,8 +160,6 @@ func (v *Views) Check(c Change) error {
 		return fmt.Errorf("version %d isn't the one after %d", c.Version, v.version)
 	case c.Kind == Joined && generation <= v.newest[endpoint]:
 		return fmt.Errorf("%s can't join: generation %d of its endpoint did", c.Silo, v.newest[endpoint])
-	case c.Kind == Joined && len(v.status) >= MostJoins:
-		return fmt.Errorf("%s can't join: as many silos have joined as ever may, %d", c.Silo, MostJoins)
 	case c.Kind == Leaving && status != IsActive:
 		return fmt.Errorf("%s can't leave: it isn't active", c.Silo)
 	case c.Kind == Dead && status != IsActive && status != IsLeaving:

@@ -48,6 +48,9 @@ func TestViews(t *testing.T) {
 	if views.Version() != 5 || views.Status(a1) != IsDead || views.Status(a2) != IsActive || views.Status(b1) != IsDead || views.Token(a1) != "x" {
 		t.Errorf("%+v", views)
 	}
+	if rows := views.Listing(); len(rows) != 2 || rows[0] != (Listed{a2, IsActive}) || rows[1].String() != "10.0.0.2:1000@1:dead" {
+		t.Errorf("rows %v", rows)
+	}
 	if members := views.Members(); len(members) != 1 || members[0] != a2 || views.Newest("10.0.0.1:1000") != 2 || views.Occupant("10.0.0.2:1000") != "" {
 		t.Errorf("members %v", members)
 	}

@@ -1,7 +1,8 @@
 // Package member is one generation of a silo, from its join to its end: it ties the silo's process to the membership, the fence, the transport and
 // the applications.
 //
-// Its order: the join is decided, with a random token; then the silo's process is started, told all changes, and sees each view from its join on.
+// Its order: the join is decided, with a random token; then the silo's process is started, told the view before that and all changes from its join
+// on, and sees each view from there.
 // Once its ranges are settled it is ready. At the end the fence is given up first, so that the silo is told nothing more; then applications are
 // told, the process is killed, and applications hang up. Where all of them have, it declares itself dead, and nobody waits for its beat.
 package member
@@ -212,8 +213,33 @@ func (m *Member) Silo() directory.Silo { return m.me }
 // Given is closed once the silo was given up: End it.
 func (m *Member) Given() <-chan struct{} { return m.fence.Given() }
 
-// feed tells the silo all changes in order, and has it see each view from its join on: who skips one can hand nothing over.
+// begin tells the silo the view before its join, in place of all changes up to that; whether it goes on. Version 0 needn't be told.
+func (m *Member) begin() bool {
+	version, rows := m.options.Sequence.Before(m.me)
+	if version == 0 {
+		return true
+	}
+	err := m.silo.Begin(version, rows, func(err error) {
+		if err != nil {
+			m.fence.Give(err.Error())
+		}
+	})
+	if err != nil {
+		m.fence.Give("the silo can't be told a view: " + err.Error())
+		return false
+	}
+	m.mu.Lock()
+	m.told = version
+	m.mu.Unlock()
+	return true
+}
+
+// feed tells the silo the view before its join and then all changes in order, and has it see each view from its join on: who skips one can hand
+// nothing over.
 func (m *Member) feed() {
+	if !m.begin() {
+		return
+	}
 	for m.ctx.Err() == nil {
 		moved := m.options.Sequence.Moved()
 		if err := m.options.Sequence.Fault(); err != nil {

@@ -272,6 +272,23 @@ func (s *Sequence) Changes(after uint64) []directory.Change {
 	return s.changes[after:len(s.changes):len(s.changes)]
 }
 
+// Before is the version before a silo's join, and what its view lists, once the join is known; else version 0, which lists nothing.
+func (s *Sequence) Before(silo directory.Silo) (version uint64, rows []directory.Listed) {
+	s.mu.Lock()
+	changes := s.changes
+	s.mu.Unlock()
+	views := directory.NewViews()
+	for _, change := range changes {
+		if change.Kind == directory.Joined && change.Silo == silo {
+			return views.Version(), views.Listing()
+		}
+		if _, err := views.Take(change); err != nil {
+			break // it was taken before
+		}
+	}
+	return 0, nil
+}
+
 // Look calls something with the views, which it may only read, and the statuses. It may not call the sequence.
 func (s *Sequence) Look(look func(views *directory.Views, statuses map[directory.Silo]string)) {
 	s.mu.Lock()

@@ -82,6 +82,22 @@ func TestAllJoinAtOnce(t *testing.T) {
 	}
 }
 
+// What the view before a silo's join lists: of each endpoint the newest silo, as it stands there.
+func TestBefore(t *testing.T) {
+	s := follow(t, memorystore.New(), &hands{})
+	a, b, c := join(t, s, 1001), join(t, s, 1002), join(t, s, 1003)
+	until(t, "all joined", func() bool { return s.Version() == 3 })
+	for _, one := range []struct {
+		silo    directory.Silo
+		version uint64
+		rows    string
+	}{{a, 0, "[]"}, {b, 1, "[10.0.0.1:1001@1:active]"}, {c, 2, "[10.0.0.1:1001@1:active 10.0.0.1:1002@1:active]"}, {"10.0.0.1:1004@1", 0, "[]"}} {
+		if version, rows := s.Before(one.silo); version != one.version || fmt.Sprint(rows) != one.rows {
+			t.Errorf("before %s: version %d, %v", one.silo, version, rows)
+		}
+	}
+}
+
 // A beat that stands still for a TTL and the lock delay, and no shorter, ends its silo; one that goes on doesn't, and a look that is old doesn't
 // count, since the transaction compares.
 func TestBury(t *testing.T) {

@@ -25,6 +25,21 @@ func (s *Silo) Tell(change directory.Change, answer func(error)) error {
 	})
 }
 
+// Begin tells the silo the view of a version in place of all changes up to it; answer gets nil, or why the silo doesn't take it.
+func (s *Silo) Begin(version uint64, rows []directory.Listed, answer func(error)) error {
+	words := []string{"view", strconv.FormatUint(version, 10)}
+	for _, row := range rows {
+		words = append(words, row.String())
+	}
+	return s.send(strings.Join(words, " "), func(said string) {
+		if said == fmt.Sprintf("view %d begins", version) {
+			answer(nil)
+		} else {
+			answer(fmt.Errorf("the silo doesn't begin with view %d: %s", version, short(said)))
+		}
+	})
+}
+
 // See has the silo see a version; answer gets whether it skipped views on the way, so that it couldn't hand ranges over.
 func (s *Silo) See(version uint64, answer func(skipped bool, err error)) error {
 	return s.send("see "+strconv.FormatUint(version, 10), func(said string) {

@@ -371,6 +371,18 @@ func TestRefusedChange(t *testing.T) {
 	}
 }
 
+func TestBegin(t *testing.T) {
+	h := newHeard()
+	f, s := newFake(t, h)
+	rows := []directory.Listed{{Silo: "10.0.0.1:1000@3", Status: directory.IsDead}, {Silo: "10.0.0.2:1000@1", Status: directory.IsActive}}
+	for _, step := range []struct{ said, heard string }{{"view 7 begins", "<nil>"}, {"refused 211", "the silo doesn't begin with view 7: refused 211"}} {
+		s.Begin(7, rows, func(err error) { h.add("%v", err) })
+		f.expects("view 7 10.0.0.1:1000@3:dead 10.0.0.2:1000@1:active")
+		f.writes(step.said)
+		h.expects(t, step.heard)
+	}
+}
+
 // What waits for the process is bounded: letters are lost before commands are refused.
 func TestBounds(t *testing.T) {
 	h := newHeard()

@@ -24,9 +24,10 @@ REASONS = {"601": "another view", "602": "not settled", "603": "an old number", 
 class Team:
     """The whole deployment, and what is known of it from outside."""
 
-    def __init__(self, random, program, folder, is_unfenced, fault):
+    def __init__(self, random, program, folder, report_size, is_unfenced, fault):
         self.random = random
         self.program = program
+        self.options = (*OPTIONS, "--report-size", str(report_size))
         self.is_unfenced = is_unfenced
         self.counts = Counter()
         self.faults = []
@@ -55,7 +56,7 @@ class Team:
 
     async def start(self, silo):
         """Starts a silo's process, and waits until it hears."""
-        await silo.start(self.program, OPTIONS, self.broker, self.spawn)
+        await silo.start(self.program, self.options, self.broker, self.spawn)
         self.relay.add(silo)
         if not await silo.hears():
             raise RuntimeError(f"{silo.name} gets nothing from the broker")

@@ -12,6 +12,8 @@ FAULTS = {
 }
 REQUESTS = ("register", "deregister", "find")
 ANSWERS = ("registered", "taken", "removed", "absent", "found", "nothing")
+# how a report ends what its silo tells, for now or for good
+ENDS = ("more", "last")
 
 
 class Plant:
@@ -34,9 +36,10 @@ class Plant:
         if self.name == "confirms" and words[4] == "register" and self.random.random() < 0.1:
             self.counts["planted", self.name] += 1
             line = " ".join(["letter", words[2], words[1], words[3], "registered", *words[5:8]])
-        elif self.name == "alters" and words[4] == "report" and len(words) > 6:
+        elif self.name == "alters" and words[4] == "report" and words[-1] not in ENDS:
             self.counts["planted", self.name] += 1
-            line = " ".join(words[:6])
+            end = next(index for index, word in enumerate(words) if word in ENDS)
+            line = " ".join([*words[:end], "last"])
         elif self.name == "denies" and words[4] == "report":
             self.counts["planted", self.name] += 1
             line = " ".join([*words[:4], "behind", words[5]])

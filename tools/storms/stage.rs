@@ -33,9 +33,9 @@ pub struct Stage {
 }
 
 impl Stage {
-    /// A world before its first event, with these grains, whose silos keep so many hints each.
-    pub fn new(grains: Vec<Grain>, hints: usize) -> Stage {
-        let mut world = World::new(Settings { is_stated: true, points: POINTS, cache: hints });
+    /// A world before its first event, with these grains, whose silos keep so many hints each and tell so many entries in a report.
+    pub fn new(grains: Vec<Grain>, hints: usize, report_size: usize) -> Stage {
+        let mut world = World::new(Settings { is_stated: true, points: POINTS, cache: hints, report_size });
         for (index, grain) in grains.iter().enumerate() {
             let number = world.names().1.read(grain.text.as_bytes());
             assert_eq!(number, Ok(index as u32), "grains are numbered as they are read");

@@ -15,12 +15,18 @@ pub const WORLD: u64 = 20_000;
 /// When this many silos have joined a world, hardly any more ever may, and its storm ends.
 const WORLD_SILOS: usize = 250;
 
+/// How many entries a report has at most in a world: which of these, its seed decides.
+const REPORT_SIZES: [usize; 4] = [1, 2, 3, 64];
+
 /// After so many turns, or with that version, a seeded storm ends.
 const SEEDED_TURNS: u64 = 2_000;
 const SEEDED_VERSION: u64 = 40;
 
 /// How many hints each silo keeps in a seeded storm.
 const SEEDED_HINTS: usize = 1_024;
+
+/// How many entries a report has at most in a seeded storm.
+const SEEDED_REPORT: usize = 64;
 
 /// After so many accepted events a world's dump is printed.
 const DUMPED: u64 = 10_000;
@@ -43,6 +49,8 @@ pub struct Storm {
     pub stage: Stage,
     /// How many hints each silo's cache keeps.
     pub hints: usize,
+    /// How many entries a report has at most.
+    pub report_size: usize,
     /// How many turns there were.
     pub turns: u64,
     /// Whether it ends with a quiet end.
@@ -62,18 +70,19 @@ impl Storm {
         let hints = (random.index(3) * 8).max(1);
         let end = End { turns: events.saturating_mul(8), events, silos: WORLD_SILOS, version: u64::MAX };
         let source = Source::World(Climate::new(random, home));
-        Storm::new(Stage::new(grains, hints), hints, source, end)
+        let report_size = REPORT_SIZES[seed as usize % REPORT_SIZES.len()];
+        Storm::new(Stage::new(grains, hints, report_size), (hints, report_size), source, end)
     }
 
     /// The seeded storm of a course and a seed, up to so many events.
     pub fn of_seed(course: Course, seed: u64, events: u64) -> Storm {
         let end = End { turns: SEEDED_TURNS, events, silos: usize::MAX, version: SEEDED_VERSION };
         let source = Source::Seeded(Seeded::new(course, seed));
-        Storm::new(Stage::new(eighths(), SEEDED_HINTS), SEEDED_HINTS, source, end)
+        Storm::new(Stage::new(eighths(), SEEDED_HINTS, SEEDED_REPORT), (SEEDED_HINTS, SEEDED_REPORT), source, end)
     }
 
-    fn new(stage: Stage, hints: usize, source: Source, end: End) -> Storm {
-        Storm { stage, hints, turns: 0, ends_quietly: true, of_quiet_ends: 0, source, end }
+    fn new(stage: Stage, (hints, report_size): (usize, usize), source: Source, end: End) -> Storm {
+        Storm { stage, hints, report_size, turns: 0, ends_quietly: true, of_quiet_ends: 0, source, end }
     }
 
     /// How many events were drawn and accepted.

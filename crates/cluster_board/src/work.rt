@@ -56,7 +56,7 @@ impl<N: Names> Job<N> {
     /// (`docs/RULES.md#memory`).
     pub fn prepare(self, alloc: Global) -> Result<Prepared<N>, Job<N>>
         ensures work { MatchResult result (λ prepared. prepared ≡ self) (λ job. job ≡ self) }
-        ensures memory { OnErr result (length (received self.node self.letter).letters ≡ answer_count self.node self.letter.body) }
+        ensures memory { OnErr result (length (received self.node self.letter).letters ≡ answer_count self.node self.letter self.letter.body) }
     {
         match self.node.node().plan_letter(alloc, &self.letter) {
             Ok(plan) => Ok(Prepared { job: self, plan }),

@@ -1,3 +1,4 @@
+pub mod ShortSteps
 pub mod Marked
 pub mod Journal
 pub mod Beginnings

@@ -1,5 +1,7 @@
 pub mod Entry
 pub mod Short
+pub mod Stepped
+pub mod SteppedModel
 pub mod EntryModel
 pub mod Journal
 pub mod Agreement

@@ -3,6 +3,7 @@ ghost use Rattle.directory_rules.specs.EventCopies.{NeedsMemory};
 ghost use Rattle.directory_rules.specs.EventModel.{event_of};
 
 use crate::short::Delivery;
+use crate::stepped::Stepped;
 use directory_rules::{Event, Happening, Outcome};
 use std::alloc::{AllocError, Global};
 use std::marker::Model;
@@ -14,10 +15,12 @@ pub struct JournalEntry {
     form: Form,
 }
 
-// Deliveries are kept short, but for those that name a grain; all else lies apart.
+// Deliveries are kept short, but for those that name a grain, and so are a silo's own steps that name one, where there is memory for
+// its name; all else lies apart.
 #[derive(Drop)]
 enum Form {
     Short(Delivery),
+    Step(Stepped),
     Long(Box<Whole>),
 }
 
@@ -51,6 +54,7 @@ impl JournalEntry {
             Form::Short(delivery) => Ok(Event::Deliver {
                 number: delivery.number,
             }),
+            Form::Step(stepped) => Ok(stepped.event()),
             Form::Long(whole) => whole.event.copy(),
         }
     }
@@ -61,6 +65,7 @@ impl JournalEntry {
     {
         match &self.form {
             Form::Short(delivery) => delivery.outcome(),
+            Form::Step(stepped) => stepped.outcome(),
             Form::Long(whole) => whole.outcome,
         }
     }
@@ -76,11 +81,21 @@ impl JournalEntry {
     fn has_event_of(&self, other: &JournalEntry) -> bool
         ensures { IsTrue result ↔ (self.now.event ≡ other.now.event) }
     {
-        match (&self.form, &other.form) {
-            (Form::Short(one), Form::Short(its)) => one.number == its.number,
-            (Form::Short(one), Form::Long(its)) => one.is_of(&its.event),
-            (Form::Long(one), Form::Short(its)) => its.is_of(&one.event),
-            (Form::Long(one), Form::Long(its)) => one.event.same(&its.event),
+        match &other.form {
+            Form::Short(its) => self.is_of(&Event::Deliver { number: its.number }),
+            Form::Step(its) => self.is_of(&its.event()),
+            Form::Long(its) => self.is_of(&its.event),
+        }
+    }
+
+    // Whether it is of this event.
+    fn is_of(&self, event: &Event) -> bool
+        ensures { IsTrue result ↔ (self.now.event ≡ event_of event.now) }
+    {
+        match &self.form {
+            Form::Short(delivery) => delivery.is_of(event),
+            Form::Step(stepped) => stepped.event().same(event),
+            Form::Long(whole) => whole.event.same(event),
         }
     }
 }
@@ -88,6 +103,7 @@ impl JournalEntry {
 /// An entry that waits for what its event tells; whatever that is, there is memory for it.
 #[derive(Drop)]
 pub struct Draft {
+    alloc: Global,
     whole: Box<Whole>,
 }
 
@@ -111,17 +127,22 @@ impl Draft {
             sent: None,
         };
         let whole = Box::new(alloc, Whole { event, outcome })?;
-        Ok(Draft { whole })
+        Ok(Draft { alloc, whole })
     }
 
     /// The event told this.
     pub fn told(self, outcome: &Outcome) -> JournalEntry
         ensures { result ≡ record { event = self; outcome = outcome.now } }
     {
-        let Draft { mut whole } = self;
+        let Draft { alloc, mut whole } = self;
         if let Some(delivery) = Delivery::of(&whole.event, outcome) {
             return JournalEntry {
                 form: Form::Short(delivery),
+            };
+        }
+        if let Some(stepped) = Stepped::of(alloc, &whole.event, outcome) {
+            return JournalEntry {
+                form: Form::Step(stepped),
             };
         }
         whole.outcome = *outcome;

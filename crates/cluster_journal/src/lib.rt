@@ -10,6 +10,7 @@ mod log;
 mod log_rule;
 mod refusal;
 mod short;
+mod stepped;
 
 pub use agreement::agree;
 pub use comparison::compare;

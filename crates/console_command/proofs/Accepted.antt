@@ -15,7 +15,7 @@ use Rattle.clap.specs.declared.builder.value_parser.Reading.{Reading}
 use Rattle.clap.specs.declared.builder.value_parser.Reading.TheVariants as reading
 use Rattle.clap.specs.declared.builder.value_parser.ValueParser.TheVariants as parser
 use Rattle.clap.specs.declared.error.kind.ErrorKind.TheVariants as kind
-use Rattle.console_command.specs.ClapCommand.{NameList, address_rule, app, cache_rule, check_app, hashing_rule, join_rule, player_app, points_rule, silo_app}
+use Rattle.console_command.specs.ClapCommand.{NameList, activations_rule, address_rule, app, cache_rule, check_app, hashing_rule, join_rule, option_rule, player_app, points_rule, report_size_rule, silo_app}
 use Rattle.silo_address.specs.Silo.{Silo}
 use Rattle.silo_address.specs.ReadSilo.{read_silo}
 use Rattle.silo_address.specs.declared.silo.SiloError.{SiloError}
@@ -28,9 +28,7 @@ use Rattle.console_command.proofs.Stops.{StopsElsewhere, walk_stops}
 use Rattle.console_command.proofs.Numbers.{accepted_in_range}
 use Rattle.console_command.proofs.NumberRows.{AreFine, IsAccepted, IsFineRow, fine_text, fine_with, fine_without, has_with, still_has}
 
--- ---- the arguments of a command that plays a script
-
--- such a command, as clap completes it
+-- a command that plays a script, as clap completes it
 abbrev player_shape : Text → NameList → Shape
 player_shape name names = built_leaf (inherited (with_leaf_noted (marked_built (app names).top)) (player_app name names).top)
 
@@ -38,58 +36,142 @@ player_shape name names = built_leaf (inherited (with_leaf_noted (marked_built (
 abbrev check_shape : NameList → Shape
 check_shape names = built_leaf (inherited (with_leaf_noted (marked_built (app names).top)) check_app.top)
 
--- the matches of `--points` and of `--cache`
-abbrev HaveInRange : List Row → Type 0
-HaveInRange rows = AreFine (codes "points") 1 128 rows × AreFine (codes "cache") 1 65536 rows
+-- ---- options that have a number
 
--- both have a match
-abbrev HaveBoth : List Row → Type 0
-HaveBoth rows = (has_row (codes "points") rows ≡ true) × (has_row (codes "cache") rows ≡ true)
+-- its name, its range, and what stands for it where it is left out
+record NumberOption : Type 0 where
+  id : Text
+  low : ℕ
+  high : ℕ
+  default : Text
+
+abbrev points : NumberOption
+points = record { id = codes "points"; low = 1; high = 128; default = codes "30" }
+
+abbrev cache : NumberOption
+cache = record { id = codes "cache"; low = 1; high = 65536; default = codes "1024" }
+
+abbrev activations : NumberOption
+activations = record { id = codes "activations"; low = 1; high = 16777216; default = codes "1000000" }
+
+abbrev report_size : NumberOption
+report_size = record { id = codes "report-size"; low = 1; high = 64; default = codes "64" }
+
+abbrev numbers : List NumberOption
+numbers = report_size ∷ activations ∷ cache ∷ points ∷ []
+
+abbrev number_rule : NumberOption → Rule
+number_rule o = option_rule o.id (parser.Signed (pos o.low) (pos o.high)) o.default
+
+-- the matches of each of them are in its range
+abbrev AreInTheirRanges : List NumberOption → List Row → Type 0
+AreInTheirRanges os rows = Every (λ o. AreFine o.id o.low o.high rows) os
+
+abbrev HaveInRange : List Row → Type 0
+HaveInRange rows = AreInTheirRanges numbers rows
+
+-- each has a match
+abbrev HaveEach : List NumberOption → List Row → Type 0
+HaveEach os rows = Every (λ o. has_row o.id rows ≡ true) os
+
+-- a new row is in the range of each
+abbrev IsFineOfEach : List NumberOption → Row → Type 0
+IsFineOfEach os row = Every (λ o. IsFineRow o.id o.low o.high row) os
+
+abbrev row_with : Text → Reading → ValueSource → List Text → Row
+row_with name how s values = record { id = name; values = values; count = None; source = Some s; reading = how }
 
 passed : (b : Bool) → cond b [] (kind.ValueValidation ∷ []) ≡ [] → b ≡ true
 passed true e = refl
 passed false e = absurd (true≢false (ap is_faulty e))
 
--- values for any option keep them in range, if they are for neither or in its range
-kept_with : (name : Text) (how : Reading) (s : ValueSource) (values : List Text)
-    → IsFineRow (codes "points") 1 128 (record { id = name; values = values; count = None; source = Some s; reading = how })
-    → IsFineRow (codes "cache") 1 65536 (record { id = name; values = values; count = None; source = Some s; reading = how })
-    → (rows : List Row) → HaveInRange rows → HaveInRange (with_values name how s values rows)
-kept_with name how s values points cache rows all = (
-  fine_with (codes "points") 1 128 name how s values points rows all.0,
-  fine_with (codes "cache") 1 65536 name how s values cache rows all.1,
-)
+-- values for any option keep them in range, if they are for none of them or in its range
+kept_with : (os : List NumberOption) (name : Text) (how : Reading) (s : ValueSource) (values : List Text)
+    → IsFineOfEach os (row_with name how s values)
+    → (rows : List Row) → AreInTheirRanges os rows → AreInTheirRanges os (with_values name how s values rows)
+kept_with [] name how s values new rows all = tt
+kept_with (o ∷ os) name how s values new rows all =
+    (fine_with o.id o.low o.high name how s values new.0 rows all.0, kept_with os name how s values new.1 rows all.1)
 
-kept_without : (name : Text) (rows : List Row) → HaveInRange rows → HaveInRange (without name rows)
-kept_without name rows all = (fine_without (codes "points") 1 128 name rows all.0, fine_without (codes "cache") 1 65536 name rows all.1)
+kept_without : (os : List NumberOption) (name : Text) (rows : List Row) → AreInTheirRanges os rows → AreInTheirRanges os (without name rows)
+kept_without [] name rows all = tt
+kept_without (o ∷ os) name rows all = (fine_without o.id o.low o.high name rows all.0, kept_without os name rows all.1)
 
--- each use of an option keeps them in range
-hashing_keep : (names : NameList) → Keeps false HaveInRange (filled (hashing_rule names))
-hashing_keep names values rows e all =
-    kept_with (codes "hashing") reading.AsWritten CommandLine _ (λ is. absurd (true≢false (sym is))) (λ is. absurd (true≢false (sym is))) _
-    (kept_without (codes "hashing") rows all)
+-- values for any option leave the matches of each
+still_each : (os : List NumberOption) (name : Text) (how : Reading) (s : ValueSource) (values : List Text) (rows : List Row)
+    → HaveEach os rows → HaveEach os (with_values name how s values rows)
+still_each [] name how s values rows has = tt
+still_each (o ∷ os) name how s values rows has =
+    (still_has o.id name how s values rows has.0, still_each os name how s values rows has.1)
+
+-- the name is another option's
+abbrev other : {A : Type 0} → false ≡ true → A
+other is = absurd (true≢false (sym is))
+
+-- a use of an option that has a number keeps all in range
+number_keep : (o : NumberOption)
+    → ((v : Text) (vs : List Text) → IsAccepted o.low o.high v → IsFineOfEach numbers (row_with o.id reading.WithoutMinus CommandLine (v ∷ vs)))
+    → Keeps false HaveInRange (filled (number_rule o))
+number_keep o new [] rows e all = absurd (true≢false (ap is_faulty e))
+number_keep o new (v ∷ vs) rows e all =
+    let accepted : IsAccepted o.low o.high v = passed (accepts false (parser.Signed (pos o.low) (pos o.high)) v) (no_first _ _ (no_next _ _ (no_next _ _ e))) in
+    kept_with numbers o.id reading.WithoutMinus CommandLine (v ∷ vs) (new v vs accepted) _ (kept_without numbers o.id rows all)
 
 points_keep : Keeps false HaveInRange (filled points_rule)
-points_keep [] rows e all = absurd (true≢false (ap is_faulty e))
-points_keep (v ∷ vs) rows e all =
-    let accepted : IsAccepted 1 128 v = passed (accepts false (parser.Signed (pos 1) (pos 128)) v) (no_first _ _ (no_next _ _ (no_next _ _ e))) in
-    kept_with (codes "points") reading.WithoutMinus CommandLine (v ∷ vs) (λ is. (refl, accepted)) (λ is. absurd (true≢false (sym is))) _
-    (kept_without (codes "points") rows all)
+points_keep = number_keep points (λ v vs accepted. (other, (other, (other, ((λ is. (refl, accepted)), tt)))))
 
 cache_keep : Keeps false HaveInRange (filled cache_rule)
-cache_keep [] rows e all = absurd (true≢false (ap is_faulty e))
-cache_keep (v ∷ vs) rows e all =
-    let accepted : IsAccepted 1 65536 v = passed (accepts false (parser.Signed (pos 1) (pos 65536)) v) (no_first _ _ (no_next _ _ (no_next _ _ e))) in
-    kept_with (codes "cache") reading.WithoutMinus CommandLine (v ∷ vs) (λ is. absurd (true≢false (sym is))) (λ is. (refl, accepted)) _
-    (kept_without (codes "cache") rows all)
+cache_keep = number_keep cache (λ v vs accepted. (other, (other, ((λ is. (refl, accepted)), (other, tt)))))
+
+activations_keep : Keeps false HaveInRange (filled activations_rule)
+activations_keep = number_keep activations (λ v vs accepted. (other, ((λ is. (refl, accepted)), (other, (other, tt)))))
+
+report_size_keep : Keeps false HaveInRange (filled report_size_rule)
+report_size_keep = number_keep report_size (λ v vs accepted. ((λ is. (refl, accepted)), (other, (other, (other, tt)))))
+
+-- so does a use of any other option, and of what stands without a name
+hashing_keep : (names : NameList) → Keeps false HaveInRange (filled (hashing_rule names))
+hashing_keep names values rows e all =
+    kept_with numbers (codes "hashing") reading.AsWritten CommandLine _ (other, (other, (other, (other, tt)))) _
+    (kept_without numbers (codes "hashing") rows all)
 
 help_keep : Keeps false HaveInRange (filled help_rule)
 help_keep values rows e all = all
 
-player_keeps : (name : Text) (names : NameList) → Every (Keeps false HaveInRange) (player_shape name names).rules
-player_keeps name names = (hashing_keep names, (points_keep, (cache_keep, (help_keep, tt))))
+abbrev placed_address : Rule
+placed_address = filled (record address_rule { index = Some 1 })
+
+address_keep : Keeps false HaveInRange placed_address
+address_keep values rows e all =
+    kept_with numbers (codes "ADDR") reading.AsWritten CommandLine _ (other, (other, (other, (other, tt)))) _
+    (kept_without numbers (codes "ADDR") rows all)
+
+join_keep : Keeps false HaveInRange (filled join_rule)
+join_keep values rows e all =
+    kept_with numbers (codes "join") reading.AsWritten CommandLine _ (other, (other, (other, (other, tt)))) _
+    (kept_without numbers (codes "join") rows all)
 
 -- ---- defaults
+
+-- an option that has a number has one from its default on
+number_default : (o : NumberOption) (had : List NumberOption) → bytes_eq o.id o.id ≡ true
+    → IsFineOfEach numbers (row_with o.id reading.WithoutMinus DefaultValue (o.default ∷ []))
+    → (rows : List Row) → HaveInRange rows → HaveEach had rows
+    → HaveInRange (with_default rows (filled (number_rule o))) × HaveEach (o ∷ had) (with_default rows (filled (number_rule o)))
+number_default o had same new rows all has = go (has_row o.id rows) refl
+  where
+    given : List Row
+    given = default_rows o.id reading.WithoutMinus (o.default ∷ []) rows
+
+    go : (b : Bool) → has_row o.id rows ≡ b → HaveInRange (cond b rows given) × HaveEach (o ∷ had) (cond b rows given)
+    go true is = (all, (is, has))
+    go false is = (
+      kept_with numbers o.id reading.WithoutMinus DefaultValue (o.default ∷ []) new rows all,
+      (
+        has_with o.id reading.WithoutMinus DefaultValue (o.default ∷ []) same rows,
+        still_each had o.id reading.WithoutMinus DefaultValue (o.default ∷ []) rows has,
+      ),
+    )
 
 hashing_default : (names : NameList) (rows : List Row) → HaveInRange rows → HaveInRange (with_default rows (filled (hashing_rule names)))
 hashing_default names rows all = go (has_row (codes "hashing") rows)
@@ -97,105 +179,9 @@ hashing_default names rows all = go (has_row (codes "hashing") rows)
     go : (b : Bool) → HaveInRange (cond b rows (default_rows (codes "hashing") reading.AsWritten (codes "sha256" ∷ []) rows))
     go true = all
     go false =
-        kept_with (codes "hashing") reading.AsWritten DefaultValue (codes "sha256" ∷ []) (λ is. absurd (true≢false (sym is)))
-        (λ is. absurd (true≢false (sym is))) rows all
+        kept_with numbers (codes "hashing") reading.AsWritten DefaultValue (codes "sha256" ∷ []) (other, (other, (other, (other, tt)))) rows all
 
-points_default : (rows : List Row) → HaveInRange rows
-    → HaveInRange (with_default rows (filled points_rule)) × (has_row (codes "points") (with_default rows (filled points_rule)) ≡ true)
-points_default rows all = go (has_row (codes "points") rows) refl
-  where
-    given : List Row
-    given = default_rows (codes "points") reading.WithoutMinus (codes "30" ∷ []) rows
-
-    go : (b : Bool) → has_row (codes "points") rows ≡ b
-        → HaveInRange (cond b rows given) × (has_row (codes "points") (cond b rows given) ≡ true)
-    go true is = (all, is)
-    go false is = (
-      kept_with (codes "points") reading.WithoutMinus DefaultValue (codes "30" ∷ []) (λ same. (refl, refl))
-          (λ same. absurd (true≢false (sym same))) rows all,
-      has_with (codes "points") reading.WithoutMinus DefaultValue (codes "30" ∷ []) refl rows,
-    )
-
-cache_default : (rows : List Row) → HaveInRange rows → has_row (codes "points") rows ≡ true
-    → HaveInRange (with_default rows (filled cache_rule)) × HaveBoth (with_default rows (filled cache_rule))
-cache_default rows all points = go (has_row (codes "cache") rows) refl
-  where
-    given : List Row
-    given = default_rows (codes "cache") reading.WithoutMinus (codes "1024" ∷ []) rows
-
-    go : (b : Bool) → has_row (codes "cache") rows ≡ b → HaveInRange (cond b rows given) × HaveBoth (cond b rows given)
-    go true is = (all, (points, is))
-    go false is = (
-      kept_with (codes "cache") reading.WithoutMinus DefaultValue (codes "1024" ∷ []) (λ same. absurd (true≢false (sym same)))
-          (λ same. (refl, refl)) rows all,
-      (
-        still_has (codes "points") (codes "cache") reading.WithoutMinus DefaultValue (codes "1024" ∷ []) rows points,
-        has_with (codes "cache") reading.WithoutMinus DefaultValue (codes "1024" ∷ []) refl rows,
-      ),
-    )
-
-help_default : (rows : List Row) → rows ≡ with_default rows (filled help_rule)
-help_default rows = go (has_row (codes "help") rows)
-  where
-    go : (b : Bool) → rows ≡ cond b rows rows
-    go true = refl
-    go false = refl
-
--- the matches have a row of each number, and each is in its range
-player_rows : (name : Text) (names : NameList) (words : List Text)
-    → level_fault (player_shape name names) [] nothing_held words false [] ≡ []
-    → HaveInRange (rows_after (player_shape name names).rules [] words) × HaveBoth (rows_after (player_shape name names).rules [] words)
-player_rows name names words e =
-    let walked = (settled (player_shape name names).rules (walk (player_shape name names).rules [] nothing_held words).held).rows in
-    let before = level_keeps (player_shape name names) HaveInRange (player_keeps name names) [] words false [] e (tt, tt) in
-    let hashed = with_default walked (filled (hashing_rule names)) in
-    let pointed = points_default hashed (hashing_default names walked before) in
-    let cached = cache_default (with_default hashed (filled points_rule)) pointed.0 pointed.1 in
-    let same = help_default (with_default (with_default hashed (filled points_rule)) (filled cache_rule)) in
-    (subst HaveInRange same cached.0, subst HaveBoth same cached.1)
-
--- what the getter reads of such a number is in its range
-in_range : (low high : ℕ) (found : Option Text) → high < 4294967296
-    → (text : Text) × (found ≡ Some (without_minus text)) × IsAccepted low high text
-    → (low ≤ option_map_or number_or_zero found 0) × (option_map_or number_or_zero found 0 ≤ high)
-in_range low high found fits text =
-    subst (λ o. (low ≤ option_map_or number_or_zero o 0) × (option_map_or number_or_zero o 0 ≤ high)) (sym text.1)
-    (accepted_in_range low high text.0 fits text.2)
-
--- so what the options choose is in range
-player_options : (name : Text) (names : NameList) (words : List Text)
-    → level_fault (player_shape name names) [] nothing_held words false [] ≡ []
-    → AreInRange (options_in (rows_after (player_shape name names).rules [] words))
-player_options name names words e =
-    let after = rows_after (player_shape name names).rules [] words in
-    let rows = player_rows name names words e in
-    let points = in_range 1 128 (one_of (codes "points") after) (lit< tt) (fine_text (codes "points") 1 128 after rows.0.0 rows.1.0) in
-    let cache = in_range 1 65536 (one_of (codes "cache") after) (lit< tt) (fine_text (codes "cache") 1 65536 after rows.0.1 rows.1.1) in
-    (points.0, points.1, cache.0, cache.1)
-
--- ---- the process of a silo
-
--- the command, as clap completes it
-abbrev silo_shape : NameList → Shape
-silo_shape names = built_leaf (inherited (with_leaf_noted (marked_built (app names).top)) (silo_app names).top)
-
--- its address, the first word without a name
-abbrev placed_address : Rule
-placed_address = filled (record address_rule { index = Some 1 })
-
-address_keep : Keeps false HaveInRange placed_address
-address_keep values rows e all =
-    kept_with (codes "ADDR") reading.AsWritten CommandLine _ (λ is. absurd (true≢false (sym is))) (λ is. absurd (true≢false (sym is))) _
-    (kept_without (codes "ADDR") rows all)
-
-join_keep : Keeps false HaveInRange (filled join_rule)
-join_keep values rows e all =
-    kept_with (codes "join") reading.AsWritten CommandLine _ (λ is. absurd (true≢false (sym is))) (λ is. absurd (true≢false (sym is))) _
-    (kept_without (codes "join") rows all)
-
-silo_keeps : (names : NameList) → Every (Keeps false HaveInRange) (silo_shape names).rules
-silo_keeps names = (address_keep, (join_keep, (hashing_keep names, (points_keep, (cache_keep, (help_keep, tt))))))
-
+-- an option without a default leaves the matches
 no_default : (id : Text) (rows : List Row) → rows ≡ cond (has_row id rows) rows rows
 no_default id rows = go (has_row id rows)
   where
@@ -203,29 +189,84 @@ no_default id rows = go (has_row id rows)
     go true = refl
     go false = refl
 
-silo_rows : (names : NameList) (words : List Text) → level_fault (silo_shape names) [] nothing_held words false [] ≡ []
-    → HaveInRange (rows_after (silo_shape names).rules [] words) × HaveBoth (rows_after (silo_shape names).rules [] words)
-silo_rows names words e =
-    let walked = (settled (silo_shape names).rules (walk (silo_shape names).rules [] nothing_held words).held).rows in
-    let before = level_keeps (silo_shape names) HaveInRange (silo_keeps names) [] words false [] e (tt, tt) in
-    let addressed = with_default walked placed_address in
-    let kept : HaveInRange addressed = subst HaveInRange (no_default (codes "ADDR") walked) before in
-    let told = with_default addressed (filled join_rule) in
-    let still : HaveInRange told = subst HaveInRange (no_default (codes "join") addressed) kept in
-    let hashed = with_default told (filled (hashing_rule names)) in
-    let pointed = points_default hashed (hashing_default names told still) in
-    let cached = cache_default (with_default hashed (filled points_rule)) pointed.0 pointed.1 in
-    let same = help_default (with_default (with_default hashed (filled points_rule)) (filled cache_rule)) in
-    (subst HaveInRange same cached.0, subst HaveBoth same cached.1)
+-- the matches once each option has its default
+abbrev defaulted : NameList → List Row → List Row
+defaulted names rows =
+    with_default (with_default (with_default (with_default (with_default (with_default rows (filled (hashing_rule names))) (filled points_rule))
+    (filled cache_rule)) (filled activations_rule)) (filled report_size_rule)) (filled help_rule)
+
+options_defaulted : (names : NameList) (rows : List Row) → HaveInRange rows
+    → HaveInRange (defaulted names rows) × HaveEach numbers (defaulted names rows)
+options_defaulted names rows all =
+    let hashed = with_default rows (filled (hashing_rule names)) in
+    let pointed = with_default hashed (filled points_rule) in
+    let cached = with_default pointed (filled cache_rule) in
+    let held = with_default cached (filled activations_rule) in
+    let a = number_default points [] refl (other, (other, (other, ((λ same. (refl, refl)), tt)))) hashed (hashing_default names rows all) tt in
+    let b = number_default cache (points ∷ []) refl (other, (other, ((λ same. (refl, refl)), (other, tt)))) pointed a.0 a.1 in
+    let c = number_default activations (cache ∷ points ∷ []) refl (other, ((λ same. (refl, refl)), (other, (other, tt)))) cached b.0 b.1 in
+    let d = number_default report_size (activations ∷ cache ∷ points ∷ []) refl ((λ same. (refl, refl)), (other, (other, (other, tt)))) held c.0 c.1 in
+    let same = no_default (codes "help") (with_default held (filled report_size_rule)) in
+    (subst HaveInRange same d.0, subst (HaveEach numbers) same d.1)
+
+-- what the getter reads of such a number is in its range
+in_range : (o : NumberOption) (found : Option Text) → o.high < 4294967296
+    → (text : Text) × (found ≡ Some (without_minus text)) × IsAccepted o.low o.high text
+    → (o.low ≤ option_map_or number_or_zero found 0) × (option_map_or number_or_zero found 0 ≤ o.high)
+in_range o found fits text =
+    subst (λ f. (o.low ≤ option_map_or number_or_zero f 0) × (option_map_or number_or_zero f 0 ≤ o.high)) (sym text.1)
+    (accepted_in_range o.low o.high text.0 fits text.2)
+
+-- so what the options choose is in range
+options_in_range : (rows : List Row) → HaveInRange rows × HaveEach numbers rows → AreInRange (options_in rows)
+options_in_range rows given =
+    let size = in_range report_size (one_of (codes "report-size") rows) (lit< tt) (fine_text (codes "report-size") 1 64 rows given.0.0 given.1.0) in
+    let held = in_range activations (one_of (codes "activations") rows) (lit< tt) (fine_text (codes "activations") 1 16777216 rows given.0.1.0 given.1.1.0) in
+    let hints = in_range cache (one_of (codes "cache") rows) (lit< tt) (fine_text (codes "cache") 1 65536 rows given.0.1.1.0 given.1.1.1.0) in
+    let dots = in_range points (one_of (codes "points") rows) (lit< tt) (fine_text (codes "points") 1 128 rows given.0.1.1.1.0 given.1.1.1.1.0) in
+    record {
+      points_above = dots.0;
+      points_within = dots.1;
+      cache_above = hints.0;
+      cache_within = hints.1;
+      activations_above = held.0;
+      activations_within = held.1;
+      report_above = size.0;
+      report_within = size.1;
+    }
+
+-- ---- a command that plays a script
+
+player_keeps : (name : Text) (names : NameList) → Every (Keeps false HaveInRange) (player_shape name names).rules
+player_keeps name names = (hashing_keep names, (points_keep, (cache_keep, (activations_keep, (report_size_keep, (help_keep, tt))))))
+
+player_options : (name : Text) (names : NameList) (words : List Text)
+    → level_fault (player_shape name names) [] nothing_held words false [] ≡ []
+    → AreInRange (options_in (rows_after (player_shape name names).rules [] words))
+player_options name names words e =
+    let walked = (settled (player_shape name names).rules (walk (player_shape name names).rules [] nothing_held words).held).rows in
+    let kept = level_keeps (player_shape name names) HaveInRange (player_keeps name names) [] words false [] e (tt, (tt, (tt, (tt, tt)))) in
+    options_in_range (defaulted names walked) (options_defaulted names walked kept)
+
+-- ---- the process of a silo
+
+-- the command, as clap completes it
+abbrev silo_shape : NameList → Shape
+silo_shape names = built_leaf (inherited (with_leaf_noted (marked_built (app names).top)) (silo_app names).top)
+
+silo_keeps : (names : NameList) → Every (Keeps false HaveInRange) (silo_shape names).rules
+silo_keeps names =
+    (address_keep, (join_keep, (hashing_keep names, (points_keep, (cache_keep, (activations_keep, (report_size_keep, (help_keep, tt))))))))
 
 silo_options : (names : NameList) (words : List Text) → level_fault (silo_shape names) [] nothing_held words false [] ≡ []
     → AreInRange (options_in (rows_after (silo_shape names).rules [] words))
 silo_options names words e =
-    let after = rows_after (silo_shape names).rules [] words in
-    let rows = silo_rows names words e in
-    let points = in_range 1 128 (one_of (codes "points") after) (lit< tt) (fine_text (codes "points") 1 128 after rows.0.0 rows.1.0) in
-    let cache = in_range 1 65536 (one_of (codes "cache") after) (lit< tt) (fine_text (codes "cache") 1 65536 after rows.0.1 rows.1.1) in
-    (points.0, points.1, cache.0, cache.1)
+    let walked = (settled (silo_shape names).rules (walk (silo_shape names).rules [] nothing_held words).held).rows in
+    let kept = level_keeps (silo_shape names) HaveInRange (silo_keeps names) [] words false [] e (tt, (tt, (tt, (tt, tt)))) in
+    let addressed = with_default walked placed_address in
+    let told = with_default addressed (filled join_rule) in
+    let still : HaveInRange told = subst HaveInRange (no_default (codes "join") addressed) (subst HaveInRange (no_default (codes "ADDR") walked) kept) in
+    options_in_range (defaulted names told) (options_defaulted names told still)
 
 -- whatever names the silo
 process_in_range : (read : Result Silo SiloError) (token : Result (Option (List ℕ)) ProcessMistake) (options : Options) → AreInRange options

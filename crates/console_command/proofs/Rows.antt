@@ -1,9 +1,15 @@
 -- Rows shown one after the other.
-use Rattle.std.proofs.Common.{◌≡◌, ℕ, ◌+◌, ◌<◌, ◌≤◌, ◌++◌, List, [], ◌∷◌, length, drop, get_or, drop-cons, add-one, false, map, subst, ap, refl, sym, ◌∙◌, append_assoc, append-nil}
+use Rattle.std.proofs.Common.{◌≡◌, ℕ, ◌+◌, ◌<◌, ◌≤◌, ◌++◌, List, [], ◌∷◌, Option, Some, None, length, drop, get_or, drop-cons, add-one, false, map, subst, ap, refl, sym, ◌∙◌, append_assoc, append-nil}
 use Rattle.std.specs.Prelude.{filter, flat_map, ◌==◌}
+use Rattle.std.specs.List.{cons_option}
+use Rattle.std.specs.Option.{option_map}
 use Rattle.std.proofs.lemmas.List.{drop_all}
 use Rattle.std.proofs.lemmas.List.Concat.{flat_map-append}
 use Rattle.silo_address.specs.Silo.{Silo}
+use Rattle.membership_view.specs.declared.row.Row.{Row}
+use Rattle.membership_view.specs.declared.status.Status.{Status}
+use Rattle.membership_view.specs.Row.{status_in}
+use Rattle.membership_view.specs.Views.{rows_in}
 use Rattle.ring_range.specs.Range.{Range}
 use Rattle.hash_ring.specs.declared.point.Point.{Point}
 use Rattle.hash_ring.specs.Ranges.{owned_range, owned_ranges, owns_its_place}
@@ -93,3 +99,19 @@ pub ranges_are : (world : World) (points ring current : List Point) (slice range
 ranges_are world points ring current slice ranges points_are some is slice_is owned =
     ap (map (λ (e : Range × Silo). range_line world e.0 e.1)) (slice_is ∙ (owned ∙ ap owned_ranges is))
     ∙ of_some_points world current (subst (λ (ps : List Point). (length ps == 0) ≡ false) (points_are ∙ is) some)
+
+-- ---- the silos that are known, row by row
+module _ (version : ℕ) (e : Silo × Row) (rest rows : List (Silo × Row)) (taken : rows ≡ e ∷ rest) where
+  known_by : (o : Option Status) → status_in version e.1 ≡ o
+      → rows_in version rows ≡ cons_option (option_map (λ status. (e.0, status)) o) (rows_in version rest)
+  known_by o is =
+      ap (rows_in version) taken
+      ∙ ap (λ (o : Option Status). cons_option (option_map (λ status. (e.0, status)) o) (rows_in version rest)) is
+
+  -- one that had joined by the version
+  pub known_next : (status : Status) → status_in version e.1 ≡ Some status → rows_in version rows ≡ (e.0, status) ∷ rows_in version rest
+  known_next status is = known_by (Some status) is
+
+  -- one that hadn't
+  pub known_later : status_in version e.1 ≡ None → rows_in version rows ≡ rows_in version rest
+  known_later is = known_by None is

@@ -37,10 +37,25 @@ points_rule = option_rule (codes "points") (parser.Signed (pos 1) (pos 128)) (co
 abbrev pub cache_rule : Rule
 cache_rule = option_rule (codes "cache") (parser.Signed (pos 1) (pos 65536)) (codes "1024")
 
--- `NAME [--hashing HASHING] [--points N] [--cache N]`, which plays a script
+-- `--activations`: a number from 1 to 2^24, 1000000 if it is left out
+abbrev pub activations_rule : Rule
+activations_rule = option_rule (codes "activations") (parser.Signed (pos 1) (pos 16777216)) (codes "1000000")
+
+-- `--report-size`: a number from 1 to 64, 64 if it is left out
+abbrev pub report_size_rule : Rule
+report_size_rule = option_rule (codes "report-size") (parser.Signed (pos 1) (pos 64)) (codes "64")
+
+-- with what all silos share: `[--hashing HASHING] [--points N] [--cache N]`
+abbrev pub with_shared : NameList → App → App
+with_shared names bare = with_rule (with_rule (with_rule bare (hashing_rule names)) points_rule) cache_rule
+
+-- and with a silo's limits: `[--activations N] [--report-size N]`
+abbrev pub with_options : NameList → App → App
+with_options names bare = with_rule (with_rule (with_shared names bare) activations_rule) report_size_rule
+
+-- `NAME` with these options, which plays a script
 abbrev pub player_app : Text → NameList → App
-player_app name names =
-    with_rule (with_rule (with_rule (new_app name) (hashing_rule names)) points_rule) cache_rule
+player_app name names = with_options names (new_app name)
 
 -- `play`, with these options
 abbrev pub play_app : NameList → App
@@ -66,9 +81,9 @@ join_rule = record (new_rule (codes "join")) { long = Some (codes "join"); actio
 abbrev pub bare_silo_app : App
 bare_silo_app = with_rule (with_rule (new_app (codes "silo")) address_rule) join_rule
 
--- `silo ADDR [--join TOKEN] [--hashing HASHING] [--points N] [--cache N]`
+-- the same with these options
 abbrev pub silo_app : NameList → App
-silo_app names = with_rule (with_rule (with_rule bare_silo_app (hashing_rule names)) points_rule) cache_rule
+silo_app names = with_options names bare_silo_app
 
 -- the program's name, and that it tells its version; a subcommand has to follow
 abbrev pub bare_app : App

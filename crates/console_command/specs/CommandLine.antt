@@ -52,6 +52,8 @@ options_in rows = record {
   hashing = hashing_of rows;
   points = number_of (codes "points") rows;
   cache = number_of (codes "cache") rows;
+  activations = number_of (codes "activations") rows;
+  report_size = number_of (codes "report-size") rows;
 }
 
 -- the process of a silo with its token, if that is a silo, and then, if the token is one
@@ -121,9 +123,17 @@ Reads words (Err (error.Usage e)) = HaveFault words (kind_of e)
 Reads words (Err (error.NoProcess mistake)) = NameNoProcess words mistake
 Reads words (Err error.OutOfMemory) = ⊤
 
--- the points are as many as a silo may have, and the hints as many as a cache may keep
-abbrev pub AreInRange : Options → Type 0
-AreInRange options = (1 ≤ options.points) × (options.points ≤ 128) × (1 ≤ options.cache) × (options.cache ≤ 65536)
+-- the points and activations are as many as a silo may have, the hints as many as a cache may keep, and the entries as many as a report
+-- may tell
+pub record AreInRange (options : Options) : Type 0 where
+  pub points_above : 1 ≤ options.points
+  pub points_within : options.points ≤ 128
+  pub cache_above : 1 ≤ options.cache
+  pub cache_within : options.cache ≤ 65536
+  pub activations_above : 1 ≤ options.activations
+  pub activations_within : options.activations ≤ 16777216
+  pub report_above : 1 ≤ options.report_size
+  pub report_within : options.report_size ≤ 64
 
 -- the options of the line are in their ranges
 abbrev pub IsInRange : Line → Type 0

@@ -32,7 +32,8 @@ pub record Streams : Type 0 where
 
 -- the settings that the options choose
 abbrev pub chosen_settings : Options → Settings
-chosen_settings options = directory_settings options.hashing options.points options.cache
+chosen_settings options =
+    record (directory_settings options.hashing options.points options.cache) { activations = options.activations; report_size = options.report_size }
 
 -- the source's script is played to a new cluster, with those settings
 abbrev pub Plays : Options → (old new : Streams) → Ended ScriptLineFault → Type 0
@@ -41,7 +42,7 @@ Plays options old new ended = IfSome old.rest (λ script.
 
 -- the settings that the options choose for a silo's process
 abbrev pub chosen_process_settings : Options → Settings
-chosen_process_settings options = process_settings options.hashing options.points options.cache
+chosen_process_settings options = process_settings (chosen_settings options)
 
 -- the source's lines are those of the silo's process, with those settings, and are answered
 abbrev pub PlaysSilo : SiloValue → (token : Option (List ℕ)) → Options → (old new : Streams) → Ended Dead → Type 0

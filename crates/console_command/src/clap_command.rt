@@ -1,8 +1,8 @@
 ghost use Rattle.std.specs.Prelude.{◌≡◌, IfOk, false};
 ghost use Rattle.clap.specs.Walk.{rule_of};
-ghost use Rattle.clap.specs.Simple.{app_of};
+ghost use Rattle.clap.specs.Simple.{app_of, new_app};
 ghost use Rattle.clap.specs.declared.builder.command.Command.TheViews.{out-Command};
-ghost use Rattle.console_command.specs.ClapCommand.{OfCommand, address_rule, bare_silo_app, check_app, join_rule, option_rule, options_app, player_app, players_app, points_rule, cache_rule, hashing_rule, silo_app};
+ghost use Rattle.console_command.specs.ClapCommand.{OfCommand, address_rule, bare_silo_app, check_app, join_rule, option_rule, options_app, player_app, players_app, points_rule, cache_rule, hashing_rule, activations_rule, report_size_rule, silo_app, with_shared};
 
 use clap::builder::ValueParser;
 use clap::{Arg, ArgAction, Command, value_parser};
@@ -50,7 +50,7 @@ fn with_players<'a>(alloc: Global, hashings: &'a [&'a str]) -> Result<Command<'a
         .subcommand(player(alloc, "threads", THREADS, hashings)?)
 }
 
-// `NAME [--hashing HASHING] [--points N] [--cache N]`, which plays a script.
+// `NAME [--hashing HASHING] [--points N] [--cache N] [--activations N] [--report-size N]`, which plays a script.
 fn player<'a>(
     alloc: Global,
     name: &'a str,
@@ -60,6 +60,21 @@ fn player<'a>(
     ensures app { IfOk result (λ c. app_of c ≡ player_app name.entry.now hashings.entry) }
     ensures local { IfOk result (λ c. (out-Command c).has_globals ≡ false) }
 {
+    shared_player(alloc, name, about, hashings)?
+        .arg(activations(alloc))?
+        .arg(report_size(alloc))
+}
+
+// The same, without a silo's limits.
+fn shared_player<'a>(
+    alloc: Global,
+    name: &'a str,
+    about: &'a str,
+    hashings: &'a [&'a str],
+) -> Result<Command<'a>, AllocError>
+    ensures app { IfOk result (λ c. app_of c ≡ with_shared hashings.entry (new_app name.entry.now)) }
+    ensures local { IfOk result (λ c. (out-Command c).has_globals ≡ false) }
+{
     Command::new(alloc, name)
         .about(about)
         .arg(hashing(alloc, hashings))?
@@ -67,9 +82,19 @@ fn player<'a>(
         .arg(cache(alloc))
 }
 
-// `silo ADDR [--join TOKEN] [--hashing HASHING] [--points N] [--cache N]`, which is a silo's process.
+// `silo ADDR [--join TOKEN]` with the same options, which is a silo's process.
 fn silo<'a>(alloc: Global, hashings: &'a [&'a str]) -> Result<Command<'a>, AllocError>
     ensures app { IfOk result (λ c. app_of c ≡ silo_app hashings.entry) }
+    ensures local { IfOk result (λ c. (out-Command c).has_globals ≡ false) }
+{
+    shared_silo(alloc, hashings)?
+        .arg(activations(alloc))?
+        .arg(report_size(alloc))
+}
+
+// The same, without a silo's limits.
+fn shared_silo<'a>(alloc: Global, hashings: &'a [&'a str]) -> Result<Command<'a>, AllocError>
+    ensures app { IfOk result (λ c. app_of c ≡ with_shared hashings.entry bare_silo_app) }
     ensures local { IfOk result (λ c. (out-Command c).has_globals ≡ false) }
 {
     bare_silo(alloc)?
@@ -147,6 +172,26 @@ fn cache<'a>(alloc: Global) -> Arg<'a>
     let numbers = value_parser!(u32).range(1..=65536);
     option(alloc, "cache", "CACHE", numbers, "1024").help(
         "How many hints a silo's cache keeps, from 1 to 65536",
+    )
+}
+
+fn activations<'a>(alloc: Global) -> Arg<'a>
+    ensures rule { rule_of result ≡ activations_rule }
+    ensures local { result.global ≡ false }
+{
+    let numbers = value_parser!(u32).range(1..=16777216);
+    option(alloc, "activations", "ACTIVATIONS", numbers, "1000000").help(
+        "How many activations a silo may hold, from 1 to 16777216",
+    )
+}
+
+fn report_size<'a>(alloc: Global) -> Arg<'a>
+    ensures rule { rule_of result ≡ report_size_rule }
+    ensures local { result.global ≡ false }
+{
+    let numbers = value_parser!(u32).range(1..=64);
+    option(alloc, "report-size", "ENTRIES", numbers, "64").help(
+        "How many entries a silo tells in one report, from 1 to 64",
     )
 }
 

@@ -41,6 +41,10 @@ pub struct Options {
     pub points: usize,
     /// How many hints a silo's cache keeps, from 1 to 65536.
     pub cache: usize,
+    /// How many activations a silo may hold, from 1 to 2^24.
+    pub activations: usize,
+    /// How many entries a silo tells in one report, from 1 to 64.
+    pub report_size: usize,
 }
 
 /// Reads a command line: its words as the system gives them, the program's name first.
@@ -146,6 +150,8 @@ fn options_in(settings: &ArgMatches<'_>) -> Options
         hashing: hashing_of(settings),
         points: number_of(settings, "points") as usize,
         cache: number_of(settings, "cache") as usize,
+        activations: number_of(settings, "activations") as usize,
+        report_size: number_of(settings, "report-size") as usize,
     }
 }
 

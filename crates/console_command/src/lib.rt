@@ -23,7 +23,7 @@ mod sync;
 mod verdict;
 
 pub use checked::Checked;
-pub use cluster_play::{play, play_to_new_cluster};
+pub use cluster_play::play;
 pub use command_line::{Line, Options, read_line};
 pub use dump::tell_verdict;
 pub use exit::Exit;

@@ -1,6 +1,6 @@
 //! From the words of the command line to the exit.
 
-ghost use Rattle.std.specs.Prelude.{◌≡◌, List, ℕ, Option, Err, map};
+ghost use Rattle.std.specs.Prelude.{◌≡◌, List, ℕ, Option, Err, IfSome, IsSome, map};
 ghost use Rattle.clap.specs.Walk.{Text};
 ghost use Rattle.console_command.specs.CommandLine.{AreInRange, AskFor, AskToBeTold, IsInRange, Reads};
 ghost use Rattle.console_command.specs.Play.{lines_played};
@@ -19,12 +19,11 @@ ghost use Rattle.console_command.specs.Outcome.{Carries, CarriesByCalls, Carries
 use crate::errors::{
     tell, tell_check, tell_end, tell_failed_call, tell_no_memory, tell_silo, tell_threads, words_or,
 };
-use crate::{
-    CommandLineError, Exit, Line, Options, judge, play_new_silo, play_to_new_cluster, read_line,
-};
+use crate::{CommandLineError, Exit, Line, Options, judge, play_new_silo, read_line};
+use directory_core::World;
 use directory_rules::Settings;
 use line_loop::{Ended, ScriptLineFault, Sink, Source, send};
-use process_answers::{Dead, JoinToken};
+use process_answers::{Dead, JoinToken, process_settings};
 use silo_address::SiloAddress;
 use std::alloc::Global;
 use std::convert::AsStr;
@@ -133,15 +132,8 @@ fn play<R: Source, W: Sink>(
     ensures calls { MakesCalls R.reads W.writes (source.old, output.old) (source.new, output.new) result }
     ensures in_turn { PlaysInTurn R.reads W.writes lines_played (first_world (chosen_settings options)) (source.old, output.old) (source.new, output.new) result }
 {
-    let Options {
-        hashing,
-        points,
-        cache,
-    } = options;
-    match play_to_new_cluster(alloc, hashing, points, cache, source, output) {
-        Some(ended) => ended,
-        None => unreachable!(),
-    }
+    let world = World::new(alloc, chosen_settings(options));
+    crate::play(alloc, world, source, output)
 }
 
 fn play_silo<R: Source, W: Sink>(
@@ -159,15 +151,8 @@ fn play_silo<R: Source, W: Sink>(
     ensures calls { MakesCalls R.reads W.writes (source.old, output.old) (source.new, output.new) result }
     ensures in_turn { AnswersInTurn R.reads W.writes token (first_silo (chosen_process_settings options) silo) (source.old, output.old) (source.new, output.new) result }
 {
-    let Options {
-        hashing,
-        points,
-        cache,
-    } = options;
-    match play_new_silo(alloc, silo, token, hashing, points, cache, source, output) {
-        Some(answered) => answered,
-        None => unreachable!(),
-    }
+    let settings = process_settings(chosen_settings(options));
+    play_new_silo(alloc, settings, silo, token, source, output)
 }
 
 // The settings that the options choose.
@@ -175,10 +160,20 @@ fn chosen_settings(options: Options) -> Settings
     requires { AreInRange options }
     ensures { result ≡ chosen_settings options }
 {
-    match Settings::of_directory(options.hashing, options.points, options.cache) {
+    match settings_of(options) {
         Some(settings) => settings,
         None => unreachable!(),
     }
+}
+
+// The same, if the options are in their ranges.
+fn settings_of(options: Options) -> Option<Settings>
+    ensures exact { IfSome result (λ settings. settings ≡ chosen_settings options) }
+    ensures in_range { AreInRange options → IsSome result }
+{
+    let shared = Settings::of_directory(options.hashing, options.points, options.cache)?;
+    let limited = shared.with_activations(options.activations)?;
+    limited.with_report_size(options.report_size)
 }
 
 // Prints the help or the version that the words ask for, or tells what is wrong with them.

@@ -7,7 +7,8 @@ ghost use Rattle.directory_rules.specs.Happens.{node_of};
 ghost use Rattle.script_rules.specs.Output.{printing};
 ghost use Rattle.texts.specs.Printed.{text_of_lines};
 ghost use Rattle.script_rules.specs.Show.{held_line, owner_line, range_line, range_lines, show_lines, silo_lines};
-ghost use Rattle.directory_rules.specs.World.{current_ring, current_view};
+ghost use Rattle.directory_rules.specs.World.{current_ring};
+ghost use Rattle.membership_view.specs.Views.{known_now};
 ghost use Rattle.script_lines.specs.Shown.{settled_entries};
 ghost use Rattle.script_lines.specs.Spaced.{BeginsWith};
 ghost use Rattle.console_command.specs.Commands.{Performs, in_session};
@@ -51,14 +52,13 @@ pub fn show(alloc: Global, world: &World, out: &mut Vec<u8>) -> Result<(), Alloc
 
 // Each silo that ever joined, by address.
 fn show_silos(alloc: Global, world: &World, out: &mut Vec<u8>) -> Result<(), AllocError>
-    ensures shown { OnOk result (out.new.items ≡ out.old.items ++ text_of_lines (flat_map (λ e. silo_lines e.0 e.1 (node_of world.now e.0)) (current_view world.now).rows)) }
+    ensures shown { OnOk result (out.new.items ≡ out.old.items ++ text_of_lines (flat_map (λ e. silo_lines e.0 e.1 (node_of world.now e.0)) (known_now world.now.views))) }
     ensures kept { BeginsWith out.old.items out.new.items }
 {
-    let Some(view) = world.views().view(alloc, world.current())? else {
-        unreachable!()
-    };
-    for row in view.rows() {
-        show_silo(alloc, world, &row.0, row.1, out)?;
+    for (silo, row) in world.views().rows() {
+        if let Some(status) = row.status(world.current()) {
+            show_silo(alloc, world, silo, status, out)?;
+        }
     }
     Ok(())
 }

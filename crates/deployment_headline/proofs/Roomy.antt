@@ -4,7 +4,7 @@ use Rattle.std.specs.Prelude.{◌==◌, Bool, true, false, not, nat_le, nat_lt, 
 use Rattle.std.specs.Option.{option_map}
 use Rattle.std.specs.BTreeMap.{is_at, insert_entry}
 use Rattle.silo_address.specs.Silo.{Silo, silo_cmp, silo_eq}
-use Rattle.membership_view.specs.Views.{ViewsValue}
+use Rattle.membership_view.specs.Views.{ViewsValue, most_known}
 use Rattle.membership_view.specs.Changes.{occupant, after_join}
 use Rattle.hash_ring.specs.Places.{PlacesValue}
 use Rattle.directory_rules.specs.declared.effect.Effect.TheVariants.{Ignored}
@@ -12,13 +12,17 @@ use Rattle.directory_rules.specs.Settings.{Settings}
 use Rattle.directory_rules.specs.State.{Letter}
 use Rattle.directory_rules.specs.Step.{Stepped, silently}
 use Rattle.directory_rules.specs.Input.{Input, Does, Receives, step, sight_of}
-use Rattle.directory_rules.specs.Membership.{Change, Join, Leave, Die, Membership, joined, changed, replaced_by, is_seeable}
+use Rattle.membership_view.specs.declared.status.Status.{Status}
+use Rattle.membership_view.specs.declared.status.Status.TheVariants.{Active, Leaving, Dead}
+use Rattle.membership_view.specs.Beginning.{after_listing}
+use Rattle.directory_rules.specs.Membership.{Change, Join, Leave, Die, Listed, Membership, joined, changed, replaced_by, is_seeable, listed, listed_all, listed_by, listing_of, membership_from}
 use Rattle.silo_rules.specs.SiloValue.{SiloValue, first_silo}
 use Rattle.silo_rules.specs.Steps.{barred, unless_barred, sees, does, receives}
 use Rattle.silo_rules.specs.Steps as alone
 use Rattle.silo_rules.specs.Told.{Heard, heard_by, told_again, told}
+use Rattle.silo_rules.specs.Begun.{told_view, unless_joined}
 use Rattle.deployment_headline.specs.Deployment.{Deployment, first_deployment, process_of}
-use Rattle.deployment_headline.specs.Steps.{Step, Decide, Tell, See, Do, Receive, without, processes_after, decided, heard, took, tells, tells_at, does_at, comes, sees_at, delivers, receives_at, after, after_all, deployed}
+use Rattle.deployment_headline.specs.Steps.{Step, Decide, Tell, Begin, See, Do, Receive, without, processes_after, decided, heard, begins, begins_at, took, tells, tells_at, does_at, comes, sees_at, delivers, receives_at, after, after_all, deployed}
 use Rattle.deployment_headline.specs.Limits.{with_room, process_with_room, deployment_with_room}
 use Rattle.deployment_headline.proofs.Lists.{over, lookup-over, insert-over, remove-over}
 use Rattle.deployment_headline.proofs.Limits.{result_with_room, steps_same}
@@ -77,6 +81,48 @@ module _ (events letters : ℕ) where
   heard_same d silo s (Err number) = refl
   heard_same d silo s (Ok its) =
       ap (λ ps. record (R d) { processes = ps }) (insert-over P silo_cmp d.processes silo (record s { membership = its.membership }))
+
+  -- ---- what a process begins with
+  listed_same : (settings : Settings) (m : Membership) (one : Listed)
+      → listed (with_room events letters settings) m one ≡ listed settings m one
+  listed_same settings m one = by one.status
+    where
+      by : (status : Status) → listed_by status (after_listing m.views one.silo one.status) (with_room events letters settings) m.places one.silo one.places
+          ≡ listed_by status (after_listing m.views one.silo one.status) settings m.places one.silo one.places
+      by Active = joined_same (after_listing m.views one.silo one.status) settings m.places one.silo one.places
+      by Leaving = joined_same (after_listing m.views one.silo one.status) settings m.places one.silo one.places
+      by Dead = refl
+
+  listed_all_same : (settings : Settings) (r : Result Membership ℕ) (rows : List Listed)
+      → listed_all (with_room events letters settings) r rows ≡ listed_all settings r rows
+  listed_all_same settings (Err number) rows = refl
+  listed_all_same settings (Ok m) [] = refl
+  listed_all_same settings (Ok m) (one ∷ rows) =
+      ap (λ r. listed_all (with_room events letters settings) r rows) (listed_same settings m one)
+      ∙ listed_all_same settings (listed settings m one) rows
+
+  view_same : (s : SiloValue) (silo : Silo) (version : ℕ) (rows : List Listed)
+      → told_view (P s).node.settings (P s).membership silo version rows ≡ told_view s.node.settings s.membership silo version rows
+  view_same s silo version rows =
+      ap (λ r. if nat_lt 0 s.membership.views.version then Err 211 else
+      unless_joined silo (if nat_lt version most_known then r else Err 210))
+      (listed_all_same s.node.settings (Ok (membership_from s.node.settings version)) rows)
+
+  begins_same : (d : Deployment) (silo : Silo) (s : SiloValue) (r : Result Membership ℕ) → begins r (R d) silo (P s) ≡ R (begins r d silo s)
+  begins_same d silo s (Err number) = refl
+  begins_same d silo s (Ok m) = ap (λ ps. record (R d) { processes = ps }) (insert-over P silo_cmp d.processes silo (record s { membership = m }))
+
+  begins_at_same : (d : Deployment) (silo : Silo) (version : ℕ) (o : Option SiloValue)
+      → begins_at (option_map P o) (R d) silo version ≡ R (begins_at o d silo version)
+  begins_at_same d silo version None = refl
+  begins_at_same d silo version (Some s) = by (nat_le version d.membership.views.version)
+    where
+      by : (b : Bool) → (if b then begins (told_view (P s).node.settings (P s).membership silo version (listing_of d.membership version)) (R d) silo (P s) else R d)
+          ≡ R (if b then begins (told_view s.node.settings s.membership silo version (listing_of d.membership version)) d silo s else d)
+      by false = refl
+      by true =
+          ap (λ r. begins r (R d) silo (P s)) (view_same s silo version (listing_of d.membership version))
+          ∙ begins_same d silo s (told_view s.node.settings s.membership silo version (listing_of d.membership version))
 
   tells_same : (d : Deployment) (silo : Silo) (s : SiloValue) (index : ℕ) (o : Option Change)
       → tells o (R d) silo (P s) index ≡ R (tells o d silo s index)
@@ -154,6 +200,8 @@ module _ (events letters : ℕ) where
       ap (λ r. decided r (R d) c) (changed_same d.settings d.membership c) ∙ decided_same d c (changed d.settings d.membership c)
   after_same d (Tell silo index) =
       ap (λ o. tells_at o (R d) silo index) (process_there d silo) ∙ tells_at_same d silo index (process_of d silo)
+  after_same d (Begin silo version) =
+      ap (λ o. begins_at o (R d) silo version) (process_there d silo) ∙ begins_at_same d silo version (process_of d silo)
   after_same d (See silo version) =
       ap (λ o. sees_at o (R d) silo version) (process_there d silo) ∙ sees_at_same d silo version (process_of d silo)
   after_same d (Do silo step) = comes_same d silo (Does step)

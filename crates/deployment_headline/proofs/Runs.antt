@@ -11,6 +11,7 @@ use Rattle.std.proofs.lemmas.List.Elements.{All-nil, All-head, All-tail, All-app
 use Rattle.silo_address.specs.Silo.{Silo, silo_cmp}
 use Rattle.silo_address.specs.Grain.{Grain}
 use Rattle.membership_view.specs.Views.{view_at}
+use Rattle.membership_view.specs.Whole.{IsViews}
 use Rattle.directory_rules.specs.Settings.{Settings, AreSettings}
 use Rattle.directory_rules.specs.State.{Letter, Node, Posted, World}
 use Rattle.directory_rules.specs.Event.{Event, IsEvent}
@@ -21,19 +22,20 @@ use Rattle.directory_rules.specs.Settled.{IsFirmOn}
 use Rattle.directory_rules.specs.Headline.{Headline, MovesPlainly}
 use Rattle.directory_rules.specs.PlainMachine.{life_on, Plain, PlainStep, Nothing_changes, IsSame, IsPlainStep, plain_of, plain_step_of}
 use Rattle.directory_facts.proofs.Lawful.{letters_are_own}
-use Rattle.directory_facts.proofs.SeenRings.{seen_keep}
 use Rattle.directory_headline.proofs.Theorems.{headline_after, plain_after}
 use Rattle.directory_rules.specs.Membership.{Change, Membership, first_membership, changed, replaced_by}
+use Rattle.silo_rules.specs.SiloValue.{SiloValue}
 use Rattle.silo_rules.specs.Told.{heard_by, news_of, told, told_again}
-use Rattle.silo_rules.proofs.Whole.{Are}
-use Rattle.deployment_headline.specs.Deployment.{Deployment, first_deployment}
+use Rattle.silo_rules.proofs.Whole.{Are, first_are}
+use Rattle.deployment_headline.specs.Deployment.{Deployment, first_deployment, process_of}
 use Rattle.deployment_headline.specs.Limits.{with_room, node_with_room, process_with_room, deployment_with_room}
 use Rattle.deployment_headline.specs.Steps.{Step, IsStep, after, after_all, deployed}
 use Rattle.deployment_headline.specs.Theorems.{nodes_of, world_of, IsWorldOf, IsRun, IsFirmAt, DeploymentsAreRuns, ProcessesKeepTheHeadline, ProcessesKeepOneFirm, ProcessesAreBehind, ProcessesAreOwn, StepsArePlain, LimitsDoNotMatter, WrittenAreOwn}
 use Rattle.deployment_headline.proofs.Lists.{rest_begins, lookup-over, over, over-over}
 use Rattle.deployment_headline.proofs.Unlimited.{headline_under}
-use Rattle.deployment_headline.proofs.Memberships.{Leads, leads_to}
-use Rattle.deployment_headline.proofs.StepEvents.{moves}
+use Rattle.deployment_headline.proofs.Memberships.{Leads}
+use Rattle.deployment_headline.proofs.MirrorChanges.{goes_on}
+use Rattle.deployment_headline.proofs.StepEvents.{moves, told_agrees}
 use Rattle.deployment_headline.proofs.Roomy.{deployed_same}
 use Rattle.deployment_headline.proofs.Sound.{Sound, sound_first, its_process, keeps}
 use Rattle.deployment_headline.proofs.Worlds.{its_node, make, its_letter, HasWritten, letter_there, IsOneEvent}
@@ -128,7 +130,7 @@ module _ (settings : Settings) (steps : List Step) (are : AreSettings settings) 
   first_so : Are roomy (first_membership roomy)
   unfolding roomy
   first_so =
-      let its = seen_keep.first settings are in record {
+      let its = first_are settings are in record {
         whole = its.whole;
         limit = its.limit;
         hashing = its.hashing;
@@ -172,7 +174,7 @@ module _ (settings : Settings) (steps : List Step) (are : AreSettings settings) 
       }
     where
       stay : d.settings ≡ settings
-      stay = settings_stay (first_deployment settings) (sound_first settings (seen_keep.first settings are)) steps
+      stay = settings_stay (first_deployment settings) (sound_first settings (first_are settings are)) steps
 
 pub deployments_are_runs : DeploymentsAreRuns
 deployments_are_runs settings steps are named =
@@ -215,24 +217,33 @@ pub processes_are_behind : ProcessesAreBehind
 processes_are_behind settings steps are named silo s there =
     let d = deployed settings steps in
     let m = s.membership in
-    let its = its_process d (sound_after (first_deployment settings) (sound_first settings (seen_keep.first settings are)) steps) silo s there in
-    let to = (leads_to d.settings m d.membership (drop m.views.version d.changes) its.told.are its.told.leads).0 in
+    let its = its_process d (sound_after (first_deployment settings) (sound_first settings (first_are settings are)) steps) silo s there in
+    let to = told_agrees d.settings d.changes d.membership m silo its.told in
     record {
+      first = its.told.are.whole.first_upto;
       version = to.version;
-      views = λ k within. sym (to.views k within);
+      views = λ k from within. sym (to.views k from within);
       next = λ change is.
           let rest = rest_begins d.changes m.views.version change is in
-          let leads : Leads d.settings m (change ∷ drop (suc m.views.version) d.changes) d.membership = subst (λ l. Leads d.settings m l d.membership) rest.0 its.told.leads in (
-            record { membership = leads.0; news = news_of (replaced_by m change) },
-            told_next s.node.settings m leads.0 change
-                (ap (λ (t : Settings). changed t m change) its.set_up ∙ leads.1),
+          let at = its.told.at in
+          let leads : Leads d.settings at (change ∷ drop (suc m.views.version) d.changes) d.membership = subst (λ l. Leads d.settings at l d.membership) rest.0 its.told.leads in
+          let on = goes_on d.settings m at its.told.are its.told.all its.told.mirrors change leads.0 leads.1 in (
+            record { membership = on.mine; news = news_of (replaced_by m change) },
+            told_next s.node.settings m on.mine change (ap (λ (t : Settings). changed t m change) its.set_up ∙ on.is),
           );
     }
 
 pub processes_are_own : ProcessesAreOwn
 processes_are_own settings steps are named silo s there =
-    let its = its_process (deployed settings steps) (sound_after (first_deployment settings) (sound_first settings (seen_keep.first settings are)) steps) silo s there in
+    let its = its_process (deployed settings steps) (sound_after (first_deployment settings) (sound_first settings (first_are settings are)) steps) silo s there in
     record { set_up = its.set_up; address = its.address }
+
+-- what a process was told is whole
+pub told_whole : (settings : Settings) (steps : List Step) → AreSettings settings → All IsStep steps → (silo : Silo) (s : SiloValue)
+    → process_of (deployed settings steps) silo ≡ Some s → IsViews s.membership.views
+told_whole settings steps are named silo s there =
+    (its_process (deployed settings steps) (sound_after (first_deployment settings) (sound_first settings (first_are settings are)) steps) silo s
+    there).told.are.whole
 
 pub limits_do_not_matter : LimitsDoNotMatter
 limits_do_not_matter settings steps events letters = deployed_same events letters settings steps
@@ -254,6 +265,8 @@ has_settings its events letters are some any = record {
   activations_within = are.activations_within;
   finds_above = are.finds_above;
   finds_within = are.finds_within;
+  report_above = are.report_above;
+  report_within = are.report_within;
   last_above = are.last_above;
   last_within = are.last_within;
 }
@@ -301,7 +314,7 @@ plain_within :
     (plain_of (world_of (deployed settings (steps ++ s ∷ []))))
 plain_within settings steps s are named is_step room =
     let d = deployed settings steps in
-    let first = seen_keep.first settings are in
+    let first = first_are settings are in
     let longer = length-append steps (s ∷ []) in
     let sound = sound_after (first_deployment settings) (sound_first settings first) steps in
     let next : deployed settings (steps ++ s ∷ []) ≡ after d s = one_more (first_deployment settings) steps s in

@@ -4,7 +4,7 @@ use Rattle.std.specs.Prelude.{◌==◌, Bool, true, false, not, nat_le, nat_lt, 
 use Rattle.std.specs.Map.{keys_of}
 use Rattle.std.specs.List.Sorted.{IsStrictlySortedBy}
 use Rattle.std.specs.BTreeMap.{is_at, insert_entry}
-use Rattle.std.proofs.lemmas.Bool.{eqb-true}
+use Rattle.std.proofs.lemmas.Bool.{eqb-true, leb-true}
 use Rattle.std.proofs.lemmas.List.Elements.{All-nil, All-weaker}
 use Rattle.std.proofs.lemmas.List.{drop-append-le}
 use Rattle.silo_address.specs.Silo.{Silo, silo_cmp, silo_eq}
@@ -18,17 +18,21 @@ use Rattle.directory_rules.specs.Step.{Stepped, silently}
 use Rattle.directory_rules.specs.Input.{Input, Does, Receives, step, sight_of}
 use Rattle.directory_facts.proofs.Entries.{all_put, all_removed, found_so, same_key}
 use Rattle.silo_rules.specs.declared.news.News.TheVariants.{Known}
-use Rattle.silo_rules.specs.Known.{is_known}
-use Rattle.directory_rules.specs.Membership.{Change, Join, Leave, Die, Membership, first_membership, changed, replaced_by, is_seeable}
+use Rattle.silo_rules.specs.Known.{is_before, is_known}
+use Rattle.silo_rules.specs.Begun.{told_view}
+use Rattle.directory_rules.specs.Membership.{Change, Join, Leave, Die, Membership, first_membership, changed, replaced_by, is_seeable, listing_of}
 use Rattle.silo_rules.specs.SiloValue.{SiloValue, first_silo}
 use Rattle.silo_rules.specs.Steps.{barred, unless_barred, seen, sees, does, receives}
 use Rattle.silo_rules.specs.Told.{Heard, heard_by, told}
 use Rattle.silo_rules.proofs.Own.{StaysOwn, stays_own}
 use Rattle.silo_rules.proofs.Whole.{Are, made}
 use Rattle.deployment_headline.specs.Deployment.{Deployment, first_deployment, process_of}
-use Rattle.deployment_headline.specs.Steps.{Step, Decide, Tell, See, Do, Receive, without, processes_after, decided, heard, took, tells, tells_at, does_at, sees_at, delivers, receives_at, after}
+use Rattle.deployment_headline.specs.Steps.{Step, Decide, Tell, Begin, See, Do, Receive, without, processes_after, decided, heard, begins, begins_at, took, tells, tells_at, does_at, sees_at, delivers, receives_at, after}
 use Rattle.deployment_headline.proofs.Lists.{rest_begins}
+use Rattle.deployment_headline.proofs.Mirrors.{Mirrors, mirrors_itself}
+use Rattle.deployment_headline.proofs.MirrorChanges.{goes_on}
 use Rattle.deployment_headline.proofs.Memberships.{Leads, leads_on, one_higher}
+use Rattle.deployment_headline.proofs.Beginnings.{begun_told, later_still}
 use Rattle.deployment_headline.proofs.StepEvents.{IsTold, IsProcess, IsProcessIn}
 
 pub record Sound (d : Deployment) : Type 0 where
@@ -60,33 +64,42 @@ pub record Keeps (d next : Deployment) : Type 0 where
   pub sound : Sound next
 
 -- one change more is decided
-more_told : (settings : Settings) (changes : List Change) (now next own : Membership) (c : Change) → changed settings now c ≡ Ok next
-    → IsTold settings changes now own → IsTold settings (changes ++ c ∷ []) next own
-more_told settings changes now next own c is its =
+more_told : (settings : Settings) (changes : List Change) (now next own : Membership) (silo : Silo) (c : Change)
+    → changed settings now c ≡ Ok next → IsTold settings changes now own silo → IsTold settings (changes ++ c ∷ []) next own silo
+more_told settings changes now next own silo c is its =
     let longer = length-append changes (c ∷ []) in
     let low = its.within in
     record {
       are = its.are;
+      at = its.at;
+      all = its.all;
+      mirrors = its.mirrors;
+      later = its.later;
       within = omega (low, longer, arith);
-      leads = subst (λ l. Leads settings own l next) (sym (drop-append-le own.views.version changes (c ∷ []) its.within))
-          (leads_on settings own now next (drop own.views.version changes) c its.leads is);
+      leads = subst (λ l. Leads settings its.at l next) (sym (drop-append-le own.views.version changes (c ∷ []) its.within))
+          (leads_on settings its.at now next (drop own.views.version changes) c its.leads is);
     }
 
--- a process is told one change more
-told_one : (settings : Settings) (changes : List Change) (now own next : Membership) (c : Change)
-    → slice_get changes own.views.version ≡ Some c → changed settings own c ≡ Ok next → IsTold settings changes now own
-    → IsTold settings changes now next
-told_one settings changes now own next c there is its =
+-- a process is told one change more: it makes what all make of it
+told_one : (settings : Settings) (changes : List Change) (now own next : Membership) (silo : Silo) (c : Change)
+    → slice_get changes own.views.version ≡ Some c → changed settings own c ≡ Ok next → IsTold settings changes now own silo
+    → IsTold settings changes now next silo
+told_one settings changes now own next silo c there is its =
     let rest = rest_begins changes own.views.version c there in
-    let leads : Leads settings own (c ∷ drop (suc own.views.version) changes) now = subst (λ l. Leads settings own l now) rest.0 its.leads in
-    let same : leads.0 ≡ next = cc (leads.1, is) in
+    let leads : Leads settings its.at (c ∷ drop (suc own.views.version) changes) now = subst (λ l. Leads settings its.at l now) rest.0 its.leads in
+    let on = goes_on settings own its.at its.are its.all its.mirrors c leads.0 leads.1 in
+    let same : on.mine ≡ next = cc (on.is, is) in
+    let one = made settings own next its.are c is in
     let higher : suc own.views.version ≡ next.views.version = omega (one_higher settings own next its.are c is, arith) in
     record {
-      are = (made settings own next its.are c is).are;
+      are = one.are;
+      at = leads.0;
+      all = (made settings its.at leads.0 its.all c leads.1).are;
+      mirrors = subst (λ n. Mirrors n leads.0) same on.mirrors;
       within = subst (λ n. n ≤ length changes) higher rest.1;
-      leads =
-          subst (λ n. Leads settings next (drop n changes) now) higher
-          (subst (λ m. Leads settings m (drop (suc own.views.version) changes) now) same leads.2);
+      leads = subst (λ n. Leads settings leads.0 (drop n changes) now) higher leads.2;
+      later = λ row found.
+          later_still settings own next c its.are is silo row found its.later;
     }
 
 -- ---- what steps leave of a silo
@@ -168,31 +181,32 @@ module _ (d : Deployment) (sound : Sound d) where
 
   -- ---- what a process is told
   heard_keeps : (silo : Silo) (s : SiloValue) (r : Result Heard ℕ) → IsProcessIn d silo s
-      → IfOk r (λ its. IsTold d.settings d.changes d.membership its.membership) → Keeps d (heard r d silo s)
+      → IfOk r (λ its. IsTold d.settings d.changes d.membership its.membership silo) → Keeps d (heard r d silo s)
   heard_keeps silo s (Err number) its told_so = same
   heard_keeps silo s (Ok heard) its told_so =
       put silo (record s { membership = heard.membership }) d.written (omega arith)
       (record { told = told_so; set_up = its.set_up; address = its.address })
 
   told_so : (silo : Silo) (s : SiloValue) (index : ℕ) (c : Change) → IsProcessIn d silo s → slice_get d.changes index ≡ Some c
-      → IfOk (told s.node.settings s.membership (index + 1) c) (λ its. IsTold d.settings d.changes d.membership its.membership)
+      → IfOk (told s.node.settings s.membership (index + 1) c) (λ its. IsTold d.settings d.changes d.membership its.membership silo)
   told_so silo s index c its found =
-      by (nat_le (index + 1) s.membership.views.version) (is_known s.membership (index + 1) c) (index + 1 == s.membership.views.version + 1)
-      (changed s.node.settings s.membership c) refl refl
+      by (nat_le (index + 1) s.membership.views.version) (is_before s.membership (index + 1)) (is_known s.membership (index + 1) c)
+      (index + 1 == s.membership.views.version + 1) (changed s.node.settings s.membership c) refl refl
     where
-      by : (old known next : Bool) (made : Result Membership ℕ) → (index + 1 == s.membership.views.version + 1) ≡ next
+      by : (old before known next : Bool) (made : Result Membership ℕ) → (index + 1 == s.membership.views.version + 1) ≡ next
           → changed s.node.settings s.membership c ≡ made
-          → IfOk (if old then (if known then Ok (record { membership = s.membership; news = Known }) else Err 207) else
+          → IfOk (if old then (if before then Err 212 else (if known then Ok (record { membership = s.membership; news = Known }) else Err 207)) else
           (if not next then Err 206 else heard_by made (replaced_by s.membership c)))
-          (λ its. IsTold d.settings d.changes d.membership its.membership)
-      by true true next made at is = its.told
-      by true false next made at is = tt
-      by false known false made at is = tt
-      by false known true (Err number) at is = tt
-      by false known true (Ok m) at is =
+          (λ its. IsTold d.settings d.changes d.membership its.membership silo)
+      by true true known next made at is = tt
+      by true false true next made at is = its.told
+      by true false false next made at is = tt
+      by false before known false made at is = tt
+      by false before known true (Err number) at is = tt
+      by false before known true (Ok m) at is =
           let equal = eqb-true (index + 1) (s.membership.views.version + 1) at in
           let turn : index ≡ s.membership.views.version = omega (equal, arith) in
-          told_one d.settings d.changes d.membership s.membership m c (subst (λ n. slice_get d.changes n ≡ Some c) turn found)
+          told_one d.settings d.changes d.membership s.membership m silo c (subst (λ n. slice_get d.changes n ≡ Some c) turn found)
           (ap (λ (t : Settings). changed t s.membership c) (sym its.set_up) ∙ is) its.told
 
   tells_keeps : (silo : Silo) (s : SiloValue) (index : ℕ) (o : Option Change) → IsProcessIn d silo s → slice_get d.changes index ≡ o
@@ -205,6 +219,35 @@ module _ (d : Deployment) (sound : Sound d) where
   tells_at_keeps silo index None there = same
   tells_at_keeps silo index (Some s) there = tells_keeps silo s index (slice_get d.changes index) (its_process d sound silo s there) refl
 
+  -- ---- what a process begins with
+  begins_keeps : (silo : Silo) (s : SiloValue) (r : Result Membership ℕ) → IsProcessIn d silo s
+      → IfOk r (λ m. IsTold d.settings d.changes d.membership m silo) → Keeps d (begins r d silo s)
+  begins_keeps silo s (Err number) its told_so = same
+  begins_keeps silo s (Ok m) its told_so =
+      put silo (record s { membership = m }) d.written (omega arith)
+      (record { told = told_so; set_up = its.set_up; address = its.address })
+
+  begun_so : (silo : Silo) (s : SiloValue) (version : ℕ) → IsProcessIn d silo s → version ≤ d.membership.views.version
+      → (r : Result Membership ℕ) → told_view s.node.settings s.membership silo version (listing_of d.membership version) ≡ r
+      → IfOk r (λ m. IsTold d.settings d.changes d.membership m silo)
+  begun_so silo s version its upto (Err number) is = tt
+  begun_so silo s version its upto (Ok m) is =
+      begun_told d.settings d.changes d.membership sound.first sound.start s.membership its.told.are silo version upto m
+      (ap (λ t. told_view t s.membership silo version (listing_of d.membership version)) (sym its.set_up) ∙ is)
+
+  begins_at_keeps : (silo : Silo) (version : ℕ) (o : Option SiloValue) → process_of d silo ≡ o → Keeps d (begins_at o d silo version)
+  begins_at_keeps silo version None there = same
+  begins_at_keeps silo version (Some s) there = by (nat_le version d.membership.views.version) refl
+    where
+      by : (b : Bool) → nat_le version d.membership.views.version ≡ b
+          → Keeps d (if b then begins (told_view s.node.settings s.membership silo version (listing_of d.membership version)) d silo s else d)
+      by false at = same
+      by true at =
+          let its = its_process d sound silo s there in
+          begins_keeps silo s (told_view s.node.settings s.membership silo version (listing_of d.membership version)) its
+          (begun_so silo s version its (leb-true version d.membership.views.version at)
+          (told_view s.node.settings s.membership silo version (listing_of d.membership version)) refl)
+
   -- ---- what is decided
   module _ (c : Change) (next : Membership) (is : changed d.settings d.membership c ≡ Ok next) where
     abbrev P : Silo × SiloValue → Type 0
@@ -214,7 +257,7 @@ module _ (d : Deployment) (sound : Sound d) where
     on =
         All-weaker (λ e. IsProcessIn d e.0 e.1) P
         (λ e its. record {
-          told = more_told d.settings d.changes d.membership next e.1.membership c is its.told;
+          told = more_told d.settings d.changes d.membership next e.1.membership e.0 c is its.told;
           set_up = its.set_up;
           address = its.address;
         }) d.processes sound.each
@@ -230,7 +273,19 @@ module _ (d : Deployment) (sound : Sound d) where
     processes_so (Join silo stated) =
         all_put silo_cmp silo_cmp_exact P silo (first_silo d.settings silo) (without (occupant silo d.membership.views.rows) d.processes)
         (without_so (occupant silo d.membership.views.rows))
-        (record { told = record { are = sound.first; within = omega arith; leads = start }; set_up = refl; address = refl })
+        (record {
+          told = record {
+            are = sound.first;
+            at = first_membership d.settings;
+            all = sound.first;
+            mirrors = mirrors_itself (first_membership d.settings);
+            within = omega arith;
+            leads = start;
+            later = λ row found. absurd (cc (found));
+          };
+          set_up = refl;
+          address = refl;
+        })
     processes_so (Leave silo) = on
     processes_so (Die silo) = without_so (Some silo)
 
@@ -257,6 +312,7 @@ module _ (d : Deployment) (sound : Sound d) where
   unfolding after
   keeps (Decide c) = decided_keeps c (changed d.settings d.membership c) refl
   keeps (Tell silo index) = tells_at_keeps silo index (process_of d silo) refl
+  keeps (Begin silo version) = begins_at_keeps silo version (process_of d silo) refl
   keeps (See silo version) = sees_keeps silo version (process_of d silo) refl
   keeps (Do silo step) = does_keeps silo (Does step) (process_of d silo) refl
   keeps (Receive silo index) = receives_keeps silo index (process_of d silo) refl

@@ -1,6 +1,6 @@
 -- Each step of a deployment is an event of its world, or none.
-use Rattle.std.proofs.Common.{◌≡◌, ℕ, ◌+◌, ◌≤◌, ◌<◌, List, length, refl, sym, ap, ◌∙◌, subst, drop, append-nil}
-use Rattle.std.specs.Prelude.{Bool, true, false, cond, not, is_some, nat_lt, slice_get, if◌then◌else◌, Option, Some, None, Result, Ok, Err}
+use Rattle.std.proofs.Common.{arith, ◌≡◌, ◌⊎◌, inl, inr, ℕ, ◌+◌, ◌≤◌, ◌<◌, List, length, refl, sym, ap, ◌∙◌, subst, drop, append-nil}
+use Rattle.std.specs.Prelude.{Bool, true, false, cond, not, is_some, nat_le, nat_lt, slice_get, if◌then◌else◌, Option, Some, None, Result, Ok, Err}
 use Rattle.std.specs.Option.{option_map}
 use Rattle.std.specs.Ordering.{nat_cmp}
 use Rattle.std.specs.Map.{set_value, keys_of}
@@ -11,7 +11,9 @@ use Rattle.silo_address.proofs.Order.{silo_cmp_total}
 use Rattle.silo_address.proofs.Same.{Decides-silo}
 use Rattle.membership_view.specs.declared.status.Status.{Status}
 use Rattle.membership_view.specs.declared.status.Status.TheVariants.{Active, Leaving, Dead}
-use Rattle.membership_view.specs.Views.{ViewsValue, status_at}
+use Rattle.membership_view.specs.declared.row.Row.{Row}
+use Rattle.membership_view.specs.Views.{ViewsValue, row_of, status_at}
+use Rattle.membership_view.proofs.Statuses.{joined_since, there_from}
 use Rattle.membership_view.specs.Changes as change
 use Rattle.hash_ring.specs.Places.{PlacesValue}
 use Rattle.directory_rules.specs.declared.effect.Effect.TheVariants.{Ignored}
@@ -27,26 +29,59 @@ use Rattle.directory_rules.specs.World.{membership_of}
 use Rattle.directory_rules.specs.Members.{is_known_dead}
 use Rattle.directory_rules.specs.Happens as rule
 use Rattle.directory_rules.proofs.Decided.{died}
-use Rattle.directory_rules.specs.Membership.{Change, Join, Leave, Die, Membership, with_views, changed, is_seeable, barred_by}
+use Rattle.directory_rules.specs.Membership.{Change, Join, Leave, Die, Membership, with_views, changed, is_seeable, barred_by, listing_of}
 use Rattle.silo_rules.specs.SiloValue.{SiloValue, first_silo, own_status}
 use Rattle.silo_rules.specs.Steps.{unless_barred, seen, does}
 use Rattle.silo_rules.specs.Told.{Heard, told}
+use Rattle.silo_rules.specs.Begun.{told_view}
 use Rattle.silo_rules.proofs.Whole.{Are}
 use Rattle.deployment_headline.specs.Deployment.{Deployment, process_of}
-use Rattle.deployment_headline.specs.Steps.{Step, Decide, Tell, See, Do, Receive, IsStep, without, decided, heard, took, tells, tells_at, does_at, sees_at, delivers, receives_at, after}
+use Rattle.deployment_headline.specs.Steps.{Step, Decide, Tell, Begin, See, Do, Receive, IsStep, without, decided, heard, begins, begins_at, took, tells, tells_at, does_at, sees_at, delivers, receives_at, after}
 use Rattle.deployment_headline.proofs.Lists.{over, insert-over, remove-over, set_same, put_same}
-use Rattle.deployment_headline.proofs.Memberships.{Leads, leads_to, same_sight, still_seeable}
+use Rattle.deployment_headline.proofs.Mirrors.{Mirrors, ReadsAs}
+use Rattle.deployment_headline.proofs.Memberships.{AgreesFrom, IsStill, Leads, leads_to, mirrors_agree, same_sight, still_known, still_seeable}
 use Rattle.deployment_headline.proofs.Worlds.{its_node, its_letter, make, HasWritten, node_there, letter_there, Moves, stays, goes, steps}
 
--- what a process was told leads to what was decided
-pub record IsTold (settings : Settings) (changes : List Change) (now own : Membership) : Type 0 where
+-- what a process was told mirrors what the first changes made, which leads to what was decided; and its silo joined after the version with
+-- which that begins
+pub record IsTold (settings : Settings) (changes : List Change) (now own : Membership) (silo : Silo) : Type 0 where
   pub are : Are settings own
+  pub at : Membership
+  pub all : Are settings at
+  pub mirrors : Mirrors own at
   pub within : own.views.version ≤ length changes
-  pub leads : Leads settings own (drop own.views.version changes) now
+  pub leads : Leads settings at (drop own.views.version changes) now
+  pub later : (row : Row) → row_of own.views silo ≡ Some row → own.views.first < row.joined
+
+-- so it agrees with all of that from there on
+pub told_agrees : (settings : Settings) (changes : List Change) (now own : Membership) (silo : Silo) → IsTold settings changes now own silo
+    → AgreesFrom own.views.first own now
+told_agrees settings changes now own silo its =
+    mirrors_agree own its.at now its.are.whole its.all.whole its.mirrors
+    (leads_to settings its.at now (drop own.views.version changes) its.all its.leads).0
+
+-- and its silo's row is that of all changes
+own_still : (settings : Settings) (changes : List Change) (now own : Membership) (silo : Silo) → IsTold settings changes now own silo
+    → (row : Row) → row_of own.views silo ≡ Some row → IsStill now.views silo row
+own_still settings changes now own silo its row found =
+    let known = its.mirrors.known silo row found in
+    let still = still_known settings its.at now (drop own.views.version changes) its.all its.leads silo known.0 known.1 in
+    record { its = still.its; found = still.found; joined = still.joined ∙ same known.0 known.2 known.2.later }
+  where
+    after : own.views.first < row.joined
+    after = its.later row found
+
+    same : (other : Row) → ReadsAs own.views.first row other → (other.joined ≤ own.views.first) ⊎ (row ≡ other) → other.joined ≡ row.joined
+    same other reads (inr one) = ap (λ (r : Row). r.joined) (sym one)
+    same other reads (inl early) =
+        let there = subst (λ (o : Option Status). is_some o ≡ true) (sym (reads.statuses own.views.first (omega arith))) (there_from own.views.first other early) in
+        let joined = joined_since own.views.version own.views.first row (its.are.whole.in_time silo row found) there in
+        let late = after in
+        absurd (omega (joined, late, arith))
 
 -- the silo's process was told so, and has its address and the settings
 pub record IsProcess (settings : Settings) (changes : List Change) (now : Membership) (silo : Silo) (s : SiloValue) : Type 0 where
-  pub told : IsTold settings changes now s.membership
+  pub told : IsTold settings changes now s.membership silo
   pub set_up : s.node.settings ≡ settings
   pub address : s.node.host.silo ≡ silo
 
@@ -97,16 +132,17 @@ module _ (d : Deployment) (accepted : ℕ) (mail : List (ℕ × Posted)) (has : 
   saw_so silo named version s (Err number) there its known newer seeable is fits = none
   saw_so silo named version s (Ok stepped) there its known newer seeable is fits =
       let m = s.membership in
-      let to = leads_to d.settings m d.membership (drop m.views.version d.changes) its.told.are its.told.leads in
-      let still = still_seeable d.settings m d.membership silo version its.told.are to.1 to.0
+      let agrees = told_agrees d.settings d.changes d.membership m silo its.told in
+      let still = still_seeable m d.membership silo version its.told.are.whole agrees.version
+      (λ row found. (its.told.later row found, own_still d.settings d.changes d.membership m silo its.told row found))
       (subst (λ t. is_some (status_at m.views m.views.version t) ≡ true) its.address known)
       (subst (λ t. is_seeable m t version ≡ true) its.address seeable) in
-      let sight = sym (same_sight s.node m d.membership version to.0 still.0) ∙ is in
+      let sight = sym (same_sight s.node m.views.first m d.membership version agrees still.0 still.1) ∙ is in
       steps d accepted mail mail (event.See silo version) silo s (happening.Saw silo version stepped.effect) stepped named room fits has
       (ap (λ o. rule.sees_at o w silo version) (has_process silo s there)
       ∙ ap (λ b. cond (not b) (Err 903) (cond (not (is_seeable (membership_of w) silo version)) (Err 904)
       (rule.seen_by (step s.node (sight_of (membership_of w) version)) w silo version))) newer
-      ∙ ap (λ b. cond (not b) (Err 904) (rule.seen_by (step s.node (sight_of (membership_of w) version)) w silo version)) still.1
+      ∙ ap (λ b. cond (not b) (Err 904) (rule.seen_by (step s.node (sight_of (membership_of w) version)) w silo version)) still.2
       ∙ ap (λ r. rule.seen_by r w silo version) sight)
 
   abbrev seen_to : (silo : Silo) (version : ℕ) (s : SiloValue) (newer seeable : Bool) → Deployment
@@ -165,6 +201,22 @@ module _ (d : Deployment) (accepted : ℕ) (mail : List (ℕ × Posted)) (has : 
     heard_so silo s (Ok its) there =
         stays d _ accepted mail has (ap (λ nodes. record w { nodes = nodes })
         (sym (put_so silo s (record s { membership = its.membership }) there refl))) refl
+
+    begins_so : (silo : Silo) (s : SiloValue) (r : Result Membership ℕ) → process_of d silo ≡ Some s → Moves d (begins r d silo s) accepted mail
+    begins_so silo s (Err number) there = none
+    begins_so silo s (Ok m) there =
+        stays d _ accepted mail has (ap (λ nodes. record w { nodes = nodes })
+        (sym (put_so silo s (record s { membership = m }) there refl))) refl
+
+    begins_at_so : (silo : Silo) (version : ℕ) (o : Option SiloValue) → process_of d silo ≡ o
+        → Moves d (begins_at o d silo version) accepted mail
+    begins_at_so silo version None there = none
+    begins_at_so silo version (Some s) there = by (nat_le version d.membership.views.version)
+      where
+        by : (b : Bool)
+            → Moves d (if b then begins (told_view s.node.settings s.membership silo version (listing_of d.membership version)) d silo s else d) accepted mail
+        by false = none
+        by true = begins_so silo s (told_view s.node.settings s.membership silo version (listing_of d.membership version)) there
 
     tells_so : (silo : Silo) (s : SiloValue) (index : ℕ) (o : Option Change) → process_of d silo ≡ Some s
         → Moves d (tells o d silo s index) accepted mail
@@ -284,6 +336,7 @@ module _ (d : Deployment) (accepted : ℕ) (mail : List (ℕ × Posted)) (has : 
   unfolding after
   moves sorted its (Decide c) named fits = decides_so c named
   moves sorted its (Tell silo index) named fits = tells_at_so sorted silo index (process_of d silo) refl
+  moves sorted its (Begin silo version) named fits = begins_at_so sorted silo version (process_of d silo) refl
   moves sorted its (See silo version) named fits = sees_so silo named version (process_of d silo) refl (its silo) fits
   moves sorted its (Do silo step) named fits = does_so (event.Do silo step) named silo (Does step) (process_of d silo) refl refl fits
   moves sorted its (Receive silo index) named fits = receives_so sorted silo index (process_of d silo) refl (its silo) fits

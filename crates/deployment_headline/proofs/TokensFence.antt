@@ -8,7 +8,8 @@ use Rattle.std.proofs.lemmas.List.Elements.{All-cons, All-head, All-tail, All-ap
 use Rattle.silo_address.specs.Silo.{Silo, silo_cmp}
 use Rattle.silo_address.specs.Grain.{Grain}
 use Rattle.silo_address.specs.declared.ActivationId.{ActivationId}
-use Rattle.membership_view.specs.Views.{view_at, status_at}
+use Rattle.membership_view.specs.View.{status_of}
+use Rattle.membership_view.specs.Views.{view_at}
 use Rattle.directory_rules.specs.Members.{is_dead_in}
 use Rattle.directory_rules.specs.Settings.{Settings, AreSettings}
 use Rattle.directory_rules.specs.State.{Node, World, Posted, Accepted}
@@ -17,13 +18,14 @@ use Rattle.directory_rules.specs.Happens.{node_of, happens}
 use Rattle.directory_rules.specs.Laws.{ArePeopled}
 use Rattle.directory_rules.specs.PlainMachine.{Life, Plain, PlainStep, Nothing_changes, IsPlainStep, plain_of, plain_step_of}
 use Rattle.directory_rules.specs.Run.{run, world_after}
+use Rattle.directory_rules.proofs.People.{live_said}
 use Rattle.directory_rules.proofs.Peopled.{peopled_after}
-use Rattle.directory_facts.proofs.SeenRings.{seen_keep}
 use Rattle.directory_headline.proofs.FactsHold.{facts_hold}
 use Rattle.directory_headline.proofs.Runs as rule
 use Rattle.directory_headline.proofs.Runs.{world_by}
 use Rattle.directory_headline.proofs.Statuses.{dead_not_live}
 use Rattle.directory_headline.proofs.Theorems.{plain_after}
+use Rattle.silo_rules.proofs.Whole.{first_are}
 use Rattle.deployment_headline.specs.Deployment.{Deployment, first_deployment}
 use Rattle.deployment_headline.specs.Limits.{with_room, node_with_room, process_with_room, deployment_with_room}
 use Rattle.deployment_headline.specs.Steps.{Step, IsStep, after, after_all, deployed}
@@ -51,7 +53,9 @@ no_node (Some node) is = absurd (cc is)
 dead_has_none : (world : World) → ArePeopled world.views world.nodes → (silo : Silo)
     → is_dead_in (view_at world.views world.views.version) silo ≡ true → node_of world silo ≡ None
 dead_has_none world peopled silo dead =
-    no_node (node_of world silo) (peopled.live silo ∙ dead_not_live (status_at world.views world.views.version silo) dead)
+    no_node (node_of world silo)
+    (peopled.live silo ∙ sym (live_said world.views peopled.whole world.views.version (omega arith) silo)
+    ∙ dead_not_live (status_of (view_at world.views world.views.version) silo) dead)
 
 events_move : (settings : Settings) → AreSettings settings → Moves Event (All IsEvent) (world_by settings)
 events_move settings are = record {
@@ -139,10 +143,10 @@ module _ (settings : Settings) (are : AreSettings settings) (most letters : ℕ)
   same steps = deployed_same most letters settings steps
 
   sound : (steps : List Step) → Sound (R steps)
-  sound steps = sound_after (first_deployment roomy) (sound_first roomy (seen_keep.first roomy roomy_are)) steps
+  sound steps = sound_after (first_deployment roomy) (sound_first roomy (first_are roomy roomy_are)) steps
 
   its_settings : (steps : List Step) → (R steps).settings ≡ roomy
-  its_settings steps = settings_stay (first_deployment roomy) (sound_first roomy (seen_keep.first roomy roomy_are)) steps
+  its_settings steps = settings_stay (first_deployment roomy) (sound_first roomy (first_are roomy roomy_are)) steps
 
   held_there : (steps : List Step) (count : ℕ) (mail : List (ℕ × Posted)) (grain : Grain) (a : ActivationId) (life : Life) (seen : ℕ)
       → IsHeld (world_of (D steps)) grain a life seen
@@ -165,7 +169,7 @@ module _ (settings : Settings) (are : AreSettings settings) (most letters : ℕ)
       → Makes (first_deployment roomy) (R steps) 0 (length steps) []
   unfolding roomy
   start steps all room space =
-      makes (first_deployment roomy) (sound_first roomy (seen_keep.first roomy roomy_are)) 0 [] refl steps all (omega (room, arith)) space
+      makes (first_deployment roomy) (sound_first roomy (first_are roomy roomy_are)) 0 [] refl steps all (omega (room, arith)) space
 
   grown : (xs ys : List Step) → length (R xs).written ≤ length (R (xs ++ ys)).written
   grown xs ys = subst (λ (d : Deployment). length (R xs).written ≤ length d.written) (append xs ys) (written_grow (R xs) (sound xs) ys)

@@ -198,7 +198,7 @@ module _ (m : Setting) (g : Grain) (a : ActivationId) (u : ℕ) where
           | inr dead ↦ inr (subst (λ n. u ≤ n) may.same_version (dead_later (suc snapshot.sealed_at) dead))
         ]
 
-    early_recover : (w : World) (x : Settling) (told : Silo → Report) → MayRecover m w x told → Kept m w → EarlyOf m g a u w
+    early_recover : (w : World) (x : Settling) (told : Silo → Grain → Report) → MayRecover m w x told → Kept m w → EarlyOf m g a u w
         → Since (after m w (Recover x told))
     early_recover w x told may k e = early_settling w x (recover_below m w x told may k.placed) has k e
       where
@@ -207,15 +207,15 @@ module _ (m : Setting) (g : Grain) (a : ActivationId) (u : ℕ) where
         entry_is t b is =
             let member = may.from_member g b t is in
             let below : w.level (m.hash g) < w.seen x.silo = recover_below m w x told may k.placed (m.hash g) t in
-            let version : (told b.silo).version ≡ w.seen x.silo = may.same_version b.silo member in
-            let right : w.authority g ≡ Some (activation_on (told b.silo).sender b.count) = k.backed.reported.right (told b.silo) g b.count (may.sent b.silo member) (omega arith) (may.from_report g b t is) in
-            is ∙ sym (right ∙ ap (λ s. Some (activation_on s b.count)) (may.own_report b.silo member)) ∙ e.entered
+            let version : (told b.silo g).version ≡ w.seen x.silo = may.same_version b.silo g member in
+            let right : w.authority g ≡ Some (activation_on (told b.silo g).sender b.count) = k.backed.reported.right (told b.silo g) g b.count (may.sent b.silo g member) (omega arith) (may.from_report g b t is) in
+            is ∙ sym (right ∙ ap (λ s. Some (activation_on s b.count)) (may.own_report b.silo g member)) ∙ e.entered
 
         by_member : x.part (m.hash g) ≡ true → m.member (w.seen x.silo) a.silo ≡ true → (x.entries g ≡ Some a) ⊎ (u ≤ w.seen x.silo)
         by_member t member =
             let below : w.level (m.hash g) < w.seen x.silo = recover_below m w x told may k.placed (m.hash g) t in
-            let version : (told a.silo).version ≡ w.seen x.silo = may.same_version a.silo member in
-            elim (e.told (told a.silo) (may.sent a.silo member) (may.own_report a.silo member) (omega arith)) [
+            let version : (told a.silo g).version ≡ w.seen x.silo = may.same_version a.silo g member in
+            elim (e.told (told a.silo g) (may.sent a.silo g member) (may.own_report a.silo g member) (omega arith)) [
               | inl names ↦ (let its = may.complete g a.silo a.count t member names in inl (entry_is t its.0 its.1))
               | inr low ↦ inr (subst (λ n. u ≤ n) version low)
             ]

@@ -29,6 +29,7 @@ use Rattle.directory_rules.specs.Happens.{node_of, happens}
 use Rattle.directory_rules.specs.Run.{run}
 use Rattle.directory_rules.specs.Laws.{is_live}
 use Rattle.directory_rules.specs.PlainMachine.{Is_firm, life_by, life_of}
+use Rattle.directory_rules.proofs.People.{live_said}
 use Rattle.directory_headline.specs.Setting.{IsSettingOf}
 use Rattle.directory_headline.specs.Shown.{Shown, held_in, held_as}
 use Rattle.directory_headline.proofs.Facts.{WorldFacts}
@@ -76,7 +77,8 @@ module _ (m : Setting) (f : World) (setting : IsSettingOf m f) (facts : WorldFac
   -- and its silo a member of the current view
   member_now : m.member w.now a.silo ≡ true
   member_now =
-      ap (λ v. m.member v a.silo) shown.now ∙ setting.member f.views.version a.silo (omega arith) ∙ live_now m f w a.silo firm.node here
+      ap (λ v. m.member v a.silo) shown.now ∙ setting.member f.views.version a.silo (omega arith)
+      ∙ live_said f.views facts.peopled.whole f.views.version (omega arith) a.silo ∙ live_now m f w a.silo firm.node here
 
 kept_of : (m : Setting) (w : protocol.World) → IsReached m w → Kept m w
 kept_of m w reached = holds_where_reached Kept kept_reached m w reached
@@ -181,7 +183,8 @@ module _ (settings : Settings) (are : AreSettings settings) (m : Setting) where
             dies = elim (bool_cases (m.alive (suc w.now) silo)) [
               | inl live ↦
                   absurd (true≢false (sym (m.member_until_death w.now (suc w.now) silo (omega arith) member live)
-                  ∙ ap (λ v. m.member v silo) next.now ∙ is.member later.views.version silo (omega arith) ∙ dead))
+                  ∙ ap (λ v. m.member v silo) next.now ∙ is.member later.views.version silo (omega arith)
+                  ∙ live_said later.views then.peopled.whole later.views.version (omega arith) silo ∙ dead))
               | inr gone ↦ gone
             ];
           }

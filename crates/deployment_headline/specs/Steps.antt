@@ -1,5 +1,5 @@
 -- What may happen to a deployment, one step after the other. A step that may not be taken changes nothing.
-use Rattle.std.specs.Prelude.{⊤, ℕ, ◌+◌, ◌<◌, List, [], ◌∷◌, ◌++◌, All, Option, Some, None, Result, Ok, Err}
+use Rattle.std.specs.Prelude.{⊤, ℕ, ◌+◌, ◌<◌, nat_le, if◌then◌else◌, List, [], ◌∷◌, ◌++◌, All, Option, Some, None, Result, Ok, Err}
 use Rattle.std.specs.List.{slice_get}
 use Rattle.std.specs.Map.{remove_entry}
 use Rattle.std.specs.BTreeMap.{is_at, insert_entry}
@@ -12,10 +12,11 @@ use Rattle.directory_rules.specs.Step.{Stepped}
 use Rattle.directory_rules.specs.declared.own_step.OwnStep.{OwnStep}
 use Rattle.directory_rules.specs.OwnStep.{IsOwnStep}
 use Rattle.directory_rules.specs.Input.{Input, Does}
-use Rattle.directory_rules.specs.Membership.{Change, Join, Leave, Die, Membership, changed}
+use Rattle.directory_rules.specs.Membership.{Change, Join, Leave, Die, Membership, changed, listing_of}
 use Rattle.silo_rules.specs.SiloValue.{SiloValue, first_silo}
 use Rattle.silo_rules.specs.Steps.{does, sees, receives}
 use Rattle.silo_rules.specs.Told.{Heard, told}
+use Rattle.silo_rules.specs.Begun.{told_view}
 use Rattle.deployment_headline.specs.Deployment.{Deployment, first_deployment, process_of}
 
 -- a step
@@ -24,6 +25,8 @@ pub data Step : Type 0 where
   Decide : Change → Step
   -- a process is told the change that was decided after so many others: in its turn, again, or too early
   Tell : Silo → (index : ℕ) → Step
+  -- it is told the view of a version that was decided, in place of all changes up to it: before anything else, or in vain
+  Begin : Silo → (version : ℕ) → Step
   -- it sees a version
   See : Silo → (version : ℕ) → Step
   -- it does what its own application asks for
@@ -42,6 +45,7 @@ IsChange (Die silo) = IsSilo silo
 abbrev pub IsStep : Step → Type 0
 IsStep (Decide change) = IsChange change
 IsStep (Tell silo index) = ⊤
+IsStep (Begin silo version) = ⊤
 IsStep (See silo version) = IsSilo silo
 IsStep (Do silo step) = IsSilo silo × IsOwnStep step
 IsStep (Receive silo index) = ⊤
@@ -73,6 +77,11 @@ abbrev pub heard : Result Heard ℕ → Deployment → Silo → SiloValue → De
 heard (Err number) d silo s = d
 heard (Ok its) d silo s = record d { processes = insert_entry silo_cmp d.processes silo (record s { membership = its.membership }) }
 
+-- by what it begins with, or its refusal
+abbrev pub begins : Result Membership ℕ → Deployment → Silo → SiloValue → Deployment
+begins (Err number) d silo s = d
+begins (Ok m) d silo s = record d { processes = insert_entry silo_cmp d.processes silo (record s { membership = m }) }
+
 -- by a silo's step, or its refusal: its process goes on so, and its letters are written
 abbrev pub took : Result Stepped ℕ → Deployment → Silo → SiloValue → Deployment
 took (Err number) d silo s = d
@@ -96,6 +105,13 @@ abbrev pub tells_at : Option SiloValue → Deployment → Silo → (index : ℕ)
 tells_at None d silo index = d
 tells_at (Some s) d silo index = tells (slice_get d.changes index) d silo s index
 
+-- the view of the version is told as the changes decided made it
+abbrev pub begins_at : Option SiloValue → Deployment → Silo → (version : ℕ) → Deployment
+begins_at None d silo version = d
+begins_at (Some s) d silo version =
+    if nat_le version d.membership.views.version
+    then begins (told_view s.node.settings s.membership silo version (listing_of d.membership version)) d silo s else d
+
 abbrev pub sees_at : Option SiloValue → Deployment → Silo → (version : ℕ) → Deployment
 sees_at None d silo version = d
 sees_at (Some s) d silo version = took (sees s version) d silo s
@@ -116,6 +132,7 @@ comes d silo input = does_at (process_of d silo) d silo input
 unfoldable pub after : Deployment → Step → Deployment
 after d (Decide change) = decided (changed d.settings d.membership change) d change
 after d (Tell silo index) = tells_at (process_of d silo) d silo index
+after d (Begin silo version) = begins_at (process_of d silo) d silo version
 after d (See silo version) = sees_at (process_of d silo) d silo version
 after d (Do silo step) = comes d silo (Does step)
 after d (Receive silo index) = receives_at (process_of d silo) d silo index

@@ -1,8 +1,8 @@
 -- What holds of a deployment after any steps: what it has, some events of the rule make too, so the headline holds of it.
-use Rattle.std.specs.Prelude.{◌≡◌, ℕ, ◌+◌, ◌≤◌, List, [], All, Some, Ok, slice_get, map}
+use Rattle.std.specs.Prelude.{◌≡◌, ℕ, ◌+◌, ◌<◌, ◌≤◌, List, [], All, Some, Ok, slice_get, map}
 use Rattle.silo_address.specs.Silo.{Silo}
 use Rattle.silo_address.specs.Grain.{Grain}
-use Rattle.membership_view.specs.Views.{view_at}
+use Rattle.membership_view.specs.Views.{most_known, view_at}
 use Rattle.directory_rules.specs.declared.held.Held.{Held}
 use Rattle.directory_rules.specs.declared.held.Phase.TheVariants.{Firm}
 use Rattle.directory_rules.specs.Host.{held_of}
@@ -13,9 +13,10 @@ use Rattle.directory_rules.specs.Run.{run_from_start}
 use Rattle.directory_rules.specs.Headline.{Headline}
 use Rattle.directory_rules.specs.PlainMachine.{PlainStep, IsPlainStep, plain_of}
 use Rattle.directory_facts.specs.Own.{IsOwnLetter}
-use Rattle.directory_rules.specs.Membership.{Change}
+use Rattle.directory_rules.specs.Membership.{Change, Membership, joined_in, listing_of}
 use Rattle.silo_rules.specs.SiloValue.{SiloValue}
 use Rattle.silo_rules.specs.Told.{Heard, told}
+use Rattle.silo_rules.specs.Begun.{told_view}
 use Rattle.deployment_headline.specs.Deployment.{Deployment, process_of}
 use Rattle.deployment_headline.specs.Limits.{with_room, deployment_with_room}
 use Rattle.deployment_headline.specs.Steps.{Step, IsStep, after, deployed}
@@ -70,12 +71,19 @@ pub record IsOwn (d : Deployment) (silo : Silo) (s : SiloValue) : Type 0 where
   pub set_up : s.node.settings ≡ d.settings
   pub address : s.node.host.silo ≡ silo
 
--- what a process was told is how the changes decided begin: it has their views, and it refuses no next change
+-- what a process was told is how the changes decided go on from the version with which it begins: from there on it has their views, and it
+-- refuses no next change
 pub record IsBehind (d : Deployment) (s : SiloValue) : Type 0 where
+  pub first : s.membership.views.first ≤ s.membership.views.version
   pub version : s.membership.views.version ≤ d.membership.views.version
-  pub views : (k : ℕ) → k ≤ s.membership.views.version → view_at s.membership.views k ≡ view_at d.membership.views k
+  pub views : (k : ℕ) → s.membership.views.first ≤ k → k ≤ s.membership.views.version → view_at s.membership.views k ≡ view_at d.membership.views k
   pub next : (change : Change) → slice_get d.changes s.membership.views.version ≡ Some change
       → (its : Heard) × (told s.node.settings s.membership (s.membership.views.version + 1) change ≡ Ok its)
+
+-- a process that was told nothing may be told the view of each version that was decided before its silo's join
+pub record MayBegin (d : Deployment) (silo : Silo) (s : SiloValue) : Type 0 where
+  pub begins : (version : ℕ) → s.membership.views.version ≡ 0 → version < most_known → version < joined_in d.membership silo
+      → (m : Membership) × (told_view s.node.settings s.membership silo version (listing_of d.membership version) ≡ Ok m)
 
 -- what holds of each process, under its silo's address
 abbrev pub EachProcess : (Silo → SiloValue → Type 0) → Deployment → Type 0
@@ -86,6 +94,9 @@ ProcessesAreOwn = AfterAnySteps (λ d. EachProcess (λ silo s. IsOwn d silo s) d
 
 abbrev pub ProcessesAreBehind : Type 0
 ProcessesAreBehind = AfterAnySteps (λ d. EachProcess (λ silo s. IsBehind d s) d)
+
+abbrev pub ProcessesMayBegin : Type 0
+ProcessesMayBegin = AfterAnySteps (λ d. EachProcess (λ silo s. MayBegin d silo s) d)
 
 -- the deployment as a world in which nothing is on its way
 abbrev pub world_of : Deployment → World

@@ -2,6 +2,7 @@
 -- version is skipped.
 use Rattle.std.specs.Prelude.{◌≡◌, ℕ, List, [], ◌∷◌, ◌++◌, length, map}
 use Rattle.hash_ring.specs.declared.Hashing.TheVariants.{Stated}
+use Rattle.membership_view.specs.Worked.{silo_a_again}
 use Rattle.directory_rules.specs.declared.held.Phase.{Phase}
 use Rattle.directory_rules.specs.declared.held.Phase.TheVariants.{Firm, Closing}
 use Rattle.directory_rules.specs.declared.piece_state.PieceState.{PieceState}
@@ -12,7 +13,7 @@ use Rattle.directory_rules.specs.Worked.{silo_a, silo_b, silo_c, grain_a}
 use Rattle.directory_rules.specs.Membership.{Join, Leave, Die}
 use Rattle.silo_rules.specs.SiloValue.{SiloValue}
 use Rattle.deployment_headline.specs.Deployment.{Deployment}
-use Rattle.deployment_headline.specs.Steps.{Step, Decide, Tell, See, Do, Receive, deployed}
+use Rattle.deployment_headline.specs.Steps.{Step, Decide, Tell, Begin, See, Do, Receive, deployed}
 
 -- hashes are as the grains state them: that of the grain is 7
 abbrev pub worked_settings : Settings
@@ -57,6 +58,13 @@ recovered = Receive silo_b 10 ∷ Receive silo_b 11 ∷ []
 abbrev pub skipping : List Step
 skipping = Decide (Join silo_c (9 ∷ [])) ∷ Decide (Leave silo_c) ∷ Tell silo_b 3 ∷ Tell silo_b 4 ∷ See silo_b 5 ∷ []
 
+-- a fourth silo, at the first one's endpoint, begins with the view before its join, in which the first silo is Dead: it is told nothing of what
+-- was before; it can't begin once more, nor with the view in which it is. It awaits the second one's entries of what it owns
+abbrev pub beginning : List Step
+beginning =
+    Decide (Join silo_a_again (0 ∷ [])) ∷ Begin silo_a_again 6 ∷ Begin silo_a_again 5 ∷ Begin silo_a_again 5 ∷ Tell silo_a_again 4 ∷ Tell silo_a_again 5
+    ∷ See silo_a_again 5 ∷ See silo_a_again 6 ∷ []
+
 -- what is told after each of these
 pub record WorkedDeployment : Type 0 where
   pub opened : all_told (deployed worked_settings opening) ≡ (1, 1, Firm ∷ [], (Settled, 1) ∷ []) ∷ []
@@ -66,3 +74,4 @@ pub record WorkedDeployment : Type 0 where
   pub recovers : all_told (deployed worked_settings (opening ++ joining ++ handing ++ migrating ++ recovering)) ≡ (3, 3, Firm ∷ [], (Recovering, 0) ∷ (Settled, 1) ∷ []) ∷ []
   pub again_whole : all_told (deployed worked_settings (opening ++ joining ++ handing ++ migrating ++ recovering ++ recovered)) ≡ (3, 3, Firm ∷ [], (Settled, 0) ∷ (Settled, 1) ∷ []) ∷ []
   pub skipped : all_told (deployed worked_settings (opening ++ joining ++ handing ++ migrating ++ recovering ++ recovered ++ skipping)) ≡ (5, 5, Firm ∷ [], (Settled, 1) ∷ []) ∷ (0, 0, [], []) ∷ []
+  pub begun : all_told (deployed worked_settings (opening ++ joining ++ handing ++ migrating ++ recovering ++ recovered ++ skipping ++ beginning)) ≡ (6, 6, [], (Awaiting silo_b, 0) ∷ []) ∷ (5, 5, Firm ∷ [], (Settled, 1) ∷ []) ∷ (0, 0, [], []) ∷ []

@@ -8,11 +8,12 @@ use Rattle.directory_rules.specs.Host.{held_of, is_firm}
 use Rattle.directory_rules.specs.State.{Letter, Reply_letter}
 use Rattle.directory_rules.specs.declared.own_step.OwnStep.TheVariants.{Wake}
 use Rattle.directory_rules.specs.Worked.{silo_a, silo_b, grain_a}
-use Rattle.directory_rules.specs.Membership.{Change, Join, Die}
+use Rattle.directory_rules.specs.Membership.{Change, Join, Die, Listed}
 use Rattle.silo_rules.specs.SiloValue.{SiloValue}
 use Rattle.silo_rules.specs.Told.{told}
+use Rattle.silo_rules.specs.Begun.{told_view}
 use Rattle.deployment_headline.specs.Deployment.{Deployment, process_of}
-use Rattle.deployment_headline.specs.Steps.{Decide, Tell, See, Do, Receive, delivers, heard, after, after_all, deployed}
+use Rattle.deployment_headline.specs.Steps.{Decide, Tell, See, Do, Receive, delivers, heard, begins, after, after_all, deployed}
 use Rattle.deployment_headline.specs.Worked.{worked_settings, opening, joining, handing}
 
 -- whether the silo has the grain firm
@@ -38,6 +39,11 @@ dies_in_vain d silo = record (after d (Decide (Die silo))) { processes = d.proce
 abbrev pub told_otherwise : Option SiloValue → Deployment → Silo → (version : ℕ) → Change → Deployment
 told_otherwise None d silo version change = d
 told_otherwise (Some s) d silo version change = heard (told s.node.settings s.membership version change) d silo s
+
+-- a silo's process begins with a view that no changes decided made
+abbrev pub begins_otherwise : Option SiloValue → Deployment → Silo → (version : ℕ) → List Listed → Deployment
+begins_otherwise None d silo version rows = d
+begins_otherwise (Some s) d silo version rows = begins (told_view s.node.settings s.membership silo version rows) d silo s
 
 -- What they break.
 
@@ -75,4 +81,14 @@ TwoSequencesAreTold =
     (told_otherwise (process_of (deployed worked_settings (opening ++ Decide (Join silo_b (5 ∷ [])) ∷ [])) silo_b)
     (deployed worked_settings (opening ++ Decide (Join silo_b (5 ∷ [])) ∷ [])) silo_b 1 (Join silo_b (5 ∷ [])))
     (See silo_b 1 ∷ Receive silo_b 4 ∷ Receive silo_b 5 ∷ Do silo_b (Wake grain_a) ∷ Receive silo_b 6 ∷ Receive silo_b 7 ∷ []))
+    ≡ silo_a ∷ silo_b ∷ []
+
+-- the second silo begins with a view in which nobody is: once it has joined it finds itself alone, and owns the grain's hash
+abbrev pub AnotherViewIsTold : Type 0
+AnotherViewIsTold =
+    firm_at grain_a
+    (after_all
+    (begins_otherwise (process_of (deployed worked_settings (opening ++ Decide (Join silo_b (5 ∷ [])) ∷ [])) silo_b)
+    (deployed worked_settings (opening ++ Decide (Join silo_b (5 ∷ [])) ∷ [])) silo_b 1 [])
+    (Tell silo_b 1 ∷ See silo_b 2 ∷ Receive silo_b 4 ∷ Receive silo_b 5 ∷ Do silo_b (Wake grain_a) ∷ Receive silo_b 6 ∷ Receive silo_b 7 ∷ []))
     ≡ silo_a ∷ silo_b ∷ []

@@ -1,7 +1,7 @@
 //! The laws. All but the last five hold after any steps of a deployment, from its first moment on: letters that come late, again, in
 //! another order, astray, or never.
 ghost use Rattle.deployment_headline.specs.Calls.{CallsAreSteps};
-ghost use Rattle.deployment_headline.specs.Theorems.{DeploymentsAreRuns, LimitsDoNotMatter, ProcessesAreBehind, ProcessesAreOwn, ProcessesKeepOneFirm, ProcessesKeepTheHeadline, StepsArePlain, WrittenAreOwn};
+ghost use Rattle.deployment_headline.specs.Theorems.{DeploymentsAreRuns, LimitsDoNotMatter, ProcessesAreBehind, ProcessesAreOwn, ProcessesMayBegin, ProcessesKeepOneFirm, ProcessesKeepTheHeadline, StepsArePlain, WrittenAreOwn};
 ghost use Rattle.deployment_headline.specs.Tokens.{TokensOfEventsFence, TokensOfProcessesFence};
 ghost use Rattle.deployment_headline.specs.Worked.{WorkedDeployment};
 ghost use Rattle.deployment_headline.specs.WorkedTokens.{WorkedTokens};
@@ -26,9 +26,14 @@ pub fn steps_are_plain()
     ensures { StepsArePlain }
 {}
 
-/// What a process was told is how the changes decided begin; it never refuses the next one.
+/// What a process was told is how the changes decided go on from the version with which it begins; it never refuses the next one.
 pub fn processes_are_behind()
     ensures { ProcessesAreBehind }
+{}
+
+/// A process that was told nothing may begin with the view of each version that was decided before its silo's join.
+pub fn processes_may_begin()
+    ensures { ProcessesMayBegin }
 {}
 
 /// Each process is its silo's, by the deployment's settings.

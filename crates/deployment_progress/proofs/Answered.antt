@@ -1,29 +1,29 @@
 -- A query and an ask are answered by one letter whenever they come, and the answer counts whenever it comes back.
 use Rattle.std.proofs.Common.{arith, ◌≡◌, ℕ, ◌+◌, ◌<◌, ◌≤◌, List, [], ◌∷◌, ◌++◌, length, refl, sym, ap, ◌∙◌, subst, ◌⊎◌, inl, inr}
-use Rattle.std.specs.Prelude.{Bool, true, cond, ◌==◌, ◌&&◌, nat_lt, slice_get, find, All, Contains, Option, Some, None, Ok}
+use Rattle.std.specs.Prelude.{Bool, true, cond, ◌==◌, ◌&&◌, nat_lt, slice_get, find, All, Option, Some, None, Ok}
 use Rattle.std.proofs.lemmas.Bool.{eqb-true, eqb-false, ltb-true}
 use Rattle.std.proofs.lemmas.List.Elements.{All-head, All-tail}
 use Rattle.texts.proofs.Decided.{both}
 use Rattle.silo_address.specs.Silo.{Silo, silo_eq}
+use Rattle.silo_address.specs.Grain.{Grain}
 use Rattle.membership_view.specs.Views.{ViewsValue}
 use Rattle.ring_range.specs.Range.{Range, range_eq}
 use Rattle.ring_range.proofs.Same.{Decides-range}
-use Rattle.directory_rules.specs.declared.effect.Effect.TheVariants as effect
-use Rattle.directory_rules.specs.State.{Gathering, Letter, Body, Report_letter, Page_letter, Missing_letter, Node, Report, Snapshot}
+use Rattle.hash_ring.specs.Hash.{hash_grain}
+use Rattle.directory_rules.specs.State.{Gathering, Letter, Body, Report_letter, Page_letter, Missing_letter, Node, Snapshot}
 use Rattle.directory_rules.specs.Happens.{node_of}
 use Rattle.directory_rules.specs.Input.{Receives}
 use Rattle.directory_rules.specs.Receive.{received, received_body}
-use Rattle.directory_rules.specs.Recovery.{Recovered, Awaits_more, Has_union, Rejects, recovered}
+use Rattle.directory_rules.specs.Recovery.{told_by}
 use Rattle.directory_rules.specs.Sent.{gathering_of, recovery_of}
 use Rattle.directory_rules.specs.Snapshot.{Hands_page, Has_none, Is_behind, is_snapshot, page_count, page_of, page_from}
-use Rattle.directory_rules.specs.Step.{Stepped, silently}
-use Rattle.directory_rules.specs.Transfer.{answer_to, asked_by, report_of, is_report_awaited, recovered_by}
+use Rattle.directory_rules.specs.Step.{Stepped}
+use Rattle.directory_rules.specs.Transfer.{answer_to, asked_by, report_of}
 use Rattle.directory_rules.proofs.Cases.{on_bool}
-use Rattle.progress_rules.specs.Waits.{Awaits}
+use Rattle.progress_rules.specs.Waits.{Awaits, IsFurther}
 use Rattle.progress_rules.specs.Gathers.{AwaitsFrom}
 use Rattle.progress_rules.specs.Covered.{IsQueryFor, IsReportFor}
 use Rattle.progress_rules.specs.Pages.{IsAskFor, IsPageFor, IsMissingFor}
-use Rattle.progress_rules.proofs.Asked.{asked}
 use Rattle.progress_rules.proofs.Covered.{answers_query, takes_report}
 use Rattle.progress_rules.proofs.TakesPage.{after_missing}
 use Rattle.progress_rules.proofs.Transfers.{takes_page}
@@ -33,9 +33,9 @@ use Rattle.deployment_headline.specs.Limits.{node_with_room}
 use Rattle.deployment_headline.specs.Steps.{Receive, after}
 use Rattle.deployment_headline.proofs.Limits.{stepped_with_room, steps_same}
 use Rattle.deployment_progress.proofs.States.{GoesOn}
-use Rattle.deployment_progress.proofs.Rest.{node_at, process_with, IsAtRest}
+use Rattle.deployment_progress.proofs.Rest.{node_at, process_with, IsAtRest, its_settings}
 use Rattle.deployment_progress.proofs.Quiet.{letter_comes}
-use Rattle.deployment_progress.proofs.Later.{w, in_world, its_pieces, its_recoveries, its_version, its_settings_are, its_silo, stepped_on, got_end}
+use Rattle.deployment_progress.proofs.Later.{w, in_world, its_recoveries, its_version, its_settings_are, its_silo, stepped_on, got_end}
 
 -- ---- an ask at a shelf
 found_test : (P : Snapshot → Type 0) (test : Snapshot → Bool) (shelf : List Snapshot) (x : Snapshot) → All P shelf
@@ -105,20 +105,6 @@ module _ (node : Node) (letter : Letter) (pages version : ℕ) (owner : Silo) (r
       letter range node)) (sym (not_lower node.view.version letter.version (seen ∙ sym is.version_is)))
       (by_snapshot (find (is_snapshot letter.version range letter.from) node.shelf) refl))
 
--- ---- a report that comes sends nothing
-report_sends_nothing : (node : Node) (letter : Letter) (report : Report) → letter.body ≡ Report_letter report
-    → (received node letter).letters ≡ []
-report_sends_nothing node letter report body =
-    subst (λ (b : Body). (received_body b node letter).letters ≡ []) (sym body)
-    (on_bool (λ b. (cond b (recovered_by (recovered (recovery_of node report.range) report) report.range node)
-    (silently node effect.Ignored)).letters ≡ []) (is_report_awaited node letter report)
-    (λ t. by (recovered (recovery_of node report.range) report)) (λ f. refl))
-  where
-    by : (its : Recovered) → (recovered_by its report.range node).letters ≡ []
-    by (Awaits_more recovery) = refl
-    by (Has_union table) = refl
-    by (Rejects number) = refl
-
 module _ (d : Deployment) (r : IsAtRest d) where
   -- ---- a letter comes to a silo
   pub record Came (next : Deployment) (silo : Silo) (node : Node) (letter : Letter) : Type 0 where
@@ -154,37 +140,35 @@ module _ (d : Deployment) (r : IsAtRest d) where
       ap (λ ls. slice_get ls (length d.written)) (c.written ∙ ap (λ ls. d.written ++ ls) one) ∙ got_end d.written [] answer
 
   -- ---- a query comes, and a report comes back
-  pub query_comes : (owner silo : Silo) (range : Range) (index : ℕ) (query : Letter) (node : Node) → node_at d silo ≡ Some node
-      → slice_get d.written index ≡ Some query → IsQueryFor d.membership.views.version owner range silo query
+  pub query_comes : (owner silo : Silo) (range : Range) (behind : Option Grain) (index : ℕ) (query : Letter) (node : Node)
+      → node_at d silo ≡ Some node → slice_get d.written index ≡ Some query
+      → IsQueryFor d.membership.views.version owner range silo behind query
       → (answer : Letter) × (slice_get (after d (Receive silo index)).written (length d.written) ≡ Some answer) × IsReportFor
-      d.settings.hashing d.membership.views.version owner range silo answer
-  query_comes owner silo range index query node there found is =
-      let so = queried_so node query range is.body (is.version_is ∙ sym (its_version d r silo node there)) in
-      let answer = answer_to query node (Report_letter (report_of node range)) in (
+      d.settings.hashing d.membership.views.version owner range silo behind answer
+  query_comes owner silo range behind index query node there found is =
+      let so = queried_so node query range behind is.body (is.version_is ∙ sym (its_version d r silo node there)) in
+      let answer = answer_to query node (Report_letter (report_of node range behind)) in (
         answer,
         wrote (after d (Receive silo index)) silo node query answer (came silo index query node is.to found there)
             (ap (λ (s : Stepped). s.letters) so),
-        answers_query d.settings node query d.membership.views.version owner range silo (its_settings_are d r silo node there)
-            (its_silo d r silo node there) (its_version d r silo node there) is,
+        answers_query d.settings node query d.membership.views.version owner range silo behind (its_settings d r)
+            (its_settings_are d r silo node there) (its_silo d r silo node there) (its_version d r silo node there) is,
       )
 
-  pub report_comes : (owner silo : Silo) (range : Range) (index : ℕ) (answer : Letter) (node after_it : Node) → node_at d owner ≡ Some node
-      → slice_get d.written index ≡ Some answer → IsReportFor d.settings.hashing d.membership.views.version owner range silo answer
-      → node_at (after d (Receive owner index)) owner ≡ Some after_it → Awaits after_it range silo → ⊥
-  report_comes owner silo range index answer node after_it there found is at waits =
+  pub report_comes : (owner silo : Silo) (range : Range) (behind : Option Grain) (index : ℕ) (answer : Letter) (node after_it : Node)
+      → node_at d owner ≡ Some node → slice_get d.written index ≡ Some answer
+      → IsReportFor d.settings.hashing d.membership.views.version owner range silo behind answer
+      → Awaits node range silo → told_by silo (recovery_of node range) ≡ behind
+      → node_at (after d (Receive owner index)) owner ≡ Some after_it → Awaits after_it range silo
+      → IsFurther (hash_grain d.settings.hashing) range behind (told_by silo (recovery_of after_it range))
+  report_comes owner silo range behind index answer node after_it there found is before told at waits =
       let c = came owner index answer node is.to found there in
       let put = c.there in
       let same : (received node answer).node ≡ after_it = cc (at, put) in
       let now : Awaits (received node answer).node range silo = subst (λ (n : Node). Awaits n range silo) (sym same) waits in
-      elim (asked (w d r).world.settings.hashing node (its_pieces d r owner node there) (Receives answer) (received node answer) refl range
-      silo now) [
-        | inl before ↦ takes_report d.settings node answer d.membership.views.version owner range silo
-            (its_settings_are d r owner node there) (its_version d r owner node there) (its_recoveries d r owner node there) is before now
-        | inr sends ↦ nothing (report_sends_nothing node answer is.report is.body) sends
-      ]
-    where
-      nothing : {X : Type 0} {xs : List X} {x : X} → xs ≡ [] → Contains xs x → ⊥
-      nothing {X} {xs} {x} none has = let below = has.1 in let short = ap (λ (l : List X). length l) none in omega (arith, below, short)
+      subst (λ (n : Node). IsFurther (hash_grain d.settings.hashing) range behind (told_by silo (recovery_of n range))) same
+      (takes_report d.settings node answer d.membership.views.version owner range silo behind (its_settings_are d r owner node there)
+      (its_version d r owner node there) (its_recoveries d r owner node there) is before told now)
 
   -- ---- an ask comes, and its answer comes back
   pub ask_comes : (pages : ℕ) (owner giver : Silo) (range : Range) (page index : ℕ) (ask : Letter) (node : Node)

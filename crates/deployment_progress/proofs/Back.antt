@@ -1,20 +1,26 @@
--- There and back: whatever happens between, the answer to a query strikes off its report, and the answer to an ask brings its page.
+-- There and back: whatever happens between, by the answer to a query its silo is struck off or has told further, and the answer to an ask
+-- brings its page.
 use Rattle.std.proofs.Common.{arith, ◌≡◌, ℕ, ◌<◌, ◌≤◌, List, [], ◌∷◌, length, refl, sym, ap, ◌∙◌, subst, inl, inr}
-use Rattle.std.specs.Prelude.{slice_get, All, Some}
+use Rattle.std.specs.Prelude.{slice_get, All, Option, Some}
 use Rattle.std.specs.Option.{option_map}
 use Rattle.std.proofs.lemmas.List.Elements.{All-cons, All-head}
 use Rattle.silo_address.specs.Silo.{Silo, silo_eq}
 use Rattle.silo_address.proofs.Same.{Decides-silo}
+use Rattle.silo_address.specs.Grain.{Grain}
 use Rattle.ring_range.specs.Range.{Range}
+use Rattle.hash_ring.specs.Hash.{hash_grain}
+use Rattle.directory_rules.specs.Settings.{Settings}
 use Rattle.directory_rules.specs.State.{Letter, Node}
-use Rattle.directory_rules.specs.Sent.{gathering_of}
+use Rattle.directory_rules.specs.Recovery.{told_by}
+use Rattle.directory_rules.specs.Sent.{gathering_of, recovery_of}
 use Rattle.directory_rules.specs.Snapshot.{page_count}
 use Rattle.directory_rules.proofs.Cases.{on_bool}
 use Rattle.directory_rules.specs.Membership.{Membership}
-use Rattle.progress_rules.specs.Waits.{Awaits}
+use Rattle.progress_rules.specs.Waits.{Recovers, Awaits, IsFurther, IsUpTo}
 use Rattle.progress_rules.specs.Gathers.{AwaitsFrom}
 use Rattle.progress_rules.specs.Covered.{IsQueryFor, IsReportFor}
 use Rattle.progress_rules.specs.Pages.{IsAskFor}
+use Rattle.progress_rules.proofs.Told.{up_to_both, further_up_to}
 use Rattle.deployment_headline.specs.Deployment.{Deployment}
 use Rattle.deployment_headline.specs.Steps.{Step, Receive, IsStep, after, after_all, deployed}
 use Rattle.deployment_headline.proofs.Runs.{settings_stay}
@@ -22,9 +28,11 @@ use Rattle.deployment_headline.proofs.Sound.{keeps}
 use Rattle.deployment_headline.proofs.Worlds.{its_node}
 use Rattle.deployment_progress.specs.Quiet.{DecidesNone}
 use Rattle.deployment_progress.specs.Answers.{there_and_back, QueriesAreAnswered, AsksAreAnswered}
+use Rattle.deployment_progress.specs.Waits.{WaitsForLess}
+use Rattle.deployment_progress.proofs.States.{not_settled_and_recovers}
 use Rattle.deployment_progress.proofs.Rest.{node_at, IsAtRest, its_sound}
 use Rattle.deployment_progress.proofs.Quiet.{Moves, quiet_moves, rests_on}
-use Rattle.deployment_progress.proofs.Later.{IsLater, IsQuiet, quiet_rest, step_on, after_append, rests_after, later_so, stays_written, same_membership, starts_at_rest}
+use Rattle.deployment_progress.proofs.Later.{its_settings_are, IsLater, IsQuiet, quiet_rest, step_on, after_append, rests_after, later_so, stays_written, same_membership, starts_at_rest}
 use Rattle.deployment_progress.proofs.Shelves.{together, at_most}
 use Rattle.deployment_progress.proofs.Answered.{IsAnswerFor, query_comes, report_comes, ask_comes, answer_comes}
 
@@ -85,18 +93,39 @@ module _ (d : Deployment) (r : IsAtRest d) (silo : Silo) (index : ℕ) (between 
   last_settings = settings_stay asked (its_sound asked asked_rests) between ∙ (keeps d (its_sound d r) (Receive silo index)).settings
 
   -- a query
-  pub query_back : (owner : Silo) (range : Range) (query : Letter) (asked_node after_it : Node) → back ≡ owner
+  pub query_back : (owner : Silo) (range : Range) (behind : Option Grain) (query : Letter) (asked_node own after_it : Node) → back ≡ owner
       → node_at d silo ≡ Some asked_node → slice_get d.written index ≡ Some query
-      → IsQueryFor d.membership.views.version owner range silo query
-      → node_at (after last (Receive back (length d.written))) owner ≡ Some after_it → Awaits after_it range silo → ⊥
-  query_back owner range query asked_node after_it to there found is at waits =
-      let answer = query_comes d r owner silo range index query asked_node there found is in
+      → IsQueryFor d.membership.views.version owner range silo behind query → node_at d owner ≡ Some own → Recovers own range
+      → IsUpTo (hash_grain own.settings.hashing) range behind (told_by silo (recovery_of own range))
+      → node_at (after last (Receive back (length d.written))) owner ≡ Some after_it → Awaits after_it range silo
+      → IsFurther (hash_grain own.settings.hashing) range behind (told_by silo (recovery_of after_it range))
+  query_back owner range behind query asked_node own after_it to there found is its was up_to at waits =
+      let answer = query_comes d r owner silo range behind index query asked_node there found is in
       let written = stays_written asked asked_rests between q (length d.written) answer.0 answer.1 in
       let now : node_at (after last (Receive owner (length d.written))) owner ≡ Some after_it = subst (λ s. node_at (after last (Receive s (length d.written))) owner ≡ Some after_it) to at in
-      let before = was_there last (Receive owner (length d.written)) (after last (Receive owner (length d.written))) (quiet_moves last last_rests (Receive owner (length d.written)) tt) owner after_it now in
-      report_comes last last_rests owner silo range (length d.written) answer.0 before.0 after_it before.1 written
-      (subst (λ (m : Membership). IsReportFor last.settings.hashing m.views.version owner range silo answer.0) (sym last_membership)
-      (subst (λ s. IsReportFor s.hashing d.membership.views.version owner range silo answer.0) (sym last_settings) answer.2)) now waits
+      let then = then_there owner own its in
+      let one = step_on last last_rests (Receive owner (length d.written)) (after last (Receive owner (length d.written))) (quiet_moves last last_rests (Receive owner (length d.written)) tt) owner then.node then.there in
+      let put = one.there in
+      let same : one.node ≡ after_it = cc (now, put) in
+      let less : WaitsForLess then.node after_it = subst (WaitsForLess then.node) same one.less in
+      let still : Recovers then.node range = elim (then.less.recovers range was) [ inl still ↦ still | inr settled ↦ absurd (not_settled_and_recovers after_it range (less.settled range settled) waits.recovers) ] in
+      let before = less.reports range silo still waits in
+      let hash = hash_grain own.settings.hashing in
+      let told = told_by silo (recovery_of then.node range) in
+      let up_to_then = up_to_both hash range behind (told_by silo (recovery_of own range)) told up_to (then.less.told range silo was before) in
+      let up_to_last : IsUpTo hash range told (told_by silo (recovery_of after_it range)) =
+      subst (λ (s : Settings). IsUpTo (hash_grain s.hashing) range told (told_by silo (recovery_of after_it range))) then.less.settings
+      (less.told range silo still waits) in
+      elim up_to_then [
+        | inl as_much ↦
+            let counts = report_comes last last_rests owner silo range behind (length d.written) answer.0 then.node after_it then.there written
+            (subst (λ (m : Membership). IsReportFor last.settings.hashing m.views.version owner range silo behind answer.0) (sym last_membership)
+            (subst (λ s. IsReportFor s.hashing d.membership.views.version owner range silo behind answer.0) (sym last_settings) answer.2))
+            before as_much now waits in
+            subst (λ (s : Settings). IsFurther (hash_grain s.hashing) range behind (told_by silo (recovery_of after_it range)))
+            (last_settings ∙ sym (its_settings_are d r owner own its)) counts
+        | inr further ↦ further_up_to hash range behind told (told_by silo (recovery_of after_it range)) further up_to_last
+      ]
 
   -- an ask
   pub ask_back : (pages : ℕ) (owner : Silo) (range : Range) (page : ℕ) (ask : Letter) (giving own after_it : Node) → back ≡ owner
@@ -120,18 +149,24 @@ module _ (d : Deployment) (r : IsAtRest d) (silo : Silo) (index : ℕ) (between 
 
 -- ---- the laws
 pub queries_are_answered : QueriesAreAnswered
-queries_are_answered settings steps between are named seen named_between none owner silo s range index query there found is =
+queries_are_answered settings steps between are named seen named_between none owner silo s range behind index query there found is =
     let d = deployed settings steps in
     let r = starts_at_rest settings steps are named seen in
     let q : IsQuiet between = record { named = named_between; none = none } in
-    let its = query_comes d r owner silo range index query s.node (ap (option_map its_node) there) found is in
+    let its = query_comes d r owner silo range behind index query s.node (ap (option_map its_node) there) found is in
     record {
       answer = its.0;
       written = its.1;
       report = its.2;
-      struck = λ t after_it waits.
-          query_back d r silo index between q owner owner range query s.node t.node refl (ap (option_map its_node) there) found is
-          (ap (λ x. node_at x owner) (sym (last_is d r silo index between q owner)) ∙ ap (option_map its_node) after_it) waits;
+      further = λ t u own was up_to after_it waits.
+          let at = ap (option_map its_node) own in
+          let by_settings = its_settings_are d r owner t.node at in
+          subst (λ (x : Settings). IsFurther (hash_grain x.hashing) range behind (told_by silo (recovery_of u.node range))) by_settings
+          (query_back d r silo index between q owner owner range behind query s.node t.node u.node refl (ap (option_map its_node) there) found
+          is at was
+          (subst (λ (x : Settings). IsUpTo (hash_grain x.hashing) range behind (told_by silo (recovery_of t.node range))) (sym by_settings)
+          up_to)
+          (ap (λ x. node_at x owner) (sym (last_is d r silo index between q owner)) ∙ ap (option_map its_node) after_it) waits);
     }
 
 pub asks_are_answered : AsksAreAnswered

@@ -1,15 +1,19 @@
 -- In an exchange each range of the silo gets on.
-use Rattle.std.proofs.Common.{arith, ◌≡◌, ℕ, ◌<◌, List, ◌++◌, refl, sym, ap, ◌∙◌, subst, inl, inr}
+use Rattle.std.proofs.Common.{arith, ◌≡◌, ℕ, ◌<◌, List, ◌++◌, refl, sym, ap, ◌∙◌, subst, ◌⊎◌, inl, inr}
 use Rattle.std.specs.Prelude.{slice_get, Contains, Some}
 use Rattle.silo_address.specs.Silo.{Silo}
 use Rattle.ring_range.specs.Range.{Range}
-use Rattle.directory_rules.specs.State.{Letter, Ask_letter, Query_letter, Node}
-use Rattle.directory_rules.specs.Sent.{letter_to, gathering_of, all_wants}
+use Rattle.hash_ring.specs.Hash.{hash_grain}
+use Rattle.directory_rules.specs.Settings.{Settings}
+use Rattle.directory_rules.specs.State.{Letter, Ask_letter, Node}
+use Rattle.directory_rules.specs.Recovery.{told_by}
+use Rattle.directory_rules.specs.Sent.{letter_to, query_to, gathering_of, recovery_of, all_wants}
 use Rattle.directory_rules.specs.Step.{Stepped}
 use Rattle.directory_rules.specs.Membership.{Membership}
-use Rattle.progress_rules.specs.Waits.{Recovers, Awaits}
+use Rattle.progress_rules.specs.Waits.{Recovers, Awaits, IsFurther, IsUpTo}
 use Rattle.progress_rules.specs.Gathers.{AwaitsFrom}
 use Rattle.progress_rules.proofs.Gathers.{asked_again}
+use Rattle.progress_rules.proofs.Told.{further_up_to, up_to_further}
 use Rattle.progress_rules.proofs.Waits.{queried_again}
 use Rattle.deployment_headline.specs.Deployment.{Deployment}
 use Rattle.deployment_headline.specs.Steps.{Step, Do, after, after_all}
@@ -81,10 +85,12 @@ module _ (d : Deployment) (r : IsAtRest d) (silo : Silo) (steps : List Step) (q 
     last_rests_so : IsAtRest (after_all d steps)
     last_rests_so = rests_after d r steps q
 
-    -- no report is awaited that was awaited when the nudge came
-    report_came : (range : Range) (other : Silo) → Recovers last range → Awaits node1 range other → Awaits last range other → ⊥
-    report_came range other recovers waits waits_last =
-        let letter = letter_to other node1 (Query_letter range) in
+    -- a silo that was awaited when the nudge came, and is still, has told further
+    report_came : (range : Range) (other : Silo) → Awaits node1 range other → Awaits last range other
+        → IsFurther (hash_grain node1.settings.hashing) range (told_by other (recovery_of node1 range)) (told_by other (recovery_of last range))
+    report_came range other waits waits_last =
+        let behind = told_by other (recovery_of node1 range) in
+        let letter = query_to node1 range other in
         let it = wants letter (queried_again node1 range other waits) tt in
         let a = it.2 in
         let asks = at_ask d1 r1 silo n.rest quiet_x it.0 letter a node1 there1 in
@@ -92,11 +98,15 @@ module _ (d : Deployment) (r : IsAtRest d) (silo : Silo) (steps : List Step) (q 
         let before = quiet_before d1 r1 silo n.rest quiet_x it.0 letter a node1 there1 in
         let rests = b_rests d1 r1 silo n.rest quiet_x it.0 letter a node1 there1 in
         let to_last = to_end d1 r1 silo n.rest quiet_x it.0 letter a node1 there1 last at1 in
+        let to_it = to_answer d1 r1 silo n.rest quiet_x it.0 letter a node1 there1 in
         let other_there = awaited_there d1 r1 silo node1 there1 range other waits in
         let other_then = later_so d1 r1 a.before before other other_there.0 other_there.1 in
-        let still : Recovers answers.node range = still_recovers node1 answers.node last range (waits_on node1 asks.node answers.node asks.less (to_answer d1 r1 silo n.rest quiet_x it.0 letter a node1 there1)) to_last waits.recovers recovers in
-        query_back (after_all d1 a.before) rests other it.0 a.between (quiet_between d1 r1 silo n.rest quiet_x it.0 letter a node1 there1)
-        silo silo range letter other_then.node answers.node refl other_then.there
+        let asking : Recovers asks.node range = still_recovers node1 asks.node last range asks.less (waits_on asks.node answers.node last to_it to_last) waits.recovers waits_last.recovers in
+        let answered : Recovers answers.node range = still_recovers asks.node answers.node last range to_it to_last asking waits_last.recovers in
+        let awaited = to_last.reports range other answered waits_last in
+        let told = told_by other (recovery_of answers.node range) in
+        let comes = query_back (after_all d1 a.before) rests other it.0 a.between (quiet_between d1 r1 silo n.rest quiet_x it.0 letter a node1 there1)
+        silo silo range behind letter other_then.node asks.node answers.node refl other_then.there
         (stays_written d1 r1 a.before before it.0 letter it.1)
         (record {
           from = its_silo d1 r1 silo node1 there1;
@@ -105,7 +115,15 @@ module _ (d : Deployment) (r : IsAtRest d) (silo : Silo) (steps : List Step) (q 
               its_version d1 r1 silo node1 there1 ∙ ap (λ (m : Membership). m.views.version) (sym (same_membership d1 r1 a.before before));
           body = refl;
         })
-        answers.there (to_last.reports range other still waits_last)
+        asks.there asking
+        (subst (λ (s : Settings). IsUpTo (hash_grain s.hashing) range behind (told_by other (recovery_of asks.node range)))
+        (sym asks.less.settings) (asks.less.told range other waits.recovers (to_it.reports range other asking awaited)))
+        answers.there awaited in
+        let further : IsFurther (hash_grain node1.settings.hashing) range behind told = subst (λ (s : Settings). IsFurther (hash_grain s.hashing) range behind told) asks.less.settings comes in
+        let on : IsUpTo (hash_grain node1.settings.hashing) range told (told_by other (recovery_of last range)) =
+        subst (λ (s : Settings). IsUpTo (hash_grain s.hashing) range told (told_by other (recovery_of last range)))
+        (to_it.settings ∙ asks.less.settings) (to_last.told range other answered waits_last) in
+        further_up_to (hash_grain node1.settings.hashing) range behind told (told_by other (recovery_of last range)) further on
       where
         still_recovers : (one two three : Node) (range : Range) → WaitsForLess one two → WaitsForLess two three → Recovers one range
             → Recovers three range → Recovers two range
@@ -116,14 +134,25 @@ module _ (d : Deployment) (r : IsAtRest d) (silo : Silo) (steps : List Step) (q 
                   (not_settled_and_recovers three range (b.settled range settled) is)
             ]
 
-    pub recovers_end : (range : Range) → Recovers first range → HasSettled last range
-    recovers_end range was =
+    -- so it has since the exchange began
+    pub told_further : (range : Range) (other : Silo) → Recovers first range → Awaits last range other
+        → IsFurther (hash_grain first.settings.hashing) range (told_by other (recovery_of first range)) (told_by other (recovery_of last range))
+    told_further range other was waits_last =
+        let told = told_by other (recovery_of node1 range) in
+        let still : Recovers node1 range = elim (less1.recovers range was) [ inl still ↦ still | inr settled ↦ absurd (not_settled_and_recovers last range (less_to_last.settled range settled) waits_last.recovers) ] in
+        let waits = less_to_last.reports range other still waits_last in
+        let further : IsFurther (hash_grain first.settings.hashing) range told (told_by other (recovery_of last range)) =
+        subst (λ (s : Settings). IsFurther (hash_grain s.hashing) range told (told_by other (recovery_of last range))) less1.settings
+        (report_came range other waits waits_last) in
+        up_to_further (hash_grain first.settings.hashing) range (told_by other (recovery_of first range)) told
+        (told_by other (recovery_of last range)) (less1.told range other was waits) further
+
+    -- a range that recovered is settled, or somebody is awaited still
+    pub recovers_on : (range : Range) → Recovers first range → HasSettled last range ⊎ ((other : Silo) × Awaits last range other)
+    recovers_on range was =
         elim (less_all.recovers range was) [
-          | inr settled ↦ settled
-          | inl recovers ↦
-              let some = awaits_some (after_all d steps) last_rests_so silo last at range recovers in
-              let still : Recovers node1 range = elim (less1.recovers range was) [ inl still ↦ still | inr settled ↦ absurd (not_settled_and_recovers last range (less_to_last.settled range settled) recovers) ] in
-              absurd (report_came range some.0 recovers (less_to_last.reports range some.0 still some.1) some.1)
+          | inr settled ↦ inl settled
+          | inl recovers ↦ inr (awaits_some (after_all d steps) last_rests_so silo last at range recovers)
         ]
 
     -- a page more, and it was one of so many

@@ -13,6 +13,7 @@ use Rattle.texts.proofs.Decided.{both}
 use Rattle.silo_address.specs.Silo.{Silo}
 use Rattle.silo_address.proofs.Same.{Decides-silo}
 use Rattle.ring_range.specs.Range.{Range, range_eq}
+use Rattle.hash_ring.specs.Hash.{hash_grain}
 use Rattle.hash_ring.specs.declared.Hashing.{Hashing}
 use Rattle.directory_rules.specs.declared.act.Request.{Request}
 use Rattle.directory_rules.specs.declared.piece_state.PieceState.{PieceState}
@@ -21,7 +22,8 @@ use Rattle.directory_rules.specs.Answer.{answered}
 use Rattle.directory_rules.specs.State.{Gathering, Letter, Node, Piece, Page, Table}
 use Rattle.directory_rules.specs.Gatherings.{Wants_page, new_gathering, gathered}
 use Rattle.directory_rules.specs.Input.{Input, step}
-use Rattle.directory_rules.specs.Recovery.{new_recovery}
+use Rattle.directory_rules.specs.Recovery.{new_recovery, told_by}
+use Rattle.directory_rules.specs.Settings.{Settings}
 use Rattle.directory_rules.specs.Sent.{gathering_of, recovery_of}
 use Rattle.directory_rules.specs.Sight.{is_settled}
 use Rattle.directory_rules.specs.Step.{Stepped}
@@ -33,12 +35,18 @@ use Rattle.directory_facts.proofs.Collected.{GatheredSo, gathered_so}
 use Rattle.directory_facts.proofs.EachStep.{by_way}
 use Rattle.directory_facts.proofs.Lookups.{found_put, found_beside_put, found_beside_set}
 use Rattle.directory_facts.proofs.Ways.{IsPageTaken, Ways}
-use Rattle.progress_rules.specs.Waits.{Recovers, Awaits}
-use Rattle.progress_rules.proofs.Asked.{outlined, by_outline, collected_awaits}
+use Rattle.progress_rules.specs.Waits.{Recovers, Awaits, IsUpTo}
+use Rattle.progress_rules.proofs.Asked.{outlined, by_outline, more_awaits, told_more, collected_awaits}
 use Rattle.progress_rules.proofs.Gathers.{IsDropped, settling, turning, gathers_so, wanted_range}
-use Rattle.progress_rules.proofs.Waits.{awaited_still, settled_awaits}
-use Rattle.deployment_progress.specs.Waits.{WaitsForLess}
+use Rattle.progress_rules.proofs.Told.{up_to_both}
+use Rattle.progress_rules.proofs.Waits.{AsBefore, as_before, settled_awaits}
+use Rattle.deployment_progress.specs.Waits.{HasToldOn, WaitsForLess}
 use Rattle.deployment_progress.proofs.States.{GoesOn, same_states, one_moves, set_states, not_settled_and_recovers}
+
+-- who was awaited before, and had told as much
+told_on : (before after : Node) (range : Range) (silo : Silo) → AsBefore before after range silo
+    → Awaits before range silo × HasToldOn before after range silo
+told_on before after range silo so = (so.0, inl so.1)
 
 -- ---- every step
 abbrev pub GoesOnWith : Node → Input → Stepped → Type 0
@@ -46,17 +54,17 @@ GoesOnWith node input stepped = stepped.node.view ≡ node.view → (IsDropped n
 
 module _ (hashing : Hashing) (node : Node) (has : HasPieces hashing node) where
   -- nothing moves
-  still : (after : Node) → after.holding.pieces ≡ node.holding.pieces
+  still : (after : Node) → after.settings ≡ node.settings → after.holding.pieces ≡ node.holding.pieces
       → ((range : Range) → gathering_of after range ≡ gathering_of node range)
       → ((range : Range) → recovery_of after range ≡ recovery_of node range) → GoesOn node after
-  still after pieces gatherings recoveries =
+  still after settings pieces gatherings recoveries =
       let at : (range : Range) → piece_at after range ≡ piece_at node range = λ range. ap (λ (ps : List (ℕ × Piece)). lookup (is_at (nat_cmp range.start)) ps) pieces in
-      same_states node after (λ range giver waits. (
+      same_states node after settings (λ range giver waits. (
         ap (λ (o : Option Piece). has_range (is_awaiting_from giver) range o) (sym (at range))
             ∙ waits,
         inl (gatherings range),
       ))
-      (λ range silo was waits. awaited_still node after range silo (at range) (recoveries range) waits)
+      (λ range silo was waits. told_on node after range silo (as_before node after range silo (at range) (recoveries range) waits))
       (λ test range. ap (λ (o : Option Piece). has_range test range o) (at range))
 
   answers : (request : Request) → GoesOn node (record node { holding = (answered node.holding request).holding })
@@ -69,8 +77,8 @@ module _ (hashing : Hashing) (node : Node) (has : HasPieces hashing node) where
       let key = is_at (nat_cmp range.start) in
       by_outline test range key (answered node.holding request).holding.pieces ∙ ap (outlined test range key) leaves.outline
       ∙ sym (by_outline test range key node.holding.pieces) in
-      same_states node after (λ range giver waits. (sym (same (is_awaiting_from giver) range) ∙ waits, inl refl))
-      (λ range silo was waits. record { recovers = sym (same is_recovering range) ∙ waits.recovers; among = waits.among }) same
+      same_states node after refl (λ range giver waits. (sym (same (is_awaiting_from giver) range) ∙ waits, inl refl))
+      (λ range silo was waits. (record { recovers = sym (same is_recovering range) ∙ waits.recovers; among = waits.among }, inl refl)) same
 
   -- a page is taken
   gathers : (letter : Letter) (page : Page) (gathering : Gathering) → IsPageTaken node letter page
@@ -84,7 +92,7 @@ module _ (hashing : Hashing) (node : Node) (has : HasPieces hashing node) where
       ∙ ap (λ o. unwrap_or o (new_gathering node.view.version page.range))
       (found_put nat_cmp nat_cmp_total exact_unsigned page.range.start gathering node.gatherings) in
       let next : (gathering_of (with_gathering node gathering) page.range).next ≡ (gathering_of node page.range).next + 1 = ap (λ (g : Gathering). g.next) (put ∙ so.1) in
-      same_states node (with_gathering node gathering)
+      same_states node (with_gathering node gathering) refl
       (λ range giver waits. (
         waits,
         elim (gathers_so hashing node has letter page gathering taken start range giver waits) [
@@ -93,15 +101,15 @@ module _ (hashing : Hashing) (node : Node) (has : HasPieces hashing node) where
               (omega (arith, next)))
         ],
       ))
-      (λ range silo was waits. record { recovers = waits.recovers; among = waits.among }) (λ test range. refl)
+      (λ range silo was waits. (record { recovers = waits.recovers; among = waits.among }, inl refl)) (λ test range. refl)
 
   -- a piece is settled
   settles : (range : Range) (piece : Piece) (table : Table) → piece_at node range ≡ Some piece → piece.range ≡ range
       → GoesOn node (with_settled node range table)
   settles range piece table found same =
-      one_moves node (with_settled node range table) (λ other giver waits.
+      one_moves node (with_settled node range table) refl (λ other giver waits.
       let was = settling hashing node has node.view range table other giver waits in (was.0, inl was.1))
-      (λ other silo was waits. settled_awaits node range table other silo waits) range piece.state state.Settled
+      (λ other silo was waits. told_on node (with_settled node range table) other silo (settled_awaits node range table other silo waits)) range piece.state state.Settled
       (set_states node (with_settled node range table) range piece state.Settled table found same refl) (λ is. refl) (λ is. refl)
       (λ giver is. inr refl)
       (λ is. absurd (cc (is)))
@@ -111,7 +119,7 @@ module _ (hashing : Hashing) (node : Node) (has : HasPieces hashing node) where
       → piece.state ≡ state.Awaiting from → GoesOn node (turned_to_recovery node range)
   turns range piece from found same awaiting =
       let after = turned_to_recovery node range in
-      one_moves node after (λ other giver waits. let was = turning hashing node has range other giver waits in (was.0, inl was.1)) reports
+      one_moves node after refl (λ other giver waits. let was = turning hashing node has range other giver waits in (was.0, inl was.1)) reports
       range piece.state state.Recovering
       (set_states node after range piece state.Recovering [] found same refl) (λ is. absurd (not_it is_settled refl is))
       (λ is. absurd (not_it is_recovering refl is)) (λ giver is. inl refl)
@@ -126,57 +134,65 @@ module _ (hashing : Hashing) (node : Node) (has : HasPieces hashing node) where
           not_it is_recovering refl (both (range_eq piece.range other) (is_recovering piece.state) its).1
 
       reports : (other : Range) (silo : Silo) → Recovers node other → Awaits (turned_to_recovery node range) other silo
-          → Awaits node other silo
+          → Awaits node other silo × HasToldOn node (turned_to_recovery node range) other silo
       reports other silo was waits =
-          on_bool (λ b. (other.start == range.start) ≡ b → Awaits node other silo) (other.start == range.start)
+          on_bool (λ b. (other.start == range.start) ≡ b → Awaits node other silo × HasToldOn node (turned_to_recovery node range) other silo)
+          (other.start == range.start)
           (λ t it. absurd (recovering_before other (eqb-true other.start range.start it) was))
           (λ f it.
           let apart = eqb-false other.start range.start it in
-          awaited_still node (turned_to_recovery node range) other silo
+          told_on node (turned_to_recovery node range) other silo (as_before node (turned_to_recovery node range) other silo
           (found_beside_set nat_cmp nat_cmp_total exact_unsigned range.start
           (record { range = range; state = state.Recovering; entries = [] }) node.holding.pieces other.start apart)
           (ap (λ o. unwrap_or o (new_recovery node.view other))
           (found_beside_put nat_cmp nat_cmp_total exact_unsigned range.start (new_recovery node.view range) node.recoveries other.start
-          apart)) waits) refl
+          apart)) waits)) refl
 
   ways : Ways node (GoesOnWith node)
   ways = record {
-    nothing = λ input its plain seen never. still node refl (λ range. refl) (λ range. refl);
+    nothing = λ input its plain seen never. still node refl refl (λ range. refl) (λ range. refl);
     sees = λ before view places newer numbers seen never. let version = ap (λ v. v.version) seen in absurd (omega (arith, version, newer));
-    wakes = λ grain may seen never. still _ refl (λ range. refl) (λ range. refl);
-    closes = λ grain held may seen never. still _ refl (λ range. refl) (λ range. refl);
-    cancels = λ grain held may seen never. still _ refl (λ range. refl) (λ range. refl);
-    offers = λ grain held to may active other seen never. still _ refl (λ range. refl) (λ range. refl);
-    uses_hint = λ grain activation hint seen never. still _ refl (λ range. refl) (λ range. refl);
-    finds = λ grain room numbers seen never. still _ refl (λ range. refl) (λ range. refl);
-    forgets = λ grain activation hint seen never. still _ refl (λ range. refl) (λ range. refl);
-    nudges = λ numbers seen never. still _ refl (λ range. refl) (λ range. refl);
-    nudges_grain = λ grain numbers seen never. still _ refl (λ range. refl) (λ range. refl);
-    nudges_ranges = λ seen never. still node refl (λ range. refl) (λ range. refl);
+    wakes = λ grain may seen never. still _ refl refl (λ range. refl) (λ range. refl);
+    closes = λ grain held may seen never. still _ refl refl (λ range. refl) (λ range. refl);
+    cancels = λ grain held may seen never. still _ refl refl (λ range. refl) (λ range. refl);
+    offers = λ grain held to may active other seen never. still _ refl refl (λ range. refl) (λ range. refl);
+    uses_hint = λ grain activation hint seen never. still _ refl refl (λ range. refl) (λ range. refl);
+    finds = λ grain room numbers seen never. still _ refl refl (λ range. refl) (λ range. refl);
+    forgets = λ grain activation hint seen never. still _ refl refl (λ range. refl) (λ range. refl);
+    nudges = λ numbers seen never. still _ refl refl (λ range. refl) (λ range. refl);
+    nudges_grain = λ grain numbers seen never. still _ refl refl (λ range. refl) (λ range. refl);
+    nudges_ranges = λ seen never. still node refl refl (λ range. refl) (λ range. refl);
     answers = λ letter request body sender version seen never. answers request;
-    confirms = λ letter number entry e is there seen never. still _ refl (λ range. refl) (λ range. refl);
-    yields = λ letter number entry e is there seen never. still _ refl (λ range. refl) (λ range. refl);
-    removes = λ letter number e is there seen never. still _ refl (λ range. refl) (λ range. refl);
-    misses = λ letter number e is there seen never. still _ refl (λ range. refl) (λ range. refl);
-    learns = λ letter number entry is there seen never. still _ refl (λ range. refl) (λ range. refl);
-    notes = λ letter number is there seen never. still _ refl (λ range. refl) (λ range. refl);
-    hands = λ letter range number page body is seen never. still node refl (λ range. refl) (λ range. refl);
-    lacks = λ letter range number body is seen never. still node refl (λ range. refl) (λ range. refl);
-    forgoes = λ letter range body there seen never. still _ refl (λ range. refl) (λ range. refl);
-    lags = λ letter range seen never. still node refl (λ range. refl) (λ range. refl);
-    passed = λ letter range seen never. still node refl (λ range. refl) (λ range. refl);
-    reports = λ letter range body now seen never. still node refl (λ range. refl) (λ range. refl);
+    confirms = λ letter number entry e is there seen never. still _ refl refl (λ range. refl) (λ range. refl);
+    yields = λ letter number entry e is there seen never. still _ refl refl (λ range. refl) (λ range. refl);
+    removes = λ letter number e is there seen never. still _ refl refl (λ range. refl) (λ range. refl);
+    misses = λ letter number e is there seen never. still _ refl refl (λ range. refl) (λ range. refl);
+    learns = λ letter number entry is there seen never. still _ refl refl (λ range. refl) (λ range. refl);
+    notes = λ letter number is there seen never. still _ refl refl (λ range. refl) (λ range. refl);
+    hands = λ letter range number page body is seen never. still node refl refl (λ range. refl) (λ range. refl);
+    lacks = λ letter range number body is seen never. still node refl refl (λ range. refl) (λ range. refl);
+    forgoes = λ letter range body there seen never. still _ refl refl (λ range. refl) (λ range. refl);
+    lags = λ letter range seen never. still node refl refl (λ range. refl) (λ range. refl);
+    passed = λ letter range seen never. still node refl refl (λ range. refl) (λ range. refl);
+    reports = λ letter range after body now seen never. still node refl refl (λ range. refl) (λ range. refl);
     gathers = λ letter page gathering taken is seen never. gathers letter page gathering taken is;
     installs = λ letter page entries taken is seen never. settles page.range taken.piece _ taken.has.found taken.has.same;
     drops =
         λ letter page left taken is seen never. absurd (never
         (record { letter = letter; page = page; is = refl; taken = taken; left = left; refused = is }));
     turns = λ letter range piece body its awaits seen never. turns range piece letter.from its.found its.same awaits;
+    continues = λ letter report recovery taken is seen never.
+        same_states node (with_recovery node recovery) refl (λ range giver waits. (waits, inl refl))
+        (λ range silo was waits. (
+          more_awaits node letter report recovery taken is range silo waits,
+          told_more node letter report recovery taken is range silo waits,
+        )) (λ test range. refl);
     collects = λ letter report recovery taken is seen never.
-        same_states node (with_recovery node recovery) (λ range giver waits. (waits, inl refl))
-        (λ range silo was waits. collected_awaits node letter report recovery taken is range silo waits) (λ test range. refl);
+        same_states node (with_recovery node recovery) refl (λ range giver waits. (waits, inl refl))
+        (λ range silo was waits. told_on node (with_recovery node recovery) range silo
+        (collected_awaits node letter report recovery taken is range silo waits)) (λ test range. refl);
     completes = λ letter report table taken is seen never. settles report.range taken.piece _ taken.has.found taken.has.same;
-    takes_over = λ letter entry body now may seen never. still _ refl (λ range. refl) (λ range. refl);
+    takes_over = λ letter entry body now may seen never. still _ refl refl (λ range. refl) (λ range. refl);
   }
 
   pub goes_on : (input : Input) (stepped : Stepped) → step node input ≡ Ok stepped → GoesOnWith node input stepped
@@ -185,10 +201,11 @@ module _ (hashing : Hashing) (node : Node) (has : HasPieces hashing node) where
 -- ---- at once and on
 pub same_waits : (node : Node) → GoesOn node node
 same_waits node =
-    same_states node node (λ range giver waits. (waits, inl refl)) (λ range silo was waits. waits) (λ test range. refl)
+    same_states node node refl (λ range giver waits. (waits, inl refl)) (λ range silo was waits. (waits, inl refl)) (λ test range. refl)
 
 pub waits_on : (one two three : Node) → WaitsForLess one two → WaitsForLess two three → WaitsForLess one three
 waits_on one two three a b = record {
+  settings = b.settings ∙ a.settings;
   settled = λ range is. b.settled range (a.settled range is);
   recovers = λ range is. elim (a.recovers range is) [ inl still ↦ b.recovers range still | inr settled ↦ inr (b.settled range settled) ];
   awaits = λ range giver is.
@@ -205,6 +222,15 @@ waits_on one two three a b = record {
   reports = λ range silo was waits.
       elim (a.recovers range was) [
         | inl still ↦ a.reports range silo was (b.reports range silo still waits)
+        | inr settled ↦ absurd (not_settled_and_recovers three range (b.settled range settled) waits.recovers)
+      ];
+  told = λ range silo was waits.
+      elim (a.recovers range was) [
+        | inl still ↦ up_to_both (hash_grain one.settings.hashing) range (told_by silo (recovery_of one range))
+            (told_by silo (recovery_of two range)) (told_by silo (recovery_of three range))
+            (a.told range silo was (b.reports range silo still waits))
+            (subst (λ (s : Settings). IsUpTo (hash_grain s.hashing) range (told_by silo (recovery_of two range))
+            (told_by silo (recovery_of three range))) a.settings (b.told range silo still waits))
         | inr settled ↦ absurd (not_settled_and_recovers three range (b.settled range settled) waits.recovers)
       ];
   pages =

@@ -12,6 +12,7 @@ pub mod Letters
 pub mod Nudged
 pub mod Possible
 pub mod Exchange
+pub mod Reported
 pub mod Settle
 pub mod Owed
 pub mod Served

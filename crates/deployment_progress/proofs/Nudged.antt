@@ -60,30 +60,30 @@ module _ (d : Deployment) (r : IsAtRest d) (silo : Silo) (part : OwnStep) (steps
 
 -- ---- what it sends, and what it renews
 -- what the pieces want goes out
-pub sends_wants : (part : OwnStep) → SendsWants part → (first : Node) (nudged : Stepped) → step first (Does part) ≡ Ok nudged
+pub sends_wants : (part : OwnStep) → SendsWants part → (old : Node) (nudged : Stepped) → step old (Does part) ≡ Ok nudged
     → (letter : Letter) → Contains (all_wants nudged.node) letter → Contains nudged.letters letter
-sends_wants Nudge wants first nudged is letter has =
-    let its : Node = record first { host = renewed first.host } in
-    let did : nudged ≡ having_nudged its = nudge_is first nudged is in
+sends_wants Nudge wants old nudged is letter has =
+    let its : Node = record old { host = renewed old.host } in
+    let did : nudged ≡ having_nudged its = nudge_is old nudged is in
     let in_wants : Contains (all_wants its) letter = subst (λ (t : Stepped). Contains (all_wants t.node) letter) did has in
     subst (λ (t : Stepped). Contains t.letters letter) (sym did) (Contains-append_right (all_requests its) (all_wants its) letter in_wants)
-sends_wants NudgeRanges wants first nudged is letter has =
-    let did : nudge_ranges first ≡ nudged = cc is in
+sends_wants NudgeRanges wants old nudged is letter has =
+    let did : nudge_ranges old ≡ nudged = cc is in
     subst (λ (t : Stepped). Contains t.letters letter) did (subst (λ (t : Stepped). Contains (all_wants t.node) letter) (sym did) has)
-sends_wants other wants first nudged is letter has = absurd wants
+sends_wants other wants old nudged is letter has = absurd wants
 
 -- each request that is renewed has a number that was free before
-pub renewed_free : (part : OwnStep) (e : ℕ × Act) → Renews part e → (first : Node) (nudged : Stepped) → step first (Does part) ≡ Ok nudged
-    → AreNumbered nudged.node.host → Owes nudged.node.host e → first.host.next_number ≤ e.0
-renewed_free Nudge e renews first nudged is numbered owes =
-    let did : nudged ≡ having_nudged (record first { host = renewed first.host }) = nudge_is first nudged is in
-    let then : AreNumbered (renewed first.host) = subst (λ (t : Stepped). AreNumbered t.node.host) did numbered in
-    (All-contains (IsRenewed first.host) (outstanding (renewed first.host)) e (renewed_from first.host)
-    (outstanding_has (renewed first.host) then e (subst (λ (t : Stepped). Owes t.node.host e) did owes))).0
-renewed_free (NudgeGrain grain) e renews first nudged is numbered owes =
-    let did : having_nudged_grain (record first { host = renewed_about grain first.host }) grain ≡ nudged = grain_nudge_is first grain nudged is in
-    renewed_about_from first.host grain e (subst (λ (t : Stepped). Owes t.node.host e) (sym did) owes) renews
-renewed_free other e renews first nudged is numbered owes = absurd renews
+pub renewed_free : (part : OwnStep) (e : ℕ × Act) → Renews part e → (old : Node) (nudged : Stepped) → step old (Does part) ≡ Ok nudged
+    → AreNumbered nudged.node.host → Owes nudged.node.host e → old.host.next_number ≤ e.0
+renewed_free Nudge e renews old nudged is numbered owes =
+    let did : nudged ≡ having_nudged (record old { host = renewed old.host }) = nudge_is old nudged is in
+    let then : AreNumbered (renewed old.host) = subst (λ (t : Stepped). AreNumbered t.node.host) did numbered in
+    (All-contains (IsRenewed old.host) (outstanding (renewed old.host)) e (renewed_from old.host)
+    (outstanding_has (renewed old.host) then e (subst (λ (t : Stepped). Owes t.node.host e) did owes))).0
+renewed_free (NudgeGrain grain) e renews old nudged is numbered owes =
+    let did : having_nudged_grain (record old { host = renewed_about grain old.host }) grain ≡ nudged = grain_nudge_is old grain nudged is in
+    renewed_about_from old.host grain e (subst (λ (t : Stepped). Owes t.node.host e) (sym did) owes) renews
+renewed_free other e renews old nudged is numbered owes = absurd renews
 
 -- ---- when it is refused
 refused_so : (b : Bool) (stepped : Stepped) (number : ℕ) → cond {A = Result Stepped ℕ} (not b) (Err 805) (Ok stepped) ≡ Err number

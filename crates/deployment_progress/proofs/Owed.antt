@@ -277,11 +277,12 @@ module _ (node : Node) where
     forgoes = λ letter range body there seen. same h (λ x has. has) (omega arith);
     lags = λ letter range seen. same h (λ x has. has) (omega arith);
     passed = λ letter range seen. same h (λ x has. has) (omega arith);
-    reports = λ letter range body now seen. same h (λ x has. has) (omega arith);
+    reports = λ letter range after body now seen. same h (λ x has. has) (omega arith);
     gathers = λ letter page gathering taken is seen. same h (λ x has. has) (omega arith);
     installs = λ letter page entries taken is seen. same h (λ x has. has) (omega arith);
     drops = λ letter page left taken is seen. same h (λ x has. has) (omega arith);
     turns = λ letter range piece body its awaits seen. same h (λ x has. has) (omega arith);
+    continues = λ letter report recovery taken is seen. same h (λ x has. has) (omega arith);
     collects = λ letter report recovery taken is seen. same h (λ x has. has) (omega arith);
     completes = λ letter report table taken is seen. same h (λ x has. has) (omega arith);
     takes_over = λ letter entry body now may seen. starts entry.grain (Some entry.activation);

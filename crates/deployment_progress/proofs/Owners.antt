@@ -1,5 +1,5 @@
 -- Where all ranges of all silos are settled, they stay so, and the owner of a hash has it settled.
-use Rattle.std.proofs.Common.{◌≡◌, sym, ap, subst, ◌∙◌, ℕ, ◌<◌, List, [], ◌∷◌, inl, inr}
+use Rattle.std.proofs.Common.{arith, ◌≡◌, sym, ap, subst, ◌∙◌, ℕ, ◌<◌, List, [], ◌∷◌, inl, inr}
 use Rattle.std.specs.Prelude.{All, Option, Some}
 use Rattle.std.specs.Ordering.{nat_cmp}
 use Rattle.std.specs.BTreeMap.{is_at}
@@ -23,6 +23,7 @@ use Rattle.directory_rules.specs.World.{current_ring}
 use Rattle.directory_facts.proofs.Entries.{found_so}
 use Rattle.directory_facts.proofs.Hashes.{grains_have_hashes}
 use Rattle.directory_headline.proofs.Settings.{owner_active}
+use Rattle.directory_rules.proofs.People.{live_said}
 use Rattle.directory_rules.specs.Membership.{Membership}
 use Rattle.progress_rules.specs.Gathers.{AwaitsFrom}
 use Rattle.progress_rules.specs.Plan.{IsSettledPiece}
@@ -113,7 +114,8 @@ module _ (d : Deployment) (r : IsAtRest d) where
       let c = rest_carried its.world its.rests in
       let owns_it : owner_silo (current_ring its.world) hash ≡ Some owner = ap (λ ps. owner_silo ps hash) same_ring ∙ owns in
       let active = owner_active its.world.views its.world.views.version its.world.places hash owner c.facts.peopled.whole owns_it in
-      let own = lives d r silo node there owner (c.facts.peopled.live owner ∙ ap (λ (o : Option Status). is_live o) active) in
+      let said = live_said its.world.views c.facts.peopled.whole its.world.views.version (omega arith) owner in
+      let own = lives d r silo node there owner (c.facts.peopled.live owner ∙ sym said ∙ ap (λ (o : Option Status). is_live o) active) in
       let piece = owns_piece its.world its.rests owner (node_with_room its.events its.letters own.0) (in_world d r owner own.0 own.1) hash below (all owner own.0 own.1) owns_it in
       record { node = own.0; there = own.1; piece = piece.0; found = piece.1; settled = piece.2 }
 

@@ -1,5 +1,5 @@
 -- In the quiet each step is one of a silo's node that sees no version, or none at all.
-use Rattle.std.proofs.Common.{arith, ◌≡◌, ◌≢◌, ℕ, ◌+◌, [], ◌∷◌, ◌++◌, refl, sym, ap, ◌∙◌, subst, drop, append-nil, ◌⊎◌, inl, inr}
+use Rattle.std.proofs.Common.{arith, ◌≡◌, ◌≢◌, ℕ, ◌+◌, [], ◌∷◌, ◌++◌, refl, sym, ap, ◌∙◌, subst, append-nil, ◌⊎◌, inl, inr}
 use Rattle.std.specs.Prelude.{⊤, Bool, true, false, not, is_some, nat_lt, nat_le, slice_get, if◌then◌else◌, Option, Some, None, Result, Ok, Err}
 use Rattle.std.specs.Option.{option_map, unwrap_or}
 use Rattle.std.specs.BTreeMap.{is_at, insert_entry}
@@ -13,6 +13,8 @@ use Rattle.silo_address.proofs.Same.{Decides-silo}
 use Rattle.membership_view.specs.declared.status.Status.{Status}
 use Rattle.membership_view.specs.declared.status.Status.TheVariants.{Active, Leaving, Dead}
 use Rattle.membership_view.specs.View.{ViewValue}
+use Rattle.membership_view.specs.View.{status_of}
+use Rattle.membership_view.specs.Whole.{IsViews}
 use Rattle.membership_view.specs.Views.{ViewsValue, status_at, joining_version}
 use Rattle.directory_rules.specs.declared.effect.Effect.TheVariants.{Ignored}
 use Rattle.directory_rules.specs.Input.{Input, Sees, Does, Receives, step, sight_of}
@@ -23,15 +25,17 @@ use Rattle.directory_rules.specs.Step.{Stepped, silently}
 use Rattle.directory_rules.specs.declared.own_step.OwnStep.{OwnStep}
 use Rattle.directory_rules.proofs.Cases.{on_bool}
 use Rattle.directory_facts.proofs.Lookups.{found_put, found_beside_put}
-use Rattle.directory_rules.specs.Membership.{Change, Membership, barred_by, is_seeable}
+use Rattle.directory_rules.specs.Membership.{Change, Membership, barred_by, is_seeable, listing_of}
 use Rattle.silo_rules.specs.SiloValue.{SiloValue, own_status}
+use Rattle.silo_rules.specs.Begun.{told_view}
 use Rattle.silo_rules.specs.Steps.{barred, unless_barred, seen, does}
 use Rattle.silo_rules.specs.Told.{Heard, told}
 use Rattle.progress_rules.proofs.Covered.{view_kept}
 use Rattle.deployment_headline.specs.Deployment.{Deployment, process_of}
 use Rattle.deployment_headline.specs.Limits.{node_with_room}
-use Rattle.deployment_headline.specs.Steps.{Step, Decide, Tell, See, Do, Receive, IsStep, heard, took, tells, tells_at, does_at, sees_at, delivers, receives_at, after}
-use Rattle.deployment_headline.proofs.Memberships.{leads_to}
+use Rattle.deployment_headline.specs.Steps.{Step, Decide, Tell, Begin, See, Do, Receive, IsStep, heard, begins, took, tells, tells_at, begins_at, does_at, sees_at, delivers, receives_at, after}
+use Rattle.deployment_headline.proofs.StepEvents.{told_agrees}
+use Rattle.directory_rules.proofs.People.{live_said}
 use Rattle.deployment_headline.proofs.Runs.{one_more}
 use Rattle.deployment_headline.proofs.Sound.{its_process}
 use Rattle.deployment_headline.proofs.Worlds.{its_node}
@@ -130,6 +134,19 @@ module _ (d : Deployment) where
   tells_at_stays silo index None there = stayed
   tells_at_stays silo index (Some s) there = tells_stays silo s index (slice_get d.changes index) there
 
+  begins_stay : (silo : Silo) (s : SiloValue) (r : Result Membership ℕ) → process_of d silo ≡ Some s → HasStayed d (begins r d silo s)
+  begins_stay silo s (Err number) there = stayed
+  begins_stay silo s (Ok its) there =
+      record { membership = refl; nodes = put_same silo s (record s { membership = its }) there refl; written = refl }
+
+  begins_at_stays : (silo : Silo) (version : ℕ) (o : Option SiloValue) → process_of d silo ≡ o → HasStayed d (begins_at o d silo version)
+  begins_at_stays silo version None there = stayed
+  begins_at_stays silo version (Some s) there =
+      on_bool (λ b. HasStayed d (if b then
+      begins (told_view s.node.settings s.membership silo version (listing_of d.membership version)) d silo s else d))
+      (nat_le version d.membership.views.version)
+      (λ t. begins_stay silo s (told_view s.node.settings s.membership silo version (listing_of d.membership version)) there) (λ f. stayed)
+
   module _ (r : IsAtRest d) where
     -- ---- a silo at rest is told all, and isn't barred
     pub record IsIn (silo : Silo) (s : SiloValue) : Type 0 where
@@ -147,7 +164,7 @@ module _ (d : Deployment) where
     is_in silo s there =
         let m = s.membership in
         let its = its_process d (its_sound d r) silo s there in
-        let to = (leads_to d.settings m d.membership (drop m.views.version d.changes) its.told.are its.told.leads).0 in
+        let to = told_agrees d.settings d.changes d.membership m silo its.told in
         let within = (its_wholes d r silo s there).seen.within in
         let last = r.seen silo s there in
         let low = to.version in
@@ -157,10 +174,14 @@ module _ (d : Deployment) where
         subst (λ (v : ViewsValue). is_live (status_at v v.version silo) ≡ true) w.views
         (sym (w.peopled.live silo) ∙ ap (λ (o : Option Node). is_some o)
         (w.nodes silo ∙ ap (λ (o : Option SiloValue). option_map (node_with_room w.events w.letters) (option_map its_node o)) there)) in
-        let views : status_at d.membership.views m.views.version silo ≡ status_at m.views m.views.version silo = ap (λ (v : ViewValue). lookup (is_at (silo_cmp silo)) v.rows) (to.views m.views.version (omega arith)) in
-        let status : own_status s ≡ status_at d.membership.views d.membership.views.version silo =
-        ap (λ q. status_at m.views m.views.version q) its.address ∙ sym views ∙ ap (λ v. status_at d.membership.views v silo) version in
-        record { told = version; address = its.address; free = free_of (own_status s) (ap is_live status ∙ live) }
+        let all : IsViews d.membership.views = subst (λ (v : ViewsValue). IsViews v) w.views w.peopled.whole in
+        let own : is_live (status_at m.views m.views.version silo) ≡ true =
+        sym (live_said m.views its.told.are.whole m.views.version (omega arith) silo)
+        ∙ ap (λ (v : ViewValue). is_live (status_of v silo)) (sym (to.views m.views.version its.told.are.whole.first_upto (omega arith)))
+        ∙ live_said d.membership.views all m.views.version low silo
+        ∙ ap (λ v. is_live (status_at d.membership.views v silo)) version ∙ live in
+        let its_own : is_live (own_status s) ≡ true = ap (λ q. is_live (status_at m.views m.views.version q)) its.address ∙ own in
+        record { told = version; address = its.address; free = free_of (own_status s) its_own }
 
     pub does_is : (silo : Silo) (s : SiloValue) → process_of d silo ≡ Some s → (input : Input) → does s input ≡ step s.node input
     does_is silo s there input = ap (λ o. unless_barred o (step s.node input)) (is_in silo s there).free
@@ -214,6 +235,7 @@ module _ (d : Deployment) where
     unfolding after
     quiet_moves (Decide change) none = absurd none
     quiet_moves (Tell silo index) none = inl (tells_at_stays silo index (process_of d silo) refl)
+    quiet_moves (Begin silo version) none = inl (begins_at_stays silo version (process_of d silo) refl)
     quiet_moves (See silo version) none = inl (sees_at_stays silo version (process_of d silo) refl)
     quiet_moves (Do silo step) none = does_moves (Do silo step) silo (Does step) tt (process_of d silo) refl
     quiet_moves (Receive silo index) none = receives_moves silo index (process_of d silo) refl

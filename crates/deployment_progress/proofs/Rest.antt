@@ -13,9 +13,9 @@ use Rattle.directory_rules.specs.Happens.{node_of}
 use Rattle.directory_rules.specs.Laws.{ArePeopled}
 use Rattle.directory_rules.proofs.Peopled.{peopled_after}
 use Rattle.directory_facts.specs.Laws.{world_by}
-use Rattle.directory_facts.proofs.SeenRings.{seen_keep}
 use Rattle.silo_rules.specs.SiloValue.{SiloValue}
 use Rattle.silo_rules.specs.Whole.{IsWhole}
+use Rattle.silo_rules.proofs.Whole.{first_are}
 use Rattle.progress_rules.specs.ComeBack.{HaveSeen}
 use Rattle.progress_rules.specs.Pages.{AwaitedAreLive}
 use Rattle.progress_rules.proofs.Resting.{IsResting}
@@ -72,6 +72,8 @@ roomy_settings its events letters are some any = record {
   finds_within = are.finds_within;
   last_above = are.last_above;
   last_within = are.last_within;
+  report_above = are.report_above;
+  report_within = are.report_within;
 }
 
 with_same : (e l : ℕ) (o : Option SiloValue) → option_map its_node (option_map (process_with_room e l) o) ≡ option_map (node_with_room e l)
@@ -149,7 +151,7 @@ module _ (d : Deployment) (r : IsAtRest d) where
   its_world = subst HasWorld (sym r.is) (world_there r.settings r.steps r.are r.named (subst HaveAllSeen r.is r.seen))
 
   sound_first_so : Sound (first_deployment r.settings)
-  sound_first_so = sound_first r.settings (seen_keep.first r.settings r.are)
+  sound_first_so = sound_first r.settings (first_are r.settings r.are)
 
   pub its_sound : Sound d
   its_sound = subst Sound (sym r.is) (sound_after (first_deployment r.settings) sound_first_so r.steps)

@@ -60,11 +60,12 @@ module _ (node : Node) where
     forgoes = λ letter range body there seen silo. inl refl;
     lags = λ letter range seen silo. inl refl;
     passed = λ letter range seen silo. inl refl;
-    reports = λ letter range body now seen silo. inl refl;
+    reports = λ letter range after body now seen silo. inl refl;
     gathers = λ letter page gathering taken is seen silo. inl refl;
     installs = λ letter page entries taken is seen silo. inl refl;
     drops = λ letter page left taken is seen silo. inl refl;
     turns = λ letter range piece body its awaits seen silo. inl refl;
+    continues = λ letter report recovery taken is seen silo. inl refl;
     collects = λ letter report recovery taken is seen silo. inl refl;
     completes = λ letter report table taken is seen silo. inl refl;
     takes_over = λ letter entry body now may seen silo. inl refl;

@@ -54,11 +54,12 @@ module _ (P : Snapshot → Type 0) (node : Node) where
     forgoes = λ letter range body there seen all. All-filter (λ s. not (is_snapshot letter.version range letter.from s)) P node.shelf all;
     lags = λ letter range seen all. all;
     passed = λ letter range seen all. all;
-    reports = λ letter range body now seen all. all;
+    reports = λ letter range after body now seen all. all;
     gathers = λ letter page gathering taken is seen all. all;
     installs = λ letter page entries taken is seen all. all;
     drops = λ letter page left taken is seen all. all;
     turns = λ letter range piece body its awaits seen all. all;
+    continues = λ letter report recovery taken is seen all. all;
     collects = λ letter report recovery taken is seen all. all;
     completes = λ letter report table taken is seen all. all;
     takes_over = λ letter entry body now may seen all. all;

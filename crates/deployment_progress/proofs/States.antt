@@ -21,7 +21,7 @@ use Rattle.directory_facts.proofs.Lookups.{found_set, found_beside_set}
 use Rattle.progress_rules.specs.Gathers.{AwaitsFrom}
 use Rattle.progress_rules.specs.Waits.{Recovers, Awaits}
 use Rattle.progress_rules.proofs.Two.{both_true}
-use Rattle.deployment_progress.specs.Waits.{HasSettled, WaitsForLess}
+use Rattle.deployment_progress.specs.Waits.{HasSettled, HasToldOn, WaitsForLess}
 
 -- a piece in one of its states
 abbrev pub IsIn : (PieceState → Bool) → Node → Range → Type 0
@@ -82,18 +82,21 @@ pages_grow before after so range giver waits =
       ],
     )
 
-module _ (before after : Node) (pages : HasPagesSo before after)
-    (reports : (range : Range) (silo : Silo) → Recovers before range → Awaits after range silo → Awaits before range silo) where
+module _ (before after : Node) (settings : after.settings ≡ before.settings) (pages : HasPagesSo before after)
+    (reports : (range : Range) (silo : Silo) → Recovers before range → Awaits after range silo
+    → Awaits before range silo × HasToldOn before after range silo) where
   -- where each piece is in the state that it was in
   pub same_states : ((test : PieceState → Bool) (range : Range)
       → has_range test range (piece_at after range) ≡ has_range test range (piece_at before range)) → GoesOn before after
   same_states same = record {
     less = record {
+      settings = settings;
       settled = λ range is. same is_settled range ∙ is;
       recovers = λ range is. inl (same is_recovering range ∙ is);
       awaits = λ range giver is. inl (same (is_awaiting_from giver) range ∙ is);
       recovered = λ range is. inl (sym (same is_recovering range) ∙ is);
-      reports = reports;
+      reports = λ range silo was waits. (reports range silo was waits).0;
+      told = λ range silo was waits. (reports range silo was waits).1;
       pages = pages_grow before after pages;
     };
     pages = pages;
@@ -110,6 +113,7 @@ module _ (before after : Node) (pages : HasPagesSo before after)
         → (is_recovering new ≡ true → (giver : Silo) × (is_awaiting_from giver old ≡ true)) → GoesOn before after
     one_moves settled recovers awaits recovered = record {
       less = record {
+        settings = settings;
         settled = λ range is.
             elim (states range) [
               | inl same ↦ same is_settled ∙ is
@@ -140,7 +144,8 @@ module _ (before after : Node) (pages : HasPagesSo before after)
                   let from = recovered so.1 in
                   inr (from.0, (at (is_awaiting_from from.0)).1 ∙ both_true (range_eq its range) (is_awaiting_from from.0 old) so.0 from.1)
             ];
-        reports = reports;
+        reports = λ range silo was waits. (reports range silo was waits).0;
+        told = λ range silo was waits. (reports range silo was waits).1;
         pages = pages_grow before after pages;
       };
       pages = pages;

@@ -1,6 +1,6 @@
 -- Each process of a deployment is whole: what it has seen, it was told.
 use Rattle.std.proofs.Common.{◌≡◌, ℕ, ◌+◌, List, [], ◌∷◌, refl, sym, subst}
-use Rattle.std.specs.Prelude.{All, slice_get, Option, Some, None, Result, Ok, Err}
+use Rattle.std.specs.Prelude.{All, slice_get, nat_le, if◌then◌else◌, Option, Some, None, Result, Ok, Err}
 use Rattle.std.specs.BTreeMap.{is_at, insert_entry}
 use Rattle.std.proofs.lemmas.List.Elements.{All-nil}
 use Rattle.silo_address.specs.Silo.{Silo, silo_cmp}
@@ -11,7 +11,9 @@ use Rattle.directory_rules.specs.Input.{Input, Does}
 use Rattle.directory_rules.specs.State.{Letter}
 use Rattle.directory_rules.specs.Step.{Stepped}
 use Rattle.directory_facts.proofs.Entries.{all_put, all_removed, found_so}
-use Rattle.directory_rules.specs.Membership.{Change, Join, Leave, Die, Membership, changed}
+use Rattle.directory_rules.specs.Membership.{Change, Join, Leave, Die, Membership, changed, listing_of}
+use Rattle.directory_rules.proofs.Cases.{on_bool}
+use Rattle.silo_rules.specs.Begun.{told_view}
 use Rattle.silo_rules.specs.NodeInputs.{IsNoSight}
 use Rattle.silo_rules.specs.SiloValue.{SiloValue, first_silo}
 use Rattle.silo_rules.specs.Steps.{does, sees, receives}
@@ -19,7 +21,7 @@ use Rattle.silo_rules.specs.Told.{Heard, told}
 use Rattle.silo_rules.specs.Whole.{IsWhole}
 use Rattle.silo_rules.proofs.Lawful.{stays_whole}
 use Rattle.deployment_headline.specs.Deployment.{Deployment, first_deployment, process_of}
-use Rattle.deployment_headline.specs.Steps.{Step, Decide, Tell, See, Do, Receive, without, processes_after, decided, heard, took, tells, tells_at, does_at, sees_at, delivers, receives_at, after, after_all}
+use Rattle.deployment_headline.specs.Steps.{Step, Decide, Tell, Begin, See, Do, Receive, without, processes_after, decided, heard, begins, took, tells, tells_at, begins_at, does_at, sees_at, delivers, receives_at, after, after_all}
 use Rattle.deployment_headline.proofs.Sound.{Sound, keeps}
 
 abbrev IsWholeAt : Silo × SiloValue → Type 0
@@ -72,6 +74,20 @@ module _ (d : Deployment) (are : AreSettings d.settings) (wholes : AreWholes d) 
   tells_at_whole silo index None there = wholes
   tells_at_whole silo index (Some s) there = tells_whole silo s index (slice_get d.changes index) there
 
+  begins_whole : (silo : Silo) (s : SiloValue) (r : Result Membership ℕ)
+      → ((its : Membership) → r ≡ Ok its → IsWhole (record s { membership = its })) → AreWholes (begins r d silo s)
+  begins_whole silo s (Err number) so = wholes
+  begins_whole silo s (Ok its) so = put silo (record s { membership = its }) (so its refl)
+
+  begins_at_whole : (silo : Silo) (version : ℕ) (o : Option SiloValue) → process_of d silo ≡ o → AreWholes (begins_at o d silo version)
+  begins_at_whole silo version None there = wholes
+  begins_at_whole silo version (Some s) there =
+      on_bool (λ b. AreWholes (if b then
+      begins (told_view s.node.settings s.membership silo version (listing_of d.membership version)) d silo s else d))
+      (nat_le version d.membership.views.version)
+      (λ t. begins_whole silo s (told_view s.node.settings s.membership silo version (listing_of d.membership version))
+      (λ its is. stays_whole.begins s silo version (listing_of d.membership version) its (its_whole silo s there) is)) (λ f. wholes)
+
   sees_at_whole : (silo : Silo) (version : ℕ) (o : Option SiloValue) → process_of d silo ≡ o → AreWholes (sees_at o d silo version)
   sees_at_whole silo version None there = wholes
   sees_at_whole silo version (Some s) there =
@@ -96,6 +112,7 @@ module _ (d : Deployment) (are : AreSettings d.settings) (wholes : AreWholes d) 
   unfolding after
   whole_after (Decide c) = decided_whole c (changed d.settings d.membership c)
   whole_after (Tell silo index) = tells_at_whole silo index (process_of d silo) refl
+  whole_after (Begin silo version) = begins_at_whole silo version (process_of d silo) refl
   whole_after (See silo version) = sees_at_whole silo version (process_of d silo) refl
   whole_after (Do silo step) = does_at_whole silo (Does step) tt (process_of d silo) refl
   whole_after (Receive silo index) = receives_at_whole silo index (process_of d silo) refl

@@ -18,6 +18,7 @@ use Rattle.directory_rules.specs.Step.{Stepped, having_nudged}
 use Rattle.directory_rules.specs.declared.own_step.OwnStep.TheVariants.{Nudge}
 use Rattle.directory_rules.specs.Worked.{silo_a, silo_b}
 use Rattle.directory_facts.proofs.Entries.{found_so}
+use Rattle.progress_rules.specs.Room.{report_count}
 use Rattle.silo_rules.specs.SiloValue.{SiloValue, first_silo}
 use Rattle.silo_rules.specs.Steps.{barred, unless_barred, does}
 use Rattle.deployment_headline.specs.Deployment.{process_of}
@@ -42,6 +43,12 @@ one_page zero d below zero x few = omega arith
 one_page zero d below (suc k) x few = absurd (omega (few, arith))
 one_page (suc zero) d below k x few = absurd (omega (few, arith))
 one_page (suc (suc k)) d below j x few = absurd (omega (below, arith))
+
+one_told : All (λ (e : Silo × SiloValue). report_count worked.settings.report_size (length e.1.node.host.held) ≤ 1) worked.processes
+unfolding after after_all cut_parts stated_hash digits
+one_told zero d below = omega arith
+one_told (suc zero) d below = omega arith
+one_told (suc (suc k)) d below = absurd (omega (below, arith))
 
 process : SiloValue
 process = unwrap_or (process_of worked silo_b) (first_silo worked_settings silo_b)
@@ -123,6 +130,9 @@ worked_exchange = record {
   few =
       λ silo s there. (found_so (λ (e : Silo × SiloValue). All (λ x. page_count (length x.entries) ≤ 1) e.1.node.shelf)
       (is_at (silo_cmp silo)) s worked.processes one_page there).2;
+  held =
+      λ silo s there. (found_so (λ (e : Silo × SiloValue). report_count worked.settings.report_size (length e.1.node.host.held) ≤ 1)
+      (is_at (silo_cmp silo)) s worked.processes one_told there).2;
   awaits = worked_awaits;
   is = worked_is;
   settled = worked_settled;

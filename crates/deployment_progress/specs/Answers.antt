@@ -1,11 +1,14 @@
 -- A query and an ask are answered whenever they come, and their answers count whenever they come back.
-use Rattle.std.specs.Prelude.{◌≡◌, ℕ, ◌<◌, ◌≤◌, ◌⊎◌, List, [], ◌∷◌, ◌++◌, length, Some, slice_get}
+use Rattle.std.specs.Prelude.{◌≡◌, ℕ, ◌<◌, ◌≤◌, ◌⊎◌, List, [], ◌∷◌, ◌++◌, length, Option, Some, slice_get}
 use Rattle.silo_address.specs.Silo.{Silo}
+use Rattle.silo_address.specs.Grain.{Grain}
 use Rattle.ring_range.specs.Range.{Range}
+use Rattle.hash_ring.specs.Hash.{hash_grain}
 use Rattle.directory_rules.specs.State.{Letter}
-use Rattle.directory_rules.specs.Sent.{gathering_of}
+use Rattle.directory_rules.specs.Recovery.{told_by}
+use Rattle.directory_rules.specs.Sent.{gathering_of, recovery_of}
 use Rattle.silo_rules.specs.SiloValue.{SiloValue}
-use Rattle.progress_rules.specs.Waits.{Awaits}
+use Rattle.progress_rules.specs.Waits.{Recovers, Awaits, IsFurther, IsUpTo}
 use Rattle.progress_rules.specs.Gathers.{AwaitsFrom}
 use Rattle.progress_rules.specs.Covered.{IsQueryFor, IsReportFor}
 use Rattle.progress_rules.specs.Pages.{IsAskFor, IsPageFor, IsMissingFor}
@@ -22,17 +25,23 @@ there_and_back d silo index between back = Receive silo index ∷ between ++ Rec
 abbrev pub IsFirstWritten : Deployment → Step → Letter → Type 0
 IsFirstWritten d step letter = slice_get (after d step).written (length d.written) ≡ Some letter
 
--- when the letter comes to the silo, this answers with its report, and once that comes back the owner doesn't await it
-pub record IsReported (d : Deployment) (owner silo : Silo) (range : Range) (index : ℕ) (between : List Step) : Type 0 where
+-- When the letter comes to the silo, this answers with its report behind the same grain. Once that comes back, an owner that recovered the
+-- range, and had been told up to that grain or further, doesn't await the silo any more, or has been told further than that.
+pub record IsReported
+    (d : Deployment) (owner silo : Silo) (range : Range) (behind : Option Grain) (index : ℕ) (between : List Step) : Type 0 where
   pub answer : Letter
   pub written : IsFirstWritten d (Receive silo index) answer
-  pub report : IsReportFor d.settings.hashing d.membership.views.version owner range silo answer
-  pub struck : (t : SiloValue) → process_of (after_all d (there_and_back d silo index between owner)) owner ≡ Some t → ¬ Awaits t.node range silo
+  pub report : IsReportFor d.settings.hashing d.membership.views.version owner range silo behind answer
+  pub further : (t u : SiloValue) → process_of d owner ≡ Some t → Recovers t.node range
+      → IsUpTo (hash_grain d.settings.hashing) range behind (told_by silo (recovery_of t.node range))
+      → process_of (after_all d (there_and_back d silo index between owner)) owner ≡ Some u → Awaits u.node range silo
+      → IsFurther (hash_grain d.settings.hashing) range behind (told_by silo (recovery_of u.node range))
 
 -- so it is with each query of the last version
 abbrev pub QueriesAreAnswered : Type 0
-QueriesAreAnswered = WhileQuiet (λ d between. (owner silo : Silo) (s : SiloValue) (range : Range) (index : ℕ) (query : Letter)
-    → process_of d silo ≡ Some s → slice_get d.written index ≡ Some query → IsQueryFor d.membership.views.version owner range silo query → IsReported d owner silo range index between)
+QueriesAreAnswered = WhileQuiet (λ d between. (owner silo : Silo) (s : SiloValue) (range : Range) (behind : Option Grain) (index : ℕ) (query : Letter)
+    → process_of d silo ≡ Some s → slice_get d.written index ≡ Some query → IsQueryFor d.membership.views.version owner range silo behind query
+    → IsReported d owner silo range behind index between)
 
 -- when the letter comes to the silo, this answers with the page or that there is none, and once that comes back the owner, if it had all
 -- pages before, has that one too, or it awaits no snapshot of the range from there any more

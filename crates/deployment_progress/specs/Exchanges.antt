@@ -1,11 +1,13 @@
 -- Exchanges: a silo is nudged, of all that it waits for or of its ranges alone, each ask and query that it writes then comes to its
 -- receiver, and the answer to each comes back.
-use Rattle.std.specs.Prelude.{⊤, ◌≡◌, ℕ, ◌+◌, ◌<◌, ◌≤◌, List, [], ◌∷◌, ◌++◌, All, length, flat_map, Some, Ok, Err, slice_get}
+use Rattle.std.specs.Prelude.{⊤, ◌≡◌, ◌⊎◌, ℕ, ◌+◌, ◌<◌, ◌≤◌, List, [], ◌∷◌, ◌++◌, All, length, flat_map, Some, Ok, Err, slice_get}
 use Rattle.silo_address.specs.Silo.{Silo, IsSilo}
 use Rattle.ring_range.specs.Range.{Range}
+use Rattle.hash_ring.specs.Hash.{hash_grain}
 use Rattle.directory_rules.specs.Input.{Does}
 use Rattle.directory_rules.specs.State.{Letter, Body, Request_letter, Reply_letter, Ask_letter, Page_letter, Missing_letter, Done_letter, Query_letter, Report_letter, Behind_letter, Ahead_letter, Offer_letter, Node}
-use Rattle.directory_rules.specs.Sent.{gathering_of}
+use Rattle.directory_rules.specs.Recovery.{told_by}
+use Rattle.directory_rules.specs.Sent.{gathering_of, recovery_of}
 use Rattle.directory_rules.specs.Snapshot.{page_count}
 use Rattle.directory_rules.specs.declared.own_step.OwnStep.{OwnStep}
 use Rattle.directory_rules.specs.declared.own_step.OwnStep.TheVariants.{Nudge, NudgeGrain, NudgeRanges}
@@ -13,7 +15,8 @@ use Rattle.directory_rules.specs.Step.{Stepped}
 use Rattle.silo_rules.specs.SiloValue.{SiloValue}
 use Rattle.silo_rules.specs.Steps.{does}
 use Rattle.progress_rules.specs.Plan.{IsSettledPiece}
-use Rattle.progress_rules.specs.Waits.{Recovers}
+use Rattle.progress_rules.specs.Room.{report_count}
+use Rattle.progress_rules.specs.Waits.{Recovers, Awaits, IsFurther}
 use Rattle.progress_rules.specs.Gathers.{AwaitsFrom}
 use Rattle.deployment_headline.specs.Deployment.{Deployment, process_of}
 use Rattle.deployment_headline.specs.Steps.{Step, Do, Receive, IsStep, after, after_all}
@@ -37,7 +40,7 @@ IsWant (Ask_letter range page) = ⊤
 IsWant (Page_letter page) = ⊥
 IsWant (Missing_letter range) = ⊥
 IsWant (Done_letter range) = ⊥
-IsWant (Query_letter range) = ⊤
+IsWant (Query_letter range after) = ⊤
 IsWant (Report_letter report) = ⊥
 IsWant (Behind_letter range) = ⊥
 IsWant (Ahead_letter range) = ⊥
@@ -81,9 +84,12 @@ abbrev pub ExchangesCanBe : Type 0
 ExchangesCanBe = (d : Deployment) (silo : Silo) (part : OwnStep) (s : SiloValue) (nudged : Stepped) → SendsWants part → IsSilo silo → process_of d silo ≡ Some s → does s (Does part) ≡ Ok nudged
     → (steps : List Step) × All IsStep steps × All DecidesNone steps × (x : IsExchange d silo steps) × (x.part ≡ part)
 
--- from the one node to the other each range gets on: one that recovered is settled, and one that awaits a snapshot still has a page more
+-- From the one node to the other each range gets on: one that recovered is settled, or silos are awaited there still, and each of these has
+-- told further; and one that awaits a snapshot still has a page more.
 pub record GetsOn (before after : Node) : Type 0 where
-  pub recovers : (range : Range) → Recovers before range → HasSettled after range
+  pub recovers : (range : Range) → Recovers before range → HasSettled after range ⊎ ((silo : Silo) × Awaits after range silo)
+  pub told : (range : Range) (silo : Silo) → Recovers before range → Awaits after range silo
+      → IsFurther (hash_grain before.settings.hashing) range (told_by silo (recovery_of before range)) (told_by silo (recovery_of after range))
   pub awaits : (range : Range) (giver : Silo) → AwaitsFrom before range giver → AwaitsFrom after range giver → (gathering_of before range).next < (gathering_of after range).next
 
 -- so it is in each exchange
@@ -99,6 +105,10 @@ AreExchanges d silo (steps ∷ more) = IsExchange d silo steps × AreExchanges (
 abbrev pub HaveAtMost : (pages : ℕ) → Deployment → Type 0
 HaveAtMost pages d = EachProcess (λ silo s. All (λ x. page_count (length x.entries) ≤ pages) s.node.shelf) d
 
+-- no silo holds more activations than it can tell in so many reports
+abbrev pub HoldAtMost : (reports : ℕ) → Deployment → Type 0
+HoldAtMost reports d = EachProcess (λ silo s. report_count d.settings.report_size (length s.node.host.held) ≤ reports) d
+
 -- in the steps the silo has at least so many exchanges, one after the other
 pub record HasExchanges (d : Deployment) (silo : Silo) (many : ℕ) (steps : List Step) : Type 0 where
   pub before : List Step
@@ -107,10 +117,10 @@ pub record HasExchanges (d : Deployment) (silo : Silo) (many : ℕ) (steps : Lis
   pub are : AreExchanges (after_all d before) silo exchanges
   pub enough : many ≤ length exchanges
 
--- after as many exchanges as a snapshot has pages, and two more, the silo has all its ranges settled
+-- after as many exchanges as a snapshot has pages, as many as a silo has reports, and one more, the silo has all its ranges settled
 abbrev pub RangesSettle : Type 0
-RangesSettle = WhileQuiet (λ d steps. (silo : Silo) (pages : ℕ) (t : SiloValue)
-    → HaveAtMost pages d → HasExchanges d silo (pages + 2) steps → process_of (after_all d steps) silo ≡ Some t → All IsSettledPiece t.node.holding.pieces)
+RangesSettle = WhileQuiet (λ d steps. (silo : Silo) (pages reports : ℕ) (t : SiloValue) → HaveAtMost pages d → HoldAtMost reports d
+    → HasExchanges d silo (pages + reports + 1) steps → process_of (after_all d steps) silo ≡ Some t → All IsSettledPiece t.node.holding.pieces)
 
 -- all ranges of all silos are settled
 abbrev pub HaveAllSettled : Deployment → Type 0
@@ -118,4 +128,5 @@ HaveAllSettled d = EachProcess (λ silo s. All IsSettledPiece s.node.holding.pie
 
 -- so they are where each silo has so many, whichever comes first; in an exchange of one silo there may be others'
 abbrev pub AllRangesSettle : Type 0
-AllRangesSettle = WhileQuiet (λ d steps. (pages : ℕ) → HaveAtMost pages d → EachProcess (λ silo s. HasExchanges d silo (pages + 2) steps) d → HaveAllSettled (after_all d steps))
+AllRangesSettle = WhileQuiet (λ d steps. (pages reports : ℕ) → HaveAtMost pages d → HoldAtMost reports d
+    → EachProcess (λ silo s. HasExchanges d silo (pages + reports + 1) steps) d → HaveAllSettled (after_all d steps))

@@ -2,13 +2,14 @@
 use Rattle.std.specs.Prelude.{⊤, ◌≡◌, List, All}
 use Rattle.directory_rules.specs.Settings.{Settings, AreSettings}
 use Rattle.deployment_headline.specs.Deployment.{Deployment}
-use Rattle.deployment_headline.specs.Steps.{Step, Decide, Tell, See, Do, Receive, IsStep, deployed}
+use Rattle.deployment_headline.specs.Steps.{Step, Decide, Tell, Begin, See, Do, Receive, IsStep, deployed}
 use Rattle.deployment_headline.specs.Theorems.{EachProcess}
 
 -- the step decides no change
 abbrev pub DecidesNone : Step → Type 0
 DecidesNone (Decide change) = ⊥
 DecidesNone (Tell silo index) = ⊤
+DecidesNone (Begin silo version) = ⊤
 DecidesNone (See silo version) = ⊤
 DecidesNone (Do silo step) = ⊤
 DecidesNone (Receive silo index) = ⊤

@@ -12,7 +12,7 @@ use Rattle.deployment_headline.specs.Deployment.{Deployment}
 use Rattle.deployment_headline.specs.Steps.{Step, Decide, Tell, See, Do, Receive, after, after_all, deployed}
 use Rattle.deployment_headline.specs.Worked.{worked_settings, all_told, opening, joining}
 use Rattle.deployment_progress.specs.Quiet.{HaveAllSeen}
-use Rattle.deployment_progress.specs.Exchanges.{IsNudged, IsExchange, HaveAtMost}
+use Rattle.deployment_progress.specs.Exchanges.{IsNudged, IsExchange, HaveAtMost, HoldAtMost}
 use Rattle.deployment_progress.specs.Requests.{IsServed}
 
 abbrev pub worked : Deployment
@@ -26,6 +26,7 @@ exchanging = Do silo_b Nudge ∷ Receive silo_a 5 ∷ Receive silo_b 6 ∷ []
 pub record WorkedExchange : Type 0 where
   pub seen : HaveAllSeen worked
   pub few : HaveAtMost 1 worked
+  pub held : HoldAtMost 1 worked
   pub awaits : all_told worked ≡ (2, 2, Firm ∷ [], (Settled, 0) ∷ []) ∷ (2, 2, [], (Awaiting silo_a, 0) ∷ []) ∷ []
   pub is : IsExchange worked silo_b exchanging
   pub settled : all_told (after_all worked exchanging) ≡ (2, 2, Firm ∷ [], (Settled, 0) ∷ []) ∷ (2, 2, [], (Settled, 1) ∷ []) ∷ []

@@ -8,13 +8,14 @@ ghost use Rattle.deployment_progress.specs.Requests.{OldRequestsEnd, RequestsEnd
 ghost use Rattle.deployment_progress.specs.Waits.{SilosWaitForLess};
 ghost use Rattle.deployment_progress.specs.Worked.{WorkedExchange, WorkedRequest};
 
-/// A silo only waits for less: a report that has come is awaited no more, pages that were had stay had, and what is settled stays
-/// settled.
+/// A silo only waits for less: who has told all is awaited no more, what others have told stays told, pages that were had stay had, and
+/// what is settled stays settled.
 pub fn silos_wait_for_less()
     ensures { SilosWaitForLess }
 {}
 
-/// A query of the last version is answered by a report whenever it comes, and that strikes off the report whenever it comes back.
+/// A query of the last version is answered by a report whenever it comes. Whenever that comes back to an owner that had been told up to
+/// where the query asks, the silo is struck off there, or has told further.
 pub fn queries_are_answered()
     ensures { QueriesAreAnswered }
 {}
@@ -35,13 +36,15 @@ pub fn exchanges_can_be()
     ensures { ExchangesCanBe }
 {}
 
-/// In an exchange, such a nudge, each of whose asks and queries comes to its receiver and is answered, each
-/// range of the silo gets on: one that recovered is settled, and one that awaits a snapshot still has a page more.
+/// In an exchange, such a nudge, each of whose asks and queries comes to its receiver and is answered, each range of the silo gets on: one
+/// that recovered is settled, or each silo that is awaited there still has told further; and one that awaits a snapshot still has a page
+/// more.
 pub fn exchanges_get_on()
     ensures { ExchangesGetOn }
 {}
 
-/// Where a silo has as many exchanges as a snapshot on a shelf has pages at most, and two more, all its ranges are settled then.
+/// Where a silo has as many exchanges as a snapshot on a shelf has pages at most, as many more as a silo tells what it holds in reports at
+/// most, and one more, all its ranges are settled then.
 pub fn ranges_settle()
     ensures { RangesSettle }
 {}

@@ -185,9 +185,9 @@ fn play(settings: Settings) -> io::Result<u8> {
     }
 }
 
-/// The settings that the words choose, if they are known: `play [--hashing sha256|stated] [--points N] [--cache N]`.
+/// The settings that the words choose, if they are known: `play [--hashing sha256|stated] [--points N] [--cache N] [--report-size N]`.
 fn settings(words: &[String]) -> Option<Settings> {
-    let mut settings = Settings { is_stated: false, points: 30, cache: 1024 };
+    let mut settings = Settings { is_stated: false, points: 30, cache: 1024, report_size: 64 };
     let (first, options) = words.split_first()?;
     let options: Vec<&str> = options.iter().flat_map(|word| word.splitn(2, '=')).collect();
     for option in options.chunks(2) {
@@ -195,6 +195,7 @@ fn settings(words: &[String]) -> Option<Settings> {
             ["--hashing", hashing @ ("sha256" | "stated")] => settings.is_stated = *hashing == "stated",
             ["--points", points] => settings.points = points.parse().ok().filter(|points| (1..=128).contains(points))?,
             ["--cache", cache] => settings.cache = cache.parse().ok().filter(|cache| (1..=65_536).contains(cache))?,
+            ["--report-size", size] => settings.report_size = size.parse().ok().filter(|size| (1..=64).contains(size))?,
             _ => return None,
         }
     }
@@ -204,7 +205,7 @@ fn settings(words: &[String]) -> Option<Settings> {
 fn main() -> ExitCode {
     let words: Vec<String> = std::env::args().skip(1).collect();
     let Some(settings) = settings(&words) else {
-        eprintln!("usage: play [--hashing sha256|stated] [--points N] [--cache N]");
+        eprintln!("usage: play [--hashing sha256|stated] [--points N] [--cache N] [--report-size N]");
         return ExitCode::from(4);
     };
     match play(settings) {

@@ -49,6 +49,8 @@ pub struct Settings {
     pub points: u64,
     /// How many hints a silo's cache keeps.
     pub cache: usize,
+    /// How many entries a report has at most.
+    pub report_size: usize,
 }
 
 pub enum Event {
@@ -152,6 +154,7 @@ impl World {
             mail: Mail::default(),
             sealed: Vec::new(),
             reports: Vec::new(),
+            report_size: settings.report_size,
         };
         let current_ring = (0, Rc::default());
         World { settings, silos: Silos::default(), nodes: Vec::new(), commons, accepted: 0, current_ring }

@@ -3,22 +3,53 @@
 use crate::identities::{Address, hash_text};
 use crate::output::Output;
 use crate::process::{Process, Step};
-use crate::reading::Change;
-use crate::views::{Status, Version};
+use crate::reading::{Change, Listed};
+use crate::views::{Status, Version, Views};
 
 /// How many places a join may name.
 const MOST_PLACES: usize = 128;
 
 impl Process {
-    /// A change is told, with the version that it makes: 208 where it is the join of another process of this silo, then 207 where the
-    /// version is known and says otherwise, then 206 where it isn't the next.
+    /// A view is told in place of all changes up to it: 211 where anything was told before, then as its version is refused, then as the
+    /// silos that it lists are, and last 201 where the silo itself or a newer one of its endpoint is one of them.
+    pub fn begin(&mut self, version: Version, rows: Vec<Listed>) -> Step {
+        if self.views.version != 0 {
+            return Err(211);
+        }
+        let mut views = Views::beginning(version)?;
+        for Listed { silo, status, places } in rows {
+            views.may_list(silo)?;
+            let places = self.places_listed(silo, status, places)?;
+            views.list(silo, status, places);
+        }
+        views.may_join(self.name)?;
+        self.views = views;
+        self.out.word("view ").number(version).word(" begins\n");
+        Ok(())
+    }
+
+    /// The places of a silo that is listed: as at a join, but for a dead one, which has none, or 402.
+    fn places_listed(&self, silo: Address, status: Status, named: Vec<u32>) -> Result<Box<[u32]>, u16> {
+        match status {
+            Status::Dead if named.is_empty() => Ok(Box::default()),
+            Status::Dead => Err(402),
+            Status::Active | Status::Leaving => self.places(silo, named),
+        }
+    }
+
+    /// A change is told, with the version that it makes: 208 where it is the join of another process of this silo, then 212 where it is
+    /// from before the view with which all began, or from there, then 207 where the version is known and says otherwise, then 206 where it
+    /// isn't the next.
     pub fn told(&mut self, version: u64, change: Change) -> Step {
         if self.is_anothers(&change) {
             return Err(208);
         }
-        let current = u64::from(self.views.version);
+        let current = self.views.version;
         if version <= current {
-            if !self.is_known(version as Version, &change) {
+            if version != 0 && version <= self.views.first {
+                return Err(212);
+            }
+            if !self.is_known(version, &change) {
                 return Err(207);
             }
             self.out.word("known ").number(version).word("\n");

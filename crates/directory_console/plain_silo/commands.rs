@@ -87,7 +87,7 @@ impl Process {
         }
         self.host.close(activation);
         self.out.about("offered", activation, grain).word(" to ").address(to).word("\n");
-        self.out.letter(self.name, to, self.seen.into(), "offer").text(grain).word(" ").activation(activation).word("\n");
+        self.out.letter(self.name, to, self.seen, "offer").text(grain).word(" ").activation(activation).word("\n");
         Ok(())
     }
 
@@ -165,12 +165,12 @@ impl Process {
             match &piece.state {
                 State::Settled => {}
                 State::Awaiting { from, gathered } => {
-                    self.out.letter(self.name, *from, self.seen.into(), "ask").span(piece.range);
+                    self.out.letter(self.name, *from, self.seen, "ask").span(piece.range);
                     self.out.word(" ").number(gathered.next).word("\n");
                 }
-                State::Recovering { awaited, .. } => {
+                State::Recovering { awaited, told, .. } => {
                     for silo in awaited {
-                        self.out.letter(self.name, *silo, self.seen.into(), "query").span(piece.range).word("\n");
+                        self.out.query(self.name, *silo, self.seen, piece.range, told.get(silo));
                     }
                 }
             }
@@ -180,7 +180,7 @@ impl Process {
     /// An activation begins in the place of the one offered, unless the silo lags, isn't Active, holds one, or is full.
     pub fn take_offer(&mut self, version: u64, (grain, offered): Told) {
         let takes =
-            version <= self.seen.into() && self.is_active() && self.host.of_grain(grain).is_none() && !self.host.is_full();
+            version <= self.seen && self.is_active() && self.host.of_grain(grain).is_none() && !self.host.is_full();
         if takes {
             self.start(grain, Some(offered));
         } else {

@@ -5,8 +5,8 @@ pub use crate::words::{Address, hash_text, number};
 use crate::mixer::Map;
 use std::rc::Rc;
 
-/// The number of a silo among those that joined, in the order of their joins.
-pub type Silo = u16;
+/// The number of a silo among those that are known, in the order in which they came to be.
+pub type Silo = u32;
 
 /// A grain, as its text.
 pub type Grain = Rc<[u8]>;

@@ -22,8 +22,9 @@ pub enum Body<'a> {
     Page(Page<'a>),
     Missing { range: Span },
     Done { range: Span },
-    Query { range: Span },
-    Report { range: Span, entries: Vec<Told<'a>> },
+    /// Behind that grain, if one is named.
+    Query { range: Span, after: Option<&'a [u8]> },
+    Report(Report<'a>),
     Behind,
     Ahead,
     Offer { entry: Told<'a> },
@@ -34,6 +35,14 @@ pub struct Page<'a> {
     pub page: u64,
     pub pages: u64,
     pub digest: Hex,
+    pub entries: Vec<Told<'a>>,
+}
+
+/// Some of what is firm in a range, behind that grain if one is named; and whether no more stands behind it.
+pub struct Report<'a> {
+    pub range: Span,
+    pub after: Option<&'a [u8]>,
+    pub is_last: bool,
     pub entries: Vec<Told<'a>>,
 }
 
@@ -72,10 +81,11 @@ pub fn read_letter<'a>(mut words: impl Iterator<Item = &'a [u8]>) -> Read<Letter
             (head.read()?, Body::Ask { range: Span::read(range)?, page: number_word(page)? })
         }
         b"page" => page(&head, words)?,
-        b"missing" | b"done" | b"query" | b"behind" | b"ahead" => {
+        b"missing" | b"done" | b"behind" | b"ahead" => {
             let [range] = exactly(words)?;
             (head.read()?, ranged(kind, Span::read(range)?))
         }
+        b"query" => query(&head, words)?,
         b"report" => report(&head, words)?,
         b"offer" => {
             let [grain, activation] = exactly(words)?;
@@ -138,7 +148,6 @@ fn ranged(kind: &[u8], range: Span) -> Body<'static> {
     match kind {
         b"missing" => Body::Missing { range },
         b"done" => Body::Done { range },
-        b"query" => Body::Query { range },
         b"behind" => Body::Behind,
         _ => Body::Ahead,
     }
@@ -172,12 +181,36 @@ fn page<'a>(head: &Head, mut words: impl Iterator<Item = &'a [u8]>) -> Read<Part
     Ok((head, Body::Page(Page { range, page, pages, digest, entries: entries(&words)? })))
 }
 
-fn report<'a>(head: &Head, mut words: impl Iterator<Item = &'a [u8]>) -> Read<Parts<'a>> {
+fn query<'a>(head: &Head, mut words: impl Iterator<Item = &'a [u8]>) -> Read<Parts<'a>> {
     let range = words.next().ok_or(922u16)?;
-    let words = pairs(words)?;
+    let after = words.next();
+    if words.next().is_some() {
+        return Err(922);
+    }
     let head = head.read()?;
     let range = Span::read(range)?;
-    Ok((head, Body::Report { range, entries: entries(&words)? }))
+    Ok((head, Body::Query { range, after: after.map(grain_word).transpose()? }))
+}
+
+/// The grain behind which is told stands there where the words behind the range are pairs.
+fn report<'a>(head: &Head, mut words: impl Iterator<Item = &'a [u8]>) -> Read<Parts<'a>> {
+    let range = words.next().ok_or(922u16)?;
+    let words: Vec<&[u8]> = words.collect();
+    let (after, words) = words.split_at(usize::from(words.len() % 2 == 0).min(words.len()));
+    let (is_last, words) = words.split_first().ok_or(922u16)?;
+    let head = head.read()?;
+    let range = Span::read(range)?;
+    let after = after.first().map(|word| grain_word(word)).transpose()?;
+    let is_last = last_word(is_last)?;
+    Ok((head, Body::Report(Report { range, after, is_last, entries: entries(words)? })))
+}
+
+fn last_word(word: &[u8]) -> Read<bool> {
+    match word {
+        b"last" => Ok(true),
+        b"more" => Ok(false),
+        _ => Err(932),
+    }
 }
 
 /// The words, if each has another one beside it.

@@ -40,7 +40,7 @@ def start(_):
     yield "see 1"
     places = sorted(int.from_bytes(sha256(f"{SILO}#{point}".encode()).digest()[:4]) for point in range(POINTS))
     for place, following in zip(places, places[1:] + places[:1]):
-        yield letter(f"report {place}+{(following - place) % CIRCLE}", SILO)
+        yield letter(f"report {place}+{(following - place) % CIRCLE} last", SILO)
 
 
 def registered(lines):

@@ -90,10 +90,10 @@ fn write_out(process: &mut Process, writer: &mut impl Write) -> io::Result<()> {
     writer.flush()
 }
 
-/// What the words choose, if they are known: `silo ADDR [--hashing sha256|stated] [--points N] [--cache N] [--join TOKEN]`, the options
+/// What the words choose, if they are known: `silo ADDR [--hashing sha256|stated] [--points N] [--cache N] [--report-size N] [--join TOKEN]`, the options
 /// before the address or behind it, each once at most. Of several `=` in a word only the first ends an option's name.
 fn chosen(words: &[String]) -> Option<Process> {
-    let (mut hashing, mut points, mut cache, mut token, mut address) = (None, None, None, None, None);
+    let (mut hashing, mut points, mut cache, mut size, mut token, mut address) = (None, None, None, None, None, None);
     let (first, words) = words.split_first()?;
     let mut words = words.iter().flat_map(|word| word.splitn(if word.starts_with("--") { 2 } else { 1 }, '='));
     while let Some(word) = words.next() {
@@ -101,6 +101,7 @@ fn chosen(words: &[String]) -> Option<Process> {
             "--hashing" => hashing.replace(words.next()?).is_none(),
             "--points" => points.replace(words.next()?).is_none(),
             "--cache" => cache.replace(words.next()?).is_none(),
+            "--report-size" => size.replace(words.next()?).is_none(),
             "--join" => token.replace(words.next()?).is_none(),
             word => address.replace(word).is_none(),
         };
@@ -112,9 +113,10 @@ fn chosen(words: &[String]) -> Option<Process> {
     let number = |word: Option<&str>, absent: u64| word.map_or(Some(absent), |word| word.parse().ok());
     let points = number(points, 30).filter(|points| (1..=128).contains(points))?;
     let cache = number(cache, 1024).filter(|cache| (1..=65_536).contains(cache))?;
+    let size = number(size, 64).filter(|size| (1..=64).contains(size))?;
     let is_token = |token: &str| (1..=64).contains(&token.len()) && token.bytes().all(|byte| byte.is_ascii_graphic());
     let is_known = first == "silo" && ["sha256", "stated"].contains(&hashing) && token.is_none_or(is_token);
-    let settings = Settings { is_stated: hashing == "stated", points, cache: cache as usize };
+    let settings = Settings { is_stated: hashing == "stated", points, cache: cache as usize, report_size: size as usize };
     let address = Address::read(address?.as_bytes()).ok().filter(|_| is_known)?;
     Some(Process::new(address, token.map(|token| token.as_bytes().to_vec()), settings))
 }
@@ -122,7 +124,7 @@ fn chosen(words: &[String]) -> Option<Process> {
 fn main() -> ExitCode {
     let words: Vec<String> = std::env::args().skip(1).collect();
     let Some(mut process) = chosen(&words) else {
-        eprintln!("usage: silo ADDR [--hashing sha256|stated] [--points N] [--cache N] [--join TOKEN]");
+        eprintln!("usage: silo ADDR [--hashing sha256|stated] [--points N] [--cache N] [--report-size N] [--join TOKEN]");
         return ExitCode::from(4);
     };
     match play(&mut process) {

@@ -1,9 +1,10 @@
 //! What a silo owns: pieces of the circle, and the snapshots that it keeps for others. All settled pieces have one table.
 
-use crate::identities::{Address, Entry, Table, number};
+use crate::identities::{Address, Entry, Grain, Table, number};
 use crate::ring::Range;
 use crate::text::{Hex, lines_digest};
 use crate::words::sides;
+use std::collections::BTreeMap;
 
 /// A range as letters tell it, which may have no hash.
 #[derive(Clone, Copy, PartialEq, Eq)]
@@ -29,9 +30,11 @@ pub enum State {
         from: Address,
         gathered: Gathered,
     },
-    /// It awaits the reports of silos, by address; of the others it has what they reported.
+    /// It awaits the last reports of silos, by address, each behind the grain up to which its silo has told, if it has told of any; and it
+    /// has what all reported.
     Recovering {
         awaited: Vec<Address>,
+        told: BTreeMap<Address, Grain>,
         reported: Table,
     },
 }
@@ -47,7 +50,7 @@ pub struct Pieces(pub Vec<Piece>);
 
 /// A snapshot, sealed for another silo, in the order of grains.
 pub struct Snapshot {
-    pub version: u32,
+    pub version: u64,
     pub range: Range,
     pub to: Address,
     pub entries: Vec<Entry>,
@@ -69,6 +72,13 @@ impl Span {
     pub fn holds(&self, hash: u32) -> bool {
         u64::from(hash.wrapping_sub(self.start)) < self.size
     }
+
+    /// Where a grain of that hash stands in the order in which is reported: by how many hashes of the range come before its own, all of them
+    /// where the range doesn't have it, and then by itself.
+    pub fn standing<'a>(&self, hash: u32, grain: &'a [u8]) -> (u64, (&'a [u8], &'a [u8])) {
+        let steps = u64::from(hash.wrapping_sub(self.start));
+        (steps.min(self.size), sides(grain))
+    }
 }
 
 impl From<Range> for Span {
@@ -78,6 +88,11 @@ impl From<Range> for Span {
 }
 
 impl State {
+    /// It awaits the first reports of these silos.
+    pub fn recovering(awaited: Vec<Address>) -> State {
+        State::Recovering { awaited, told: BTreeMap::new(), reported: Default::default() }
+    }
+
     pub fn is_settled(&self) -> bool {
         matches!(self, State::Settled)
     }
@@ -133,7 +148,7 @@ pub fn sort(entries: &mut [Entry]) {
 
 impl Snapshot {
     /// Without entries, until it is sealed.
-    pub fn new(version: u32, range: Range, to: Address) -> Snapshot {
+    pub fn new(version: u64, range: Range, to: Address) -> Snapshot {
         Snapshot { version, range, to, entries: Vec::new(), digest: [0; 64] }
     }
 

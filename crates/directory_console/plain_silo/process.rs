@@ -22,6 +22,8 @@ pub struct Settings {
     pub points: u64,
     /// How many hints the cache keeps.
     pub cache: usize,
+    /// How many entries a report has at most.
+    pub report_size: usize,
 }
 
 pub struct Process {
@@ -106,6 +108,7 @@ impl Process {
             Asked::Receive(letter) if letter.to == self.name => self.receive(letter),
             Asked::Receive(_) => Ok(()),
             Asked::Told { version, change } => self.told(version, change),
+            Asked::Begin { version, rows } => self.begin(version, rows),
             Asked::See { version } => self.see(version),
             Asked::Wake { grain } => self.wake(grain),
             Asked::Close { grain } => self.close(grain),
@@ -174,8 +177,8 @@ impl Process {
             Body::Page(page) => self.take_page(from, version, page),
             Body::Missing { range } => self.take_missing(from, version, range),
             Body::Done { range } => self.take_done(from, version, range),
-            Body::Query { range } => self.answer_query(from, version, range),
-            Body::Report { range, entries } => self.take_report(from, version, range, &entries),
+            Body::Query { range, after } => self.answer_query(from, version, range, after),
+            Body::Report(report) => self.take_report(from, version, &report),
             Body::Behind => self.delivered("behind noted"),
             Body::Ahead => self.delivered("ahead noted"),
             Body::Offer { entry } => self.take_offer(version, entry),

@@ -2,6 +2,7 @@
 
 use crate::identities::{Address, number};
 use crate::letters::{Letter, grain_word, read_letter};
+use crate::views::Status;
 
 /// How many bytes a line may have, its end not counted.
 pub const LONGEST_LINE: usize = 16_777_216;
@@ -13,6 +14,13 @@ pub enum Change<'a> {
     Die { silo: Address },
 }
 
+/// A silo as a view lists it.
+pub struct Listed {
+    pub silo: Address,
+    pub status: Status,
+    pub places: Vec<u32>,
+}
+
 /// How a place is chosen; a silo by itself can't choose the one that has the fewest activations.
 pub enum Policy {
     PreferLocal,
@@ -21,6 +29,8 @@ pub enum Policy {
 
 pub enum Asked<'a> {
     Told { version: u64, change: Change<'a> },
+    /// A view in place of all changes up to it.
+    Begin { version: u64, rows: Vec<Listed> },
     See { version: u64 },
     Wake { grain: &'a [u8] },
     Close { grain: &'a [u8] },
@@ -96,6 +106,7 @@ fn asked<'a>(name: &[u8], words: impl Iterator<Item = &'a [u8]>) -> Read<Asked<'
             Asked::Place { grain: grain_word(grain)?, policy: policy_word(policy)? }
         }
         b"joined" => joined(words)?,
+        b"view" => view(words)?,
         b"leaving" | b"dead" => {
             let [version, silo] = exactly(words)?;
             let version = number_word(version)?;
@@ -124,9 +135,36 @@ fn joined<'a>(mut words: impl Iterator<Item = &'a [u8]>) -> Read<Asked<'a>> {
     let silo = Address::read(silo)?;
     let mut words = words.peekable();
     let token = words.peek().and_then(|word| word.strip_prefix(b"token="));
-    let place = |word: &[u8]| number(word, u32::MAX.into()).map(|place| place as u32).ok_or(923);
-    let places = words.skip(token.iter().count()).map(place).collect::<Read<Vec<u32>>>()?;
+    let places = words.skip(token.iter().count()).map(place_word).collect::<Read<Vec<u32>>>()?;
     Ok(Asked::Told { version, change: Change::Join { silo, token, places } })
+}
+
+fn view<'a>(mut words: impl Iterator<Item = &'a [u8]>) -> Read<Asked<'a>> {
+    let version = number_word(words.next().ok_or(922u16)?)?;
+    let rows = words.map(listed_word).collect::<Read<Vec<Listed>>>()?;
+    Ok(Asked::Begin { version, rows })
+}
+
+/// SILO:STATUS, and perhaps a colon and places with commas between them; 933 where it isn't, then the silo's fault, then a place's.
+fn listed_word(word: &[u8]) -> Read<Listed> {
+    let pieces: Vec<&[u8]> = word.split(|byte| *byte == b':').collect();
+    let ([_, _, status] | [_, _, status, _]) = pieces[..] else { return Err(933) };
+    let status = match status {
+        b"active" => Status::Active,
+        b"leaving" => Status::Leaving,
+        b"dead" => Status::Dead,
+        _ => return Err(933),
+    };
+    let silo = Address::read(&word[..pieces[0].len() + 1 + pieces[1].len()])?;
+    let places = match pieces.get(3) {
+        Some(places) => places.split(|byte| *byte == b',').map(place_word).collect::<Read<Vec<u32>>>()?,
+        None => Vec::new(),
+    };
+    Ok(Listed { silo, status, places })
+}
+
+fn place_word(word: &[u8]) -> Read<u32> {
+    number(word, u32::MAX.into()).map(|place| place as u32).ok_or(923)
 }
 
 /// The words behind a name; 922 where there aren't just so many.

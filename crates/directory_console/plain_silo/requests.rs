@@ -36,7 +36,7 @@ impl Process {
     }
 
     fn may_serve(&self, from: Address, version: u64, number: u64, hash: u32, act: Act) -> Result<(), Why> {
-        if version != u64::from(self.seen) {
+        if version != self.seen {
             return Err(Why::View);
         }
         let piece = self.pieces.with(hash).ok_or(Why::NotOwner)?;
@@ -52,7 +52,7 @@ impl Process {
 
     /// The beginning of a reply, up to its number.
     fn reply(&mut self, to: Address, kind: &str, number: u64) -> &mut Output {
-        self.out.letter(self.name, to, self.seen.into(), kind).number(number)
+        self.out.letter(self.name, to, self.seen, kind).number(number)
     }
 
     fn reply_entry(&mut self, to: Address, kind: &str, number: u64, grain: &[u8], activation: Activation) {
@@ -61,7 +61,7 @@ impl Process {
 
     fn retry(&mut self, to: Address, number: u64, act: Act, why: &Why) {
         let (reason, told) = match why {
-            Why::View => ("601", Some(self.seen.into())),
+            Why::View => ("601", Some(self.seen)),
             Why::Unsettled => ("602", None),
             Why::OldNumber(last) => ("603", Some(*last)),
             Why::NotOwner => ("604", None),
@@ -132,7 +132,7 @@ impl Process {
         if let Body::Retry { number, reason } = body {
             return self.note(number, reason);
         }
-        let is_of_seen = version == u64::from(self.seen);
+        let is_of_seen = version == self.seen;
         let (kind, counts) = match body {
             Body::Registered { number } => ("registered", is_of_seen && self.confirm(number)),
             Body::Taken { number, entry: (grain, by) } => ("taken", is_of_seen && self.yield_to(number, grain, by)),

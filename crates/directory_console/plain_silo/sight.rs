@@ -22,14 +22,13 @@ impl Process {
     /// 903 where the version isn't newer than the one seen, then 904 where it wasn't told or is from before the silo joined.
     pub fn see(&mut self, version: u64) -> Step {
         let me = self.joined()?;
-        if version <= self.seen.into() {
+        if version <= self.seen {
             return Err(903);
         }
         let joined = self.views.row(me).joined;
-        if version > self.views.version.into() || version < joined.into() {
+        if version > self.views.version || version < joined {
             return Err(904);
         }
-        let version = version as Version;
         let is_next = version == self.seen + 1 || self.seen == 0 && version == joined;
         let Process { views, rings, ring, seen, .. } = self;
         let old = if is_next && *seen == 0 { rings.at(version - 1, views, ring, 0) } else { ring.clone() };
@@ -61,7 +60,7 @@ impl Process {
             match from.filter(|from| !self.views.is_dead(*from, version)) {
                 _ if self.pieces.are_settled_throughout(part) => State::Settled,
                 Some(from) => State::Awaiting { from, gathered: Gathered::default() },
-                None => State::Recovering { awaited: members.clone(), reported: Default::default() },
+                None => State::recovering(members.clone()),
             }
         };
         let mut pieces = Vec::new();

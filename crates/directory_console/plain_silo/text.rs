@@ -1,6 +1,6 @@
 //! What is written of silos, grains, ranges and letters.
 
-use crate::identities::{Activation, Address, Entry};
+use crate::identities::{Activation, Address, Entry, Grain};
 use crate::output::Output;
 use crate::pieces::Span;
 use crate::views::Version;
@@ -71,6 +71,18 @@ impl Output {
             self.word(" ").text(grain).word(" ").activation(*activation);
         }
         self.word("\n");
+    }
+
+    /// The line of a query behind a grain, if one is named.
+    pub fn query(&mut self, from: Address, to: Address, version: u64, range: impl Into<Span>, after: Option<&Grain>) {
+        self.letter(from, to, version, "query").span(range).after(after.map(|grain| &grain[..])).word("\n");
+    }
+
+    pub fn after(&mut self, after: Option<&[u8]>) -> &mut Output {
+        match after {
+            Some(grain) => self.word(" ").text(grain),
+            None => self,
+        }
     }
 
     pub fn refusal(&mut self, number: u16) {

@@ -1,11 +1,12 @@
 //! The letters by which ranges are handed over or recovered.
 
-use crate::identities::{Address, Entry};
-use crate::letters::{Page, Told};
-use crate::pieces::{Gathered, PAGE, Piece, Snapshot, Span, State, sort};
-use crate::process::Process;
+use crate::identities::{Address, Entry, Grain};
+use crate::letters::{Page, Report, Told};
+use crate::pieces::{Gathered, PAGE, Piece, Snapshot, Span, State};
+use crate::process::{Process, Settings};
 use crate::text::lines_digest;
 use crate::words::sides;
+use std::cmp::Ordering;
 
 /// What comes of a page.
 enum Paged {
@@ -18,7 +19,7 @@ enum Paged {
 
 impl Snapshot {
     fn is_of(&self, version: u64, range: Span, to: Address) -> bool {
-        u64::from(self.version) == version && Span::from(self.range) == range && self.to == to
+        self.version == version && Span::from(self.range) == range && self.to == to
     }
 }
 
@@ -60,7 +61,7 @@ impl Process {
 
     /// A page of a snapshot that waits for the asker.
     pub fn answer_ask(&mut self, from: Address, version: u64, range: Span, page: u64) {
-        if version > self.seen.into() {
+        if version > self.seen {
             self.delivered("ask behind");
             return self.answer_ranged(from, version, "behind", range);
         }
@@ -83,7 +84,7 @@ impl Process {
 
     /// The piece of the range, if it awaits the snapshot of the letter's sender.
     fn awaiting(&mut self, from: Address, version: u64, range: Span) -> Option<&mut Piece> {
-        let piece = self.pieces.of_range(range).filter(|_| version == u64::from(self.seen))?;
+        let piece = self.pieces.of_range(range).filter(|_| version == self.seen)?;
         let awaits = matches!(piece.state, State::Awaiting { from: awaited, .. } if awaited == from);
         awaits.then_some(piece)
     }
@@ -138,45 +139,58 @@ impl Process {
         let Some(piece) = self.awaiting(from, version, range) else {
             return self.delivered("missing ignored");
         };
-        piece.state = State::Recovering { awaited: awaited.clone(), reported: Default::default() };
+        piece.state = State::recovering(awaited.clone());
         self.delivered("missing recovering");
         for silo in awaited {
             self.answer_ranged(silo, version, "query", range);
         }
     }
 
-    /// The firm activations of a range, where the silo has seen just the query's version.
-    pub fn answer_query(&mut self, from: Address, version: u64, range: Span) {
-        let seen = u64::from(self.seen);
+    /// The first firm activations of a range behind a grain, where the silo has seen just the query's version.
+    pub fn answer_query(&mut self, from: Address, version: u64, range: Span, after: Option<&[u8]>) {
+        let seen = self.seen;
         if seen != version {
             let kind = if seen < version { "behind" } else { "ahead" };
             self.out.word("delivered query ").word(kind).word("\n");
             return self.answer_ranged(from, version, kind, range);
         }
-        let mut entries = self.host.firm_in(range);
-        sort(&mut entries);
+        let settings = self.settings;
+        let is_behind = |entry: &Entry| after.is_none_or(|after| is_before(settings, range, after, &entry.0));
+        let mut entries: Vec<Entry> = self.host.firm_in(range).into_iter().filter(is_behind).collect();
+        entries.sort_unstable_by(|one, other| in_order(settings, range, &one.0, &other.0));
+        let is_last = entries.len() <= settings.report_size;
+        entries.truncate(settings.report_size);
         self.delivered("query report");
-        self.out.letter(self.name, from, version, "report").span(range).entries(&entries);
+        self.out.letter(self.name, from, version, "report").span(range).after(after);
+        self.out.word(if is_last { " last" } else { " more" }).entries(&entries);
     }
 
-    /// A report counts once of each silo that is awaited, if its entries are the sender's and belong there; with the last one the piece
-    /// is settled. Of two entries of a grain the first stays.
-    pub fn take_report(&mut self, from: Address, version: u64, range: Span, entries: &[Told]) {
-        let settings = self.settings;
-        let lie_there = entries.iter().all(|(grain, activation)| activation.silo == from && range.holds(settings.hash(grain)));
-        let counts = lie_there && version == u64::from(self.seen) && rise(entries.iter().map(|(grain, _)| *grain));
+    /// A report counts if its entries are the sender's, belong there, and go on behind the grain up to which its silo, which is awaited, has
+    /// told. Before a silo's last one the next is asked for; with the last one of all silos the piece is settled. Of two entries of a grain
+    /// the first stays.
+    pub fn take_report(&mut self, from: Address, version: u64, report: &Report) {
+        let range = report.range;
+        let counts = version == self.seen && self.is_well_formed(from, report);
         let piece = self.pieces.of_range(range).filter(|_| counts);
         let Some(Piece { state: state @ State::Recovering { .. }, .. }) = piece else {
             return self.delivered("report ignored");
         };
-        let State::Recovering { awaited, reported } = state else { unreachable!() };
-        let Ok(at) = awaited.binary_search(&from) else {
+        let State::Recovering { awaited, told, reported } = state else { unreachable!() };
+        let at = awaited.binary_search(&from).ok().filter(|_| told.get(&from).map(|grain| &grain[..]) == report.after);
+        let Some(at) = at else {
             return self.delivered("report ignored");
         };
-        awaited.remove(at);
-        for (grain, activation) in entries {
-            reported.entry((*grain).into()).or_insert((settings.hash(grain), *activation));
+        for (grain, activation) in &report.entries {
+            reported.entry((*grain).into()).or_insert((self.settings.hash(grain), *activation));
         }
+        if let Some((last, _)) = report.entries.last().filter(|_| !report.is_last) {
+            let last = Grain::from(*last);
+            told.insert(from, last.clone());
+            self.delivered("report more");
+            return self.out.query(self.name, from, version, range, Some(&last));
+        }
+        awaited.remove(at);
+        told.remove(&from);
         if !awaited.is_empty() {
             return self.delivered("report more");
         }
@@ -184,4 +198,21 @@ impl Process {
         *state = State::Settled;
         self.delivered("report complete");
     }
+
+    /// Whether a report's entries are its silo's, lie in its range and rise there behind its grain; and there is one, unless it is the last.
+    fn is_well_formed(&self, from: Address, report: &Report) -> bool {
+        let Report { range, after, is_last, entries } = report;
+        let lie_there = entries.iter().all(|(grain, activation)| activation.silo == from && range.holds(self.settings.hash(grain)));
+        let grains = after.iter().copied().chain(entries.iter().map(|(grain, _)| *grain));
+        lie_there && grains.is_sorted_by(|one, next| is_before(self.settings, *range, one, next)) && (*is_last || !entries.is_empty())
+    }
+}
+
+/// How two grains stand in the order in which is reported of a range.
+fn in_order(settings: Settings, range: Span, one: &[u8], other: &[u8]) -> Ordering {
+    range.standing(settings.hash(one), one).cmp(&range.standing(settings.hash(other), other))
+}
+
+fn is_before(settings: Settings, range: Span, one: &[u8], other: &[u8]) -> bool {
+    in_order(settings, range, one, other) == Ordering::Less
 }

@@ -3,11 +3,11 @@
 use crate::identities::{Address, Silo};
 use std::collections::BTreeMap;
 
-/// The number of a view that was told. Each silo changes at most three times.
-pub type Version = u32;
+/// The number of a view that was told.
+pub type Version = u64;
 
-/// How many silos may ever join.
-const MOST_SILOS: usize = 65_536;
+/// Views may begin with a version below that.
+const FIRST_BELOW: Version = 1 << 62;
 
 #[derive(Clone, Copy, PartialEq, Eq)]
 pub enum Status {
@@ -16,7 +16,7 @@ pub enum Status {
     Dead,
 }
 
-/// A silo that joined, with the versions of its changes, 0 for never, and the places of its points.
+/// A silo that is known, with the versions of its changes, 0 for never, and the places of its points.
 pub struct Row {
     pub address: Address,
     pub joined: Version,
@@ -25,10 +25,11 @@ pub struct Row {
     pub places: Box<[u32]>,
 }
 
-/// All views so far.
+/// All views so far, from the first one on.
 #[derive(Default)]
 pub struct Views {
     pub rows: Vec<Row>,
+    pub first: Version,
     by_address: BTreeMap<Address, Silo>,
     pub version: Version,
 }
@@ -49,10 +50,10 @@ impl Row {
 
 impl Views {
     pub fn row(&self, silo: Silo) -> &Row {
-        &self.rows[usize::from(silo)]
+        &self.rows[silo as usize]
     }
 
-    /// The silo at an address, if it ever joined.
+    /// The silo at an address, if it is known.
     pub fn silo(&self, address: Address) -> Option<Silo> {
         self.by_address.get(&address).copied()
     }
@@ -65,9 +66,15 @@ impl Views {
         self.status(silo, version) == Some(Status::Active)
     }
 
-    /// Whether the silo at an address is dead in a view; one that never joined isn't.
+    /// Whether the silo at an address is dead in a view. One that isn't known is, where a newer silo of its endpoint is listed.
     pub fn is_dead(&self, address: Address, version: Version) -> bool {
-        self.silo(address).is_some_and(|silo| self.status(silo, version) == Some(Status::Dead))
+        match self.silo(address) {
+            Some(silo) => self.status(silo, version) == Some(Status::Dead),
+            None => {
+                let next = self.by_address.range(address..).next().filter(|(other, _)| other.shares_endpoint(&address));
+                next.is_some_and(|(_, newer)| self.status(*newer, version).is_some())
+            }
+        }
     }
 
     /// The silos of a view that aren't dead there, by address.
@@ -81,15 +88,12 @@ impl Views {
         self.by_address.values().copied().filter(move |silo| self.is_active(*silo, version))
     }
 
-    /// Which silo a new one would replace; 201 where one of its endpoint has its generation or a higher one, then 205. Silos of one
-    /// endpoint are neighbours by address, and all but the newest are dead.
+    /// Which silo a new one would replace; 201 where one of its endpoint has its generation or a higher one. Silos of one endpoint are
+    /// neighbours by address, and all but the newest are dead.
     pub fn may_join(&self, address: Address) -> Result<Option<Silo>, u16> {
         let shares_endpoint = |other: &Address| other.shares_endpoint(&address);
         if self.by_address.range(address..).next().is_some_and(|(other, _)| shares_endpoint(other)) {
             return Err(201);
-        }
-        if self.rows.len() >= MOST_SILOS {
-            return Err(205);
         }
         let before = self.by_address.range(..address).next_back().filter(|(other, _)| shares_endpoint(other));
         Ok(before.map(|(_, silo)| *silo).filter(|silo| self.row(*silo).dead == 0))
@@ -97,35 +101,61 @@ impl Views {
 
     /// A silo that may join does, in the next version, and has the next number.
     pub fn join(&mut self, address: Address, places: Box<[u32]>, replaced: Option<Silo>) -> Silo {
-        let silo = self.rows.len() as Silo;
         self.version += 1;
         if let Some(old) = replaced {
-            self.rows[usize::from(old)].dead = self.version;
+            self.rows[old as usize].dead = self.version;
         }
-        self.rows.push(Row { address, joined: self.version, left: 0, dead: 0, places });
-        self.by_address.insert(address, silo);
+        self.add(Row { address, joined: self.version, left: 0, dead: 0, places })
+    }
+
+    fn add(&mut self, row: Row) -> Silo {
+        let silo = self.rows.len() as Silo;
+        self.by_address.insert(row.address, silo);
+        self.rows.push(row);
         silo
     }
 
-    /// A silo leaves: 202 where it never joined, 203 where it isn't Active.
+    /// What begins with a view, before it lists a silo; 210 where nothing may begin with its version.
+    pub fn beginning(version: Version) -> Result<Views, u16> {
+        if version >= FIRST_BELOW {
+            return Err(210);
+        }
+        Ok(Views { first: version, version, ..Views::default() })
+    }
+
+    /// 210 where the first view can't list a silo: it is version 0, in which nobody is, or lists one of this silo's endpoint.
+    pub fn may_list(&self, address: Address) -> Result<(), u16> {
+        let (before, behind) = (self.by_address.range(..address).next_back(), self.by_address.range(address..).next());
+        let is_listed = before.into_iter().chain(behind).any(|(other, _)| other.shares_endpoint(&address));
+        if self.first == 0 || is_listed { Err(210) } else { Ok(()) }
+    }
+
+    /// The first view lists a silo: all that became of it stands in this version.
+    pub fn list(&mut self, address: Address, status: Status, places: Box<[u32]>) {
+        let made = |is_made: bool| if is_made { self.first } else { 0 };
+        let (left, dead) = (made(status == Status::Leaving), made(status == Status::Dead));
+        self.add(Row { address, joined: self.first, left, dead, places });
+    }
+
+    /// A silo leaves: 202 where it isn't known, 203 where it isn't Active.
     pub fn leave(&mut self, address: Address) -> Result<(), u16> {
         let silo = self.silo(address).ok_or(202u16)?;
         if !self.is_active(silo, self.version) {
             return Err(203);
         }
         self.version += 1;
-        self.rows[usize::from(silo)].left = self.version;
+        self.rows[silo as usize].left = self.version;
         Ok(())
     }
 
-    /// A silo dies: 202 where it never joined, 204 where it is dead.
+    /// A silo dies: 202 where it isn't known, 204 where it is dead.
     pub fn die(&mut self, address: Address) -> Result<(), u16> {
         let silo = self.silo(address).ok_or(202u16)?;
         if self.row(silo).dead != 0 {
             return Err(204);
         }
         self.version += 1;
-        self.rows[usize::from(silo)].dead = self.version;
+        self.rows[silo as usize].dead = self.version;
         Ok(())
     }
 }

@@ -12,6 +12,7 @@ use Rattle.membership_view.specs.Step.{Joins}
 use Rattle.membership_view.specs.declared.Status.{Status}
 use Rattle.membership_view.proofs.Searches.{occupant_law}
 use Rattle.membership_view.proofs.Changes.{changes_are_steps}
+use Rattle.membership_view.proofs.Said.{views_say_statuses}
 use Rattle.directory_rules.specs.Laws.{ArePeopled, is_live}
 use Rattle.directory_rules.specs.State.{Letter, Node, World}
 use Rattle.directory_rules.specs.Node.{new_node}
@@ -122,11 +123,19 @@ joins : (views : ViewsValue) (nodes : List (Silo × Node)) (silo : Silo) → Are
     → Joins silo (view_at views views.version) (view_at (with_join views silo) (with_join views silo).version)
 joins views nodes silo are may = changes_are_steps views (view.Join silo) (with_join views silo) (record { whole = are.whole; is = may })
 
+-- each silo of its endpoint that is there is older
+older : (views : ViewsValue) (nodes : List (Silo × Node)) (silo other : Silo) → ArePeopled views nodes
+    → after_join views silo ≡ Ok (with_join views silo) → IsSameEndpoint silo other → IsSome (status_at views views.version other)
+    → other.generation < silo.generation
+older views nodes silo other are may same there =
+    (joins views nodes silo are may).newest other same
+    (subst (λ (o : Option Status). IsSome o) (sym (views_say_statuses views are.whole other views.version (omega arith) there)) there)
+
 pub no_node : (views : ViewsValue) (nodes : List (Silo × Node)) (silo : Silo) → ArePeopled views nodes
     → after_join views silo ≡ Ok (with_join views silo) → lookup (is_at (silo_cmp silo)) nodes ≡ None
 no_node views nodes silo are may =
     none_of (lookup (is_at (silo_cmp silo)) nodes) (are.live silo
-    ∙ no_status silo (status_at views views.version silo) ((joins views nodes silo are may).newest silo (same_endpoint silo)))
+    ∙ no_status silo (status_at views views.version silo) (older views nodes silo silo are may (same_endpoint silo)))
 
 -- whom it replaces is another silo, so its node may go before or after
 pub nodes_put : (views : ViewsValue) (nodes : List (Silo × Node)) (silo : Silo) (node : Node) → ArePeopled views nodes
@@ -138,7 +147,7 @@ nodes_put views nodes silo node are may = by (occupant silo views.rows) refl
     not_itself : occupant silo views.rows ≡ Some silo → ⊥
     not_itself is =
         let law = (occupant_law views are.whole silo silo).0 is in
-        let newer : silo.generation < silo.generation = (joins views nodes silo are may).newest silo law.0 law.1.0 in
+        let newer : silo.generation < silo.generation = older views nodes silo silo are may law.0 law.1.0 in
         omega (arith, newer)
 
     by : (old : Option Silo) → occupant silo views.rows ≡ old

@@ -1,14 +1,16 @@
 -- What comes of a page and of a report, and that what a node has of snapshots and reports is hashed into their ranges.
-use Rattle.std.proofs.Common.{◌≡◌, refl, sym, subst, ℕ, ◌+◌, List, [], ◌∷◌, ◌++◌, ◌≢◌, ◌⊎◌, inl, inr, arith}
-use Rattle.std.specs.Prelude.{⊤, Bool, true, cond, not, nat_lt, ◌==◌, ◌&&◌, ◌||◌, All, Some, false, length}
+use Rattle.std.proofs.Common.{◌≡◌, refl, sym, ap, subst, ℕ, ◌+◌, List, [], ◌∷◌, ◌++◌, ◌≢◌, ◌⊎◌, inl, inr, arith}
+use Rattle.std.specs.Prelude.{⊤, Bool, true, cond, not, nat_lt, ◌==◌, ◌&&◌, ◌||◌, All, Option, Some, None, false, length, fold}
 use Rattle.std.specs.Cmp.Lexicographic.{pointwise}
 use Rattle.std.specs.Map.{lookup}
-use Rattle.std.specs.Option.{unwrap_or}
+use Rattle.std.specs.Option.{unwrap_or, option_eq}
 use Rattle.std.proofs.lemmas.List.Elements.{All-nil, All-head, All-tail, All-append}
 use Rattle.std.proofs.lemmas.Bool.{eqb-true}
 use Rattle.texts.proofs.Decided.{both}
 use Rattle.silo_address.specs.Silo.{Silo}
+use Rattle.silo_address.specs.Grain.{Grain, grain_eq}
 use Rattle.silo_address.specs.declared.Entry.{Entry}
+use Rattle.silo_address.proofs.Same.{Decides-grain}
 use Rattle.ring_range.specs.Range.{Range, holds, range_eq}
 use Rattle.ring_range.proofs.Same.{Decides-range}
 use Rattle.hash_ring.specs.declared.Hashing.{Hashing}
@@ -17,7 +19,7 @@ use Rattle.directory_rules.specs.State.{Page, Gathering, Report, Recovery}
 use Rattle.directory_rules.specs.Snapshot.{digest_of}
 use Rattle.directory_rules.specs.Table.{lie_in}
 use Rattle.directory_rules.specs.Gatherings.{Gathered, Wants_page, Has_all, Refuses, new_gathering, with_page, is_in_turn, completed, gathered, agrees, is_entry_count}
-use Rattle.directory_rules.specs.Recovery.{Recovered, Awaits_more, Has_union, Rejects, with_report, is_among, awaits_still, recovered}
+use Rattle.directory_rules.specs.Recovery.{Recovered, Has_more, Awaits_more, Has_union, Rejects, with_reported, with_more, with_last, told_by, is_among, awaits_still, recovered}
 use Rattle.directory_rules.proofs.Cases.{on_bool}
 use Rattle.directory_facts.specs.Pieces.{IsHashedInto, IsTableOf, IsGathering, IsRecovery}
 use Rattle.directory_facts.proofs.Tables.{all_from, table_union}
@@ -123,12 +125,14 @@ pub record IsTaken (recovery : Recovery) (report : Report) : Type 0 where
   pub version : report.version ≡ recovery.version
   pub range : report.range ≡ recovery.range
   pub awaited : is_among report.silo recovery.awaiting ≡ true
+  pub goes_on : report.after ≡ told_by report.silo recovery
 
 -- what comes of it, if it isn't refused
 abbrev pub TakenSo : Recovery → Report → Recovered → Type 0
-TakenSo recovery report (Awaits_more next) = IsTaken recovery report × (next ≡ with_report recovery report)
+TakenSo recovery report (Has_more next) = IsTaken recovery report × (report.last ≡ false) × (next ≡ with_more recovery report)
+TakenSo recovery report (Awaits_more next) = IsTaken recovery report × (report.last ≡ true) × (next ≡ with_last recovery report)
 TakenSo recovery report (Has_union table) =
-    IsTaken recovery report × ((with_report recovery report).awaiting ≡ []) × (table ≡ (with_report recovery report).gathered)
+    IsTaken recovery report × (report.last ≡ true) × ((with_last recovery report).awaiting ≡ []) × (table ≡ (with_last recovery report).gathered)
 TakenSo recovery report (Rejects number) = Unit {0}
 
 awaited_if : (a b : Bool) → (a || b) ≡ true → b ≡ false → a ≡ true
@@ -136,42 +140,65 @@ awaited_if true b or not = refl
 awaited_if false true or not = absurd (cc (not))
 awaited_if false false or not = absurd (cc (or))
 
-still_taken : (recovery : Recovery) (report : Report) → IsTaken recovery report → (silos : List Silo)
-    → (with_report recovery report).awaiting ≡ silos → TakenSo recovery report (awaits_still silos (with_report recovery report))
-still_taken recovery report is [] none = (is, none, refl)
-still_taken recovery report is (silo ∷ silos) some = (is, refl)
+-- two grains that pass for the same are, or there are none
+pub same_option : (one other : Option Grain) → option_eq grain_eq one other ≡ true → one ≡ other
+same_option None None is = refl
+same_option None (Some grain) is = absurd (cc (is))
+same_option (Some grain) None is = absurd (cc (is))
+same_option (Some grain) (Some other) is = ap Some ((Decides-grain grain other).0 is)
+
+still_taken : (recovery : Recovery) (report : Report) → IsTaken recovery report → report.last ≡ true → (silos : List Silo)
+    → (with_last recovery report).awaiting ≡ silos → TakenSo recovery report (awaits_still silos (with_last recovery report))
+still_taken recovery report is last [] none = (is, last, none, refl)
+still_taken recovery report is last (silo ∷ silos) some = (is, last, refl)
 
 pub taken_so : (recovery : Recovery) (report : Report) → TakenSo recovery report (recovered recovery report)
 taken_so recovery report =
-    on_bool (λ b. ((report.version == recovery.version) && range_eq report.range recovery.range) ≡ b
-    → So (cond (not b) (Rejects 751) (cond (not known) (Rejects 752) (cond done (Rejects 753) taken))))
-    ((report.version == recovery.version) && range_eq report.range recovery.range)
-    (λ t same. on_bool (λ b. known ≡ b → So (cond (not b) (Rejects 752) (cond done (Rejects 753) taken))) known
-    (λ t knows. on_bool (λ b. done ≡ b → So (cond b (Rejects 753) taken)) done (λ t is. tt)
-    (λ u is.
-    let so = both (report.version == recovery.version) (range_eq report.range recovery.range) same in
-    still_taken recovery report (record {
+    on_bool (λ b. same ≡ b → So (cond (not b) (Rejects 751) (cond (not known) (Rejects 752) (cond done (Rejects 753)
+    (cond (not next) (Rejects 754) (cond report.last last more)))))) same
+    (λ t its. on_bool (λ b. known ≡ b → So (cond (not b) (Rejects 752) (cond done (Rejects 753)
+    (cond (not next) (Rejects 754) (cond report.last last more))))) known
+    (λ t knows. on_bool (λ b. done ≡ b → So (cond b (Rejects 753) (cond (not next) (Rejects 754) (cond report.last last more)))) done
+    (λ t is. tt)
+    (λ u is. on_bool (λ b. next ≡ b → So (cond (not b) (Rejects 754) (cond report.last last more))) next
+    (λ t goes.
+    let so = both (report.version == recovery.version) (range_eq report.range recovery.range) its in
+    let taken : IsTaken recovery report = record {
       version = eqb-true report.version recovery.version so.0;
       range = (Decides-range report.range recovery.range).0 so.1;
       awaited = awaited_if (is_among report.silo recovery.awaiting) done knows is;
-    }) (with_report recovery report).awaiting refl) refl)
+      goes_on = same_option report.after (told_by report.silo recovery) goes;
+    } in
+    on_bool (λ b. report.last ≡ b → So (cond b last more)) report.last
+    (λ t at. still_taken recovery report taken at (with_last recovery report).awaiting refl) (λ u at. (taken, at, refl)) refl)
+    (λ u no. tt) refl) refl)
     (λ u is. tt) refl)
     (λ u is. tt) refl
   where
+    same : Bool
+    same = (report.version == recovery.version) && range_eq report.range recovery.range
+
     known : Bool
     known = is_among report.silo recovery.awaiting || is_among report.silo recovery.reported
 
     done : Bool
     done = is_among report.silo recovery.reported
 
-    taken : Recovered
-    taken = awaits_still (with_report recovery report).awaiting (with_report recovery report)
+    next : Bool
+    next = option_eq grain_eq report.after (told_by report.silo recovery)
+
+    last : Recovered
+    last = awaits_still (with_last recovery report).awaiting (with_last recovery report)
+
+    more : Recovered
+    more = Has_more (with_more recovery report)
 
     So : Recovered → Type 0
     So result = TakenSo recovery report result
 
 -- so it is hashed into the range
 abbrev pub RecoveredInto : Hashing → Range → Recovered → Type 0
+RecoveredInto hashing range (Has_more recovery) = IsRecovery hashing recovery
 RecoveredInto hashing range (Awaits_more recovery) = IsRecovery hashing recovery
 RecoveredInto hashing range (Has_union table) = IsTableOf hashing range table
 RecoveredInto hashing range (Rejects number) = ⊤
@@ -180,15 +207,16 @@ pub recovered_into : (hashing : Hashing) (recovery : Recovery) (report : Report)
     → lie_in hashing report.range report.entries ≡ true → RecoveredInto hashing report.range (recovered recovery report)
 recovered_into hashing recovery report is lie = into (recovered recovery report) (taken_so recovery report)
   where
-    with_it : IsTaken recovery report → IsRecovery hashing (with_report recovery report)
+    with_it : IsTaken recovery report → IsTableOf hashing recovery.range (fold with_reported recovery.gathered report.entries)
     with_it taken =
         table_union hashing recovery.range report.entries recovery.gathered is
         (subst (λ range. All (IsHashedInto hashing range) report.entries) taken.range
         (all_from (λ (e : Entry). holds report.range (hash_grain hashing e.grain)) report.entries lie))
 
     into : (result : Recovered) → TakenSo recovery report result → RecoveredInto hashing report.range result
-    into (Awaits_more next) so = subst (IsRecovery hashing) (sym so.1) (with_it so.0)
+    into (Has_more next) so = subst (IsRecovery hashing) (sym so.2) (with_it so.0)
+    into (Awaits_more next) so = subst (IsRecovery hashing) (sym so.2) (with_it so.0)
     into (Has_union table) so =
-        subst (IsTableOf hashing report.range) (sym so.2)
-        (subst (λ range. IsTableOf hashing range (with_report recovery report).gathered) (sym so.0.range) (with_it so.0))
+        subst (IsTableOf hashing report.range) (sym so.3)
+        (subst (λ range. IsTableOf hashing range (with_last recovery report).gathered) (sym so.0.range) (with_it so.0))
     into (Rejects number) so = tt

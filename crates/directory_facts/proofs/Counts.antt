@@ -149,11 +149,12 @@ module _ (node : Node) (is : CountedNode node) where
     forgoes = λ letter range body there. is;
     lags = λ letter range. is;
     passed = λ letter range. is;
-    reports = λ letter range body seen. is;
+    reports = λ letter range after body seen. is;
     gathers = λ letter page gathering taken so. is;
     installs = λ letter page entries taken so. is;
     drops = λ letter page gathering taken so. is;
     turns = λ letter range piece body has awaits. is;
+    continues = λ letter report recovery taken so. is;
     collects = λ letter report recovery taken so. is;
     completes = λ letter report table taken so. is;
     takes_over = λ letter entry body seen may. begun entry.grain (Some entry.activation);

@@ -1,7 +1,6 @@
 -- What is shown of every way holds of every accepted step.
 use Rattle.std.proofs.Common.{◌≡◌, ◌≢◌, refl, ap, subst, ◌∙◌, ℕ, arith}
 use Rattle.std.specs.Prelude.{Bool, true, false, cond, not, ◌&&◌, ◌||◌, ◌==◌, ◌++◌, nat_le, nat_lt, is_some, is_none, length, Option, Some, None, Result, Ok, Err, IfOk}
-use Rattle.std.specs.List.{list_all}
 use Rattle.std.proofs.lemmas.Bool.{eqb-true, ltb-true, ltb-false, leb-true}
 use Rattle.texts.proofs.Decided.{both}
 use Rattle.silo_address.specs.Silo.{Silo, silo_eq}
@@ -27,7 +26,7 @@ use Rattle.directory_rules.specs.State.{Piece, Page, Report, Body, Request_lette
 use Rattle.directory_rules.specs.Table.{rise_by_grain, lie_in}
 use Rattle.directory_rules.specs.Snapshot.{ShelfAnswer, Hands_page, Has_none, Is_behind, shelf_answer, has_snapshot, shelf_without}
 use Rattle.directory_rules.specs.Gatherings.{Gathered, Wants_page, Has_all, Refuses, gathered}
-use Rattle.directory_rules.specs.Recovery.{Recovered, Awaits_more, Has_union, Rejects, recovered}
+use Rattle.directory_rules.specs.Recovery.{Recovered, Has_more, Awaits_more, Has_union, Rejects, recovered}
 use Rattle.directory_rules.specs.Host.{held_of, is_asking, outstanding, requests_about, has_numbers, has_count, is_full_of_activations, is_full_of_finds, is_firm, asking_under, closing_under, is_finding, is_outstanding, without_find}
 use Rattle.directory_rules.specs.Cache.{hint_of, learnt}
 use Rattle.directory_rules.specs.Sent.{gathering_of, recovery_of}
@@ -37,6 +36,7 @@ use Rattle.directory_rules.specs.Transfer as tr
 use Rattle.directory_rules.specs.Receive as rc
 use Rattle.directory_rules.specs.declared.own_step.OwnStep.TheVariants.{Wake, Close, Cancel, Find, Forget, Nudge, NudgeGrain, NudgeRanges, Offer}
 use Rattle.directory_rules.specs.Input.{Input, Sees, Does, Receives, step}
+use Rattle.directory_rules.proofs.ReportCounts.{report_counts}
 use Rattle.directory_facts.proofs.Ways.{IsReply, HasPiece, IsPageTaken, IsReportTaken, Ways}
 
 -- ---- what tests say
@@ -286,48 +286,41 @@ module _ (node : Node) (P : Input → at.Stepped → Type 0) (w : Ways node P) w
       (λ otherwise. ignores letter)
 
   recovered_by : (result : Recovered) (letter : Letter) (report : Report) → IsReportTaken node letter report
-      → recovered (recovery_of node report.range) report ≡ result → P (Receives letter) (tr.recovered_by result report.range node)
+      → recovered (recovery_of node report.range) report ≡ result → P (Receives letter) (tr.recovered_by result report node)
+  recovered_by (Has_more recovery) letter report taken is = w.continues letter report recovery taken is
   recovered_by (Awaits_more recovery) letter report taken is = w.collects letter report recovery taken is
   recovered_by (Has_union table) letter report taken is = w.completes letter report table taken is
   recovered_by (Rejects number) letter report taken is = ignores letter
 
   reported : (letter : Letter) (report : Report) → letter.body ≡ Report_letter report → P (Receives letter) (tr.reported node letter report)
   reported letter report body =
-      let version = report.version == letter.version in
-      let sender = silo_eq report.silo letter.from in
-      let waits = tr.recovers node letter.version report.range in
-      let rise = rise_by_grain report.entries in
-      let lie = lie_in node.settings.hashing report.range report.entries in
-      let own = list_all (λ e. silo_eq e.activation.silo letter.from) report.entries in
       where_so (P (Receives letter)) (tr.is_report_awaited node letter report) _ _
       (λ counts.
-      let all = both (version && sender && waits && rise && lie) own counts in
-      let five = both (version && sender && waits && rise) lie all.0 in
-      let four = both (version && sender && waits) rise five.0 in
-      let three = both (version && sender) waits four.0 in
-      let two = both version sender three.0 in
-      let there = waiting tr.is_recovering node letter.version report.range three.1 in
+      let so = report_counts node letter report counts in
+      let there = waiting tr.is_recovering node letter.version report.range so.waits in
       recovered_by (recovered (recovery_of node report.range) report) letter report (record {
         body = body;
-        version = eqb-true report.version letter.version two.0;
-        sender = same_silo report.silo letter.from two.1;
+        version = eqb-true report.version letter.version so.version;
+        sender = same_silo report.silo letter.from so.sender;
         piece = there.0;
         has = there.1;
         recovers = recovering_is there.0.state there.2;
-        rise = four.1;
-        lie = five.1;
-        own = all.1;
+        rise = so.rise;
+        lie = so.lie;
+        own = so.own;
+        some = so.some;
       }) refl)
       (λ otherwise. ignores letter)
 
-  queried : (letter : Letter) (range : Range) → letter.body ≡ Query_letter range → P (Receives letter) (tr.queried node letter range)
-  queried letter range body =
+  queried : (letter : Letter) (range : Range) (after : Option Grain) → letter.body ≡ Query_letter range after
+      → P (Receives letter) (tr.queried node letter range after)
+  queried letter range after body =
       where_so (P (Receives letter)) (nat_lt node.view.version letter.version) _ _ (λ below. w.lags letter range) (λ upto.
       where_so (P (Receives letter)) (nat_lt letter.version node.view.version) _ _ (λ above. w.passed letter range) (λ from.
       let low = ltb-false node.view.version letter.version upto in
       let high = ltb-false letter.version node.view.version from in
       let same : letter.version ≡ node.view.version = omega arith in
-      w.reports letter range body same))
+      w.reports letter range after body same))
 
   offered_to : (letter : Letter) (entry : Entry) → letter.body ≡ Offer_letter entry → P (Receives letter) (rc.offered_to node letter entry)
   offered_to letter entry body =
@@ -365,7 +358,7 @@ module _ (node : Node) (P : Input → at.Stepped → Type 0) (w : Ways node P) w
       where_so (P (Receives letter)) (has_snapshot node.shelf letter.version range letter.from)
       (at.silently (record node { shelf = shelf_without node.shelf letter.version range letter.from }) effect.Deleted)
       (at.silently node effect.Ignored) (λ there. w.forgoes letter range is there) (λ otherwise. ignores letter)
-  received (Query_letter range) letter is = queried letter range is
+  received (Query_letter range after) letter is = queried letter range after is
   received (Report_letter report) letter is = reported letter report is
   received (Behind_letter range) letter is = w.nothing (Receives letter) effect.Noted refl
   received (Ahead_letter range) letter is = w.nothing (Receives letter) effect.Noted refl

@@ -22,6 +22,7 @@ pub mod Throughout
 pub mod Answers
 pub mod Lawful
 pub mod Lookups
+pub mod StandingEntries
 pub mod OwnPieces
 pub mod PagesTaken
 pub mod PageCounts

@@ -37,7 +37,7 @@ set_elsewhere test other apart x (e ∷ es) =
     (λ t. ap (λ b. cond b (Some x) (lookup other es)) (apart e.0 t) ∙ ap (λ b. cond b (Some e.1) (lookup other es)) (sym (apart e.0 t)))
     (λ f. ap (λ r. cond (other e.0) (Some e.1) r) (set_elsewhere test other apart x es))
 
-at_itself : {K : Type 0} (R : K → K → Ordering) → IsTotalOrder R → (k : K) → is_at (R k) k ≡ true
+pub at_itself : {K : Type 0} (R : K → K → Ordering) → IsTotalOrder R → (k : K) → is_at (R k) k ≡ true
 at_itself R o k = ap is_eq (tied_itself o k)
 
 -- another key than one that passes the test of k

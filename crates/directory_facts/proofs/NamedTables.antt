@@ -1,6 +1,6 @@
 -- Tables, snapshots and reports name what their entries named: nothing makes an entry of another grain or activation.
-use Rattle.std.proofs.Common.{◌≡◌, refl, subst, ℕ, ◌+◌, ◌*◌, List, [], ◌∷◌, ◌++◌, length}
-use Rattle.std.specs.Prelude.{⊤, Bool, true, false, cond, not, is_some, nat_lt, ◌==◌, ◌&&◌, ◌||◌, All, Option, Some, None, find, flat_map, fold, drop}
+use Rattle.std.proofs.Common.{◌≡◌, refl, sym, subst, ℕ, ◌+◌, ◌*◌, List, [], ◌∷◌, ◌++◌, length}
+use Rattle.std.specs.Prelude.{⊤, Bool, true, false, cond, not, is_some, nat_lt, ◌==◌, ◌&&◌, All, Option, Some, None, find, flat_map, fold, drop}
 use Rattle.std.specs.Cmp.Lexicographic.{pointwise}
 use Rattle.std.specs.BTreeMap.{is_at}
 use Rattle.std.proofs.lemmas.List.Elements.{All-nil, All-head, All-tail, All-append, All-map, All-filter, All-take, All-drop}
@@ -23,11 +23,12 @@ use Rattle.directory_rules.specs.Table.{entry_at, with_entry, without_grain, ent
 use Rattle.directory_rules.specs.Sight.{is_kept, all_entries, kept_entries}
 use Rattle.directory_rules.specs.Snapshot.{digest_of, page_count, page_of, page_from, shelf_answer, is_snapshot, Hands_page, Has_none, Is_behind}
 use Rattle.directory_rules.specs.Gatherings.{Gathered, Wants_page, Has_all, Refuses, new_gathering, with_page, is_in_turn, completed, gathered}
-use Rattle.directory_rules.specs.Recovery.{Recovered, Awaits_more, Has_union, Rejects, with_reported, with_report, is_among, awaits_still, recovered}
+use Rattle.directory_rules.specs.Recovery.{Recovered, Has_more, Awaits_more, Has_union, Rejects, with_reported, recovered}
 use Rattle.directory_rules.specs.Answer.{Turned, turned, registered_over, deregistered_from, is_previous}
 use Rattle.directory_rules.proofs.Cases.{on_bool}
 use Rattle.directory_facts.specs.Named.{IsNamed, AreNamed}
 use Rattle.directory_facts.proofs.Entries.{all_put, all_removed}
+use Rattle.directory_facts.proofs.Collected.{TakenSo, taken_so}
 
 abbrev pub AllNamed : List Entry → Type 0
 AllNamed entries = All IsNamed entries
@@ -137,34 +138,23 @@ reported_named (entry ∷ entries) table new named =
     (λ f. put_named table entry named (All-head IsNamed entry entries new)))
 
 abbrev pub RecoveredNamed : Recovered → Type 0
+RecoveredNamed (Has_more recovery) = AreNamed recovery.gathered
 RecoveredNamed (Awaits_more recovery) = AreNamed recovery.gathered
 RecoveredNamed (Has_union table) = AreNamed table
 RecoveredNamed (Rejects number) = ⊤
 
-still_named : (silos : List Silo) (recovery : Recovery) → AreNamed recovery.gathered → RecoveredNamed (awaits_still silos recovery)
-still_named [] recovery named = named
-still_named (silo ∷ silos) recovery named = named
-
 pub recovered_named : (recovery : Recovery) (report : Report) → AreNamed recovery.gathered → AllNamed report.entries
     → RecoveredNamed (recovered recovery report)
-recovered_named recovery report before more =
-    on_bool (λ b. RecoveredNamed (cond (not b) (Rejects 751) (cond (not known) (Rejects 752) (cond done (Rejects 753) taken))))
-    ((report.version == recovery.version) && range_eq report.range recovery.range)
-    (λ t. on_bool (λ b. RecoveredNamed (cond (not b) (Rejects 752) (cond done (Rejects 753) taken))) known
-    (λ u. on_bool (λ b. RecoveredNamed (cond b (Rejects 753) taken)) done (λ v. tt)
-    (λ v. still_named (with_report recovery report).awaiting (with_report recovery report)
-    (reported_named report.entries recovery.gathered more before)))
-    (λ u. tt))
-    (λ f. tt)
+recovered_named recovery report before more = named (recovered recovery report) (taken_so recovery report)
   where
-    known : Bool
-    known = is_among report.silo recovery.awaiting || is_among report.silo recovery.reported
+    with_it : AreNamed (fold with_reported recovery.gathered report.entries)
+    with_it = reported_named report.entries recovery.gathered more before
 
-    done : Bool
-    done = is_among report.silo recovery.reported
-
-    taken : Recovered
-    taken = awaits_still (with_report recovery report).awaiting (with_report recovery report)
+    named : (result : Recovered) → TakenSo recovery report result → RecoveredNamed result
+    named (Has_more next) so = subst (λ (r : Recovery). AreNamed r.gathered) (sym so.2) with_it
+    named (Awaits_more next) so = subst (λ (r : Recovery). AreNamed r.gathered) (sym so.2) with_it
+    named (Has_union table) so = subst AreNamed (sym so.3) with_it
+    named (Rejects number) so = tt
 
 -- ---- requests
 abbrev pub NamesAct : Act → Type 0

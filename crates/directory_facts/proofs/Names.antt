@@ -32,7 +32,7 @@ use Rattle.directory_rules.specs.Settings.{Settings, AreSettings}
 use Rattle.directory_rules.specs.State.{Piece, Snapshot, Gathering, Recovery, Host, Letter, Body, Request_letter, Reply_letter, Ask_letter, Page_letter, Missing_letter, Done_letter, Query_letter, Report_letter, Behind_letter, Ahead_letter, Offer_letter, Node}
 use Rattle.directory_rules.specs.Host.{entry_of, grain_of, held_acts, find_acts, act_in, outstanding, requests_about}
 use Rattle.directory_rules.specs.Event.{IsEvent}
-use Rattle.directory_rules.specs.Sent.{letter_to, letter_if_owned, owner_by, hash_of, request_of, request_letters, all_requests, requests_of_grain, recovery_of, wants_by}
+use Rattle.directory_rules.specs.Sent.{letter_to, letter_if_owned, owner_by, hash_of, request_of, request_letters, all_requests, requests_of_grain, recovery_of, wants_by, query_to}
 use Rattle.directory_facts.specs.Named.{IsNamed, AreNamed, AwaitsSilo, HasNames}
 use Rattle.directory_facts.proofs.Entries.{same_key, all_put, found_so}
 use Rattle.directory_facts.proofs.Carried.{Facts}
@@ -62,7 +62,7 @@ NamesBody (Ask_letter range page) = ⊤
 NamesBody (Page_letter page) = AllNamed page.entries
 NamesBody (Missing_letter range) = ⊤
 NamesBody (Done_letter range) = ⊤
-NamesBody (Query_letter range) = ⊤
+NamesBody (Query_letter range after) = ⊤
 NamesBody (Report_letter report) = AllNamed report.entries
 NamesBody (Behind_letter range) = ⊤
 NamesBody (Ahead_letter range) = ⊤
@@ -145,7 +145,7 @@ wants_say : (its : PieceState) (node : Node) (range : Range) → All Says (wants
 wants_say state.Settled node range = All-nil Says
 wants_say (state.Awaiting from) node range = one_says _ tt
 wants_say state.Recovering node range =
-    All-map Says (λ silo. letter_to silo node (Query_letter range)) (recovery_of node range).awaiting (λ k d below. tt)
+    All-map Says (query_to node range) (recovery_of node range).awaiting (λ k d below. tt)
 
 pub pieces_say : (node : Node) (pieces : List (ℕ × Piece)) → All Says (flat_map (λ e. wants_by e.1.state node e.1.range) pieces)
 pieces_say node [] = All-nil Says

@@ -1,6 +1,6 @@
 -- Every step leaves a node that names silos, grains and counts in their ranges, and sends letters that do.
 use Rattle.std.proofs.Common.{arith, ◌≡◌, refl, sym, ap, subst, ℕ, ◌≤◌, List, [], ◌∷◌, map}
-use Rattle.std.specs.Prelude.{Bool, true, false, cond, ◌==◌, ◌&&◌, All, Option, Some, None, Result, Ok, Err, find, filter, fold}
+use Rattle.std.specs.Prelude.{Bool, true, false, cond, ◌==◌, ◌&&◌, All, Option, Some, None, Result, Ok, Err, find, filter}
 use Rattle.std.specs.Option.{option_map}
 use Rattle.std.specs.Ordering.{nat_cmp}
 use Rattle.std.specs.BTreeMap.{is_at}
@@ -15,7 +15,6 @@ use Rattle.silo_address.proofs.Order.{silo_cmp_exact, grain_cmp_exact}
 use Rattle.membership_view.specs.View.{ViewValue}
 use Rattle.membership_view.specs.Views.{ViewsValue}
 use Rattle.ring_range.specs.Range.{Range, holds}
-use Rattle.hash_ring.specs.Hash.{hash_grain}
 use Rattle.hash_ring.specs.Places.{PlacesValue, after_add, places_for}
 use Rattle.hash_ring.specs.Ring.{sorted_ring}
 use Rattle.range_moves.specs.Arcs.{arcs_of}
@@ -27,11 +26,11 @@ use Rattle.directory_rules.specs.declared.piece_state.PieceState.TheVariants as 
 use Rattle.directory_rules.specs.declared.reply.Why.{Why}
 use Rattle.directory_rules.specs.Settings.{Settings}
 use Rattle.directory_rules.specs.State.{Table, Piece, Holding, Snapshot, Page, Gathering, Report, Recovery, Host, Letter, Request_letter, Page_letter, Report_letter, Node}
-use Rattle.directory_rules.specs.Table.{table_of, with_entry}
+use Rattle.directory_rules.specs.Table.{table_of}
 use Rattle.directory_rules.specs.Sight.{is_next}
 use Rattle.directory_rules.specs.Gatherings.{new_gathering, gathered}
 use Rattle.directory_rules.specs.Recovery.{new_recovery, recovered}
-use Rattle.directory_rules.specs.Host.{entry_of, held_of, next_held, with_started, with_closing, with_find, without_find, without_held, confirmed, renewed, renewed_about, is_firm}
+use Rattle.directory_rules.specs.Host.{entry_of, held_of, next_held, with_started, with_closing, with_find, without_find, without_held, confirmed, renewed, renewed_about}
 use Rattle.directory_rules.specs.Answer.{piece_with, with_piece, turned, serving_piece, served_by, answered_from, answered}
 use Rattle.directory_rules.specs.Node.{new_node}
 use Rattle.directory_rules.specs.Sent.{all_requests, all_wants, gathering_of, recovery_of, query_letters}
@@ -52,7 +51,8 @@ use Rattle.directory_facts.proofs.Places.{added_is}
 use Rattle.directory_facts.proofs.Served.{serves}
 use Rattle.directory_facts.proofs.Collected.{found_or}
 use Rattle.directory_facts.proofs.PiecesKept.{base_facts}
-use Rattle.directory_facts.proofs.NamedTables.{AllNamed, entries_named, table_named, folded_named, handed_named, GatheredNamed, gathered_named, RecoveredNamed, recovered_named, NamesAct, turned_named}
+use Rattle.directory_facts.proofs.StandingEntries.{all_reported}
+use Rattle.directory_facts.proofs.NamedTables.{AllNamed, table_named, handed_named, GatheredNamed, gathered_named, RecoveredNamed, recovered_named, NamesAct, turned_named}
 use Rattle.directory_facts.proofs.Names.{Names, NamesOf, NamesBody, Says, SharedNames, named_facts, one_says, request_says, requests_say, requests_of_grain_say, pieces_say, OfSilos, ring_silos}
 use Rattle.directory_facts.proofs.NamedSights.{TablesNamed, AwaitSilos, arcs_from, pieces_named, pieces_await, shelf_named, gatherings_anew, recoveries_anew}
 
@@ -214,16 +214,6 @@ module _ (settings : Settings) (views : ViewsValue) (places : PlacesValue) (silo
         recovered_so = names.recovered_so;
       }
 
-  reported : (range : Range) → AllNamed (tr.report_of node range).entries
-  reported range =
-      let firm = filter (λ (e : Grain × Held). is_firm e.1.phase && holds range (hash_grain node.settings.hashing e.0)) node.host.held in
-      let entries = map (λ (e : Grain × Held). entry_of node.host e.0 e.1) firm in
-      entries_named (fold with_entry [] entries)
-      (folded_named entries [] (All-map IsNamed (λ (e : Grain × Held). entry_of node.host e.0 e.1) firm
-      (All-filter (λ (e : Grain × Held). is_firm e.1.phase && holds range (hash_grain node.settings.hashing e.0))
-      (λ (e : Grain × Held). IsNamed (entry_of node.host e.0 e.1)) node.host.held names.held))
-      (All-nil (λ (e : Grain × Entry). IsNamed e.1)))
-
   page_so : (letter : Letter) (page : Page) → letter.body ≡ Page_letter page → Says letter
       → GatheredNamed (gathered (gathering_of node page.range) page)
   page_so letter page body says =
@@ -358,7 +348,7 @@ module _ (settings : Settings) (views : ViewsValue) (places : PlacesValue) (silo
     forgoes = λ letter range body there brings. (less_shelf _, none);
     lags = λ letter range brings. (names, one_says _ tt);
     passed = λ letter range brings. (names, one_says _ tt);
-    reports = λ letter range body seen brings. (names, one_says _ (reported range));
+    reports = λ letter range after body seen brings. (names, one_says _ (all_reported IsNamed node range after names.held));
     gathers =
         λ letter page gathering taken is brings. (
           gathering_so gathering (subst GatheredNamed is (page_so letter page taken.body brings.1)),
@@ -376,6 +366,12 @@ module _ (settings : Settings) (views : ViewsValue) (places : PlacesValue) (silo
           none,
         );
     turns = λ letter range piece body has awaits brings. (turned_so range, queries_say range);
+    continues =
+        λ letter report recovery taken is brings. (
+          recovery_so recovery
+              (subst RecoveredNamed is (report_so letter report taken.body brings.1)),
+          one_says _ tt,
+        );
     collects =
         λ letter report recovery taken is brings. (
           recovery_so recovery

@@ -17,12 +17,12 @@ use Rattle.directory_rules.specs.declared.held.Phase.TheVariants.{Firm}
 use Rattle.directory_rules.specs.declared.piece_state.PieceState.{PieceState}
 use Rattle.directory_rules.specs.declared.piece_state.PieceState.TheVariants as state
 use Rattle.directory_rules.specs.Settings.{Settings}
-use Rattle.directory_rules.specs.State.{Piece, Snapshot, Page, Host, Letter, Body, Request_letter, Offer_letter, Query_letter, Node}
+use Rattle.directory_rules.specs.State.{Piece, Snapshot, Page, Host, Letter, Body, Request_letter, Offer_letter, Node}
 use Rattle.directory_rules.specs.Sight.{is_next}
 use Rattle.directory_rules.specs.Snapshot.{Hands_page, Has_none, Is_behind, page_count, page_of, page_from, is_snapshot, shelf_answer}
 use Rattle.directory_rules.proofs.Cases.{on_bool}
 use Rattle.directory_rules.specs.Host.{outstanding, requests_about, entry_of, next_held, next_closing, with_started, with_closing, with_find, without_find, without_held, confirmed, renewed, renewed_about}
-use Rattle.directory_rules.specs.Sent.{letter_to, letter_if_owned, owner_by, hash_of, request_of, request_letters, all_requests, requests_of_grain, recovery_of, wants_by, all_wants}
+use Rattle.directory_rules.specs.Sent.{letter_to, letter_if_owned, owner_by, hash_of, request_of, request_letters, all_requests, requests_of_grain, recovery_of, wants_by, all_wants, query_to}
 use Rattle.directory_rules.specs.Step as at
 use Rattle.directory_rules.specs.Transfer as tr
 use Rattle.directory_facts.specs.Own.{IsOwnNode, NamesOwn, IsOwnLetter}
@@ -85,10 +85,9 @@ requests_of_grain_own : (settings : Settings) (node : Node) (grain : Grain) → 
 requests_of_grain_own settings node grain by =
     acts_own settings node (requests_about grain node.host) by (requests_about_own grain node.host)
 
-queries_own : (settings : Settings) (node : Node) (range : Range) (silos : List Silo)
-    → AllOwn settings (map (λ silo. letter_to silo node (Query_letter range)) silos)
+queries_own : (settings : Settings) (node : Node) (range : Range) (silos : List Silo) → AllOwn settings (map (query_to node range) silos)
 queries_own settings node range silos =
-    All-map (IsOwnLetter settings) (λ silo. letter_to silo node (Query_letter range)) silos (λ k d below. tt)
+    All-map (IsOwnLetter settings) (query_to node range) silos (λ k d below. tt)
 
 one_own : (settings : Settings) (letter : Letter) → IsOwnLetter settings letter → AllOwn settings (letter ∷ [])
 one_own settings letter own = All-cons (IsOwnLetter settings) letter [] own (All-nil (IsOwnLetter settings))
@@ -243,7 +242,7 @@ module _ (settings : Settings) (silo : Silo) (node : Node) (own : OwnNode settin
     forgoes = λ letter range body there. (own, none);
     lags = λ letter range. (own, sends _ tt);
     passed = λ letter range. (own, sends _ tt);
-    reports = λ letter range body seen. (own, sends _ (record { version = sym seen; silo = refl }));
+    reports = λ letter range after body seen. (own, sends _ (record { version = sym seen; silo = refl }));
     gathers = λ letter page gathering taken is. (own, sends _ tt);
     installs = λ letter page entries taken is. (own, sends _ tt);
     drops = λ letter page gathering taken is. (own, none);
@@ -253,6 +252,7 @@ module _ (settings : Settings) (silo : Silo) (node : Node) (own : OwnNode settin
           queries_own settings (tr.turned_to_recovery node range) range
               (recovery_of (tr.turned_to_recovery node range) range).awaiting,
         );
+    continues = λ letter report recovery taken is. (own, sends _ tt);
     collects = λ letter report recovery taken is. (own, none);
     completes = λ letter report table taken is. (own, none);
     takes_over = λ letter entry body seen may. begun entry.grain (Some entry.activation) may;

@@ -234,7 +234,7 @@ module _ (settings : Settings) (views : ViewsValue) (places : PlacesValue) (silo
     forgoes = λ letter range body there brings. keeps;
     lags = λ letter range brings. keeps;
     passed = λ letter range brings. keeps;
-    reports = λ letter range body seen brings. keeps;
+    reports = λ letter range after body seen brings. keeps;
     gathers =
         λ letter page gathering taken is brings. gathering_so gathering
         (subst (GatheredInto settings.hashing page.range (gathering_of node page.range) page) is (page_into letter page taken));
@@ -246,6 +246,9 @@ module _ (settings : Settings) (views : ViewsValue) (places : PlacesValue) (silo
         λ letter page gathering taken is brings. gathering_so gathering
         (subst (GatheredInto settings.hashing page.range (gathering_of node page.range) page) is (page_into letter page taken));
     turns = λ letter range piece body has awaits brings. turned letter.version range piece has;
+    continues =
+        λ letter report recovery taken is brings. recovery_so recovery
+        (subst (RecoveredInto settings.hashing report.range) is (report_into letter report taken));
     collects =
         λ letter report recovery taken is brings. recovery_so recovery
         (subst (RecoveredInto settings.hashing report.range) is (report_into letter report taken));

@@ -14,6 +14,7 @@ use Rattle.silo_address.proofs.Order.{silo_cmp_total, silo_cmp_exact}
 use Rattle.membership_view.specs.declared.row.Row.{Row}
 use Rattle.membership_view.specs.declared.status.Status.{Status}
 use Rattle.membership_view.specs.Row.{is_active, status_in, joining, dying}
+use Rattle.membership_view.specs.View.{is_spare, listed_rows}
 use Rattle.membership_view.specs.Views.{ViewsValue, row_of, rows_in, view_at}
 use Rattle.membership_view.specs.Changes.{occupant, changed, without, joined_rows}
 use Rattle.texts.proofs.Entries.{lookup-insert_entry}
@@ -105,6 +106,16 @@ added_in places version (e ∷ es) all =
     added_cons places e.0 (status_in version e.1) (rows_in version es) (All-head (λ q. is_added places q ≡ true) e.0 (keys_of es) all)
     (added_in places version es (All-tail (λ q. is_added places q ≡ true) e.0 (keys_of es) all))
 
+-- so were those that a view lists of them
+added_kept : (places : PlacesValue) (p : Silo × Status → Bool) (rows : List (Silo × Status)) → AllAdded places (keys_of rows)
+    → AllAdded places (keys_of (filter p rows))
+added_kept places p [] all = all
+added_kept places p (e ∷ es) all =
+    let later = added_kept places p es (All-tail (λ q. is_added places q ≡ true) e.0 (keys_of es) all) in
+    on_bool (λ b. AllAdded places (keys_of (cond b (e ∷ filter p es) (filter p es)))) (p e)
+    (λ t. All-cons (λ q. is_added places q ≡ true) e.0 (keys_of (filter p es)) (All-head (λ q. is_added places q ≡ true) e.0 (keys_of es) all) later)
+    (λ f. later)
+
 added_active : (places : PlacesValue) (rows : List (Silo × Status)) → AllAdded places (keys_of rows)
     → list_all (is_added places) (keys_of (filter (λ row. is_active row.1) rows)) ≡ true
 added_active places [] all = refl
@@ -120,9 +131,11 @@ added_active places (e ∷ es) all =
 pub added_view : (views : ViewsValue) (places : PlacesValue) (version : ℕ) → AllAdded places (keys_of views.rows)
     → are_added (view_at views version) places ≡ true
 added_view views places version all =
-    on_bool (λ b. list_all (is_added places) (keys_of (filter (λ row. is_active row.1) (cond b (rows_in version views.rows) []))) ≡ true)
+    let rows = rows_in version views.rows in
+    on_bool (λ b. list_all (is_added places) (keys_of (filter (λ row. is_active row.1) (cond b (listed_rows rows) []))) ≡ true)
     (nat_le version views.version)
-    (λ t. added_active places (rows_in version views.rows) (added_in places version views.rows all)) (λ f. refl)
+    (λ t. added_active places (listed_rows rows)
+    (added_kept places (λ row. not (is_spare rows row.0 row.1)) rows (added_in places version views.rows all))) (λ f. refl)
 
 -- a silo with a row was added
 pub added_row : (views : ViewsValue) (places : PlacesValue) (silo : Silo) → AllAdded places (keys_of views.rows)

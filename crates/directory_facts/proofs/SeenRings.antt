@@ -20,7 +20,7 @@ use Rattle.directory_rules.specs.Settings.{Settings, AreSettings}
 use Rattle.directory_rules.specs.State.{Node}
 use Rattle.directory_rules.specs.Node.{new_node}
 use Rattle.directory_rules.specs.Step as at
-use Rattle.directory_rules.specs.Input.{Input}
+use Rattle.directory_rules.specs.Input.{Input, step}
 use Rattle.directory_facts.specs.Seen.{SeesItsVersion}
 use Rattle.directory_facts.proofs.Carried.{Facts, Brings, IsSight, GoesOn, IsGoing, Keeps}
 use Rattle.directory_facts.proofs.Ways.{Ways}
@@ -180,20 +180,28 @@ module _ (settings : Settings) (views : ViewsValue) (places : PlacesValue) (silo
     forgoes = λ letter range body there brings. stay _ refl refl;
     lags = λ letter range brings. sees;
     passed = λ letter range brings. sees;
-    reports = λ letter range body seen brings. sees;
+    reports = λ letter range after body seen brings. sees;
     gathers = λ letter page gathering taken is brings. stay _ refl refl;
     installs = λ letter page entries taken is brings. stay _ refl refl;
     drops = λ letter page gathering taken is brings. stay _ refl refl;
     turns = λ letter range piece body has awaits brings. stay _ refl refl;
+    continues = λ letter report recovery taken is brings. stay _ refl refl;
     collects = λ letter report recovery taken is brings. stay _ refl refl;
     completes = λ letter report table taken is brings. stay _ refl refl;
     takes_over = λ letter entry body seen may brings. stay _ refl refl;
   }
 
+-- a step leaves it so
+pub sees_on : (settings : Settings) (views : ViewsValue) (places : PlacesValue) (silo : Silo) (node : Node) (input : Input)
+    (stepped : at.Stepped) → SeesItsVersion views places node → Brings seen_facts settings views places silo input
+    → step node input ≡ Ok stepped → SeesItsVersion views places stepped.node
+sees_on settings views places silo node input stepped sees brings is =
+    by_way node (Made settings views places silo node sees) (ways settings views places silo node sees) input stepped is brings
+
 pub seen_keep : Keeps seen_facts
 seen_keep = record {
   first = λ settings are. record {
-    whole = views_start settings.silos (omega (are.silos_above, arith)) are.silos_within;
+    whole = views_start settings.silos 0 (omega (are.silos_above, arith)) are.silos_within (omega arith);
     limit = refl;
     hashing = refl;
     points = refl;
@@ -204,9 +212,7 @@ seen_keep = record {
       placed;
   going = going;
   stepping = λ settings views places silo node input stepped before is. record {
-    node =
-        by_way node (Made settings views places silo node before.node) (ways settings views places silo node before.node) input stepped is
-        before.brings;
+    node = sees_on settings views places silo node input stepped before.node before.brings is;
     letters = λ k d below. tt;
   };
 }

@@ -3,12 +3,11 @@ use Rattle.std.proofs.Common.{arith, ◌≡◌, refl, sym, ap, subst, ◌∙◌,
 use Rattle.std.specs.Prelude.{◌==◌, ◌&&◌, not, nat_lt, Bool, true, false, cond, is_some, if◌then◌else◌, Option, Some, None, fold}
 use Rattle.std.specs.Ordering.{nat_cmp}
 use Rattle.std.specs.Cmp.Lexicographic.{pointwise}
-use Rattle.std.specs.List.{list_all, range_with_len}
+use Rattle.std.specs.List.{range_with_len}
 use Rattle.std.proofs.lemmas.Bool.{eq-eqb, eqb-false, lt-ltb, ltb-true}
 use Rattle.std.proofs.lemmas.Cmp.{nat_cmp_total}
 use Rattle.std.proofs.lemmas.Map.Lookups.{exact_unsigned}
 use Rattle.texts.proofs.Decided.{both}
-use Rattle.silo_address.specs.Silo.{silo_eq}
 use Rattle.silo_address.specs.declared.Entry.{Entry}
 use Rattle.ring_range.specs.Range.{Range, range_eq}
 use Rattle.ring_range.proofs.Same.{Decides-range}
@@ -23,8 +22,9 @@ use Rattle.directory_rules.specs.Recovery.{recovered}
 use Rattle.directory_rules.specs.Sent.{gathering_of, recovery_of}
 use Rattle.directory_rules.specs.Step.{silently}
 use Rattle.directory_rules.specs.declared.effect.Effect.TheVariants as effect
-use Rattle.directory_rules.specs.Transfer.{piece_at, has_range, is_awaiting_from, is_recovering, awaits, recovers, with_settled, gathered_by, recovered_by}
+use Rattle.directory_rules.specs.Transfer.{piece_at, has_range, is_awaiting_from, is_recovering, awaits, with_settled, gathered_by, recovered_by}
 use Rattle.directory_rules.proofs.Cases.{on_bool}
+use Rattle.directory_rules.proofs.ReportCounts.{report_counts}
 use Rattle.directory_facts.specs.Transfers.{then_page, PagesAreTheSnapshot, IsSettledWith, LastPageSettles, LastReportSettles}
 use Rattle.directory_facts.proofs.Lookups.{found_set}
 use Rattle.directory_facts.proofs.PageCounts.{counted, same_bytes}
@@ -171,20 +171,9 @@ last_page_settles node letter page entries awaited all =
 
 pub last_report_settles : LastReportSettles
 last_report_settles node letter report table awaited all =
-    subst (λ b. IsSettledWith (cond b (recovered_by (recovered (recovery_of node report.range) report) report.range node)
+    subst (λ b. IsSettledWith (cond b (recovered_by (recovered (recovery_of node report.range) report) report node)
     (silently node effect.Ignored)).node report.range table) (sym awaited)
-    (subst (λ r. IsSettledWith (recovered_by r report.range node).node report.range table) (sym all)
-    (settled_so node report.range table is_recovering has))
-  where
-    has : has_range is_recovering report.range (piece_at node report.range) ≡ true
-    has =
-        let own = list_all (λ e. silo_eq e.activation.silo letter.from) report.entries in
-        let inside = lie_in node.settings.hashing report.range report.entries in
-        let order = rise_by_grain report.entries in
-        let recovering = recovers node letter.version report.range in
-        let one = (report.version == letter.version) && silo_eq report.silo letter.from in
-        let five = both (one && recovering && order && inside) own awaited in
-        let four = both (one && recovering && order) inside five.0 in
-        let three = both (one && recovering) order four.0 in
-        (both (letter.version == node.view.version) (has_range is_recovering report.range (piece_at node report.range))
-        (both one recovering three.0).1).1
+    (subst (λ r. IsSettledWith (recovered_by r report node).node report.range table) (sym all)
+    (settled_so node report.range table is_recovering
+    (both (letter.version == node.view.version) (has_range is_recovering report.range (piece_at node report.range))
+    (report_counts node letter report awaited).waits).1))

@@ -1,6 +1,6 @@
 -- Every accepted step of a silo is one of these ways, each with what its guards say.
 use Rattle.std.proofs.Common.{◌≡◌, ◌≢◌, ℕ, ◌<◌, ◌≤◌}
-use Rattle.std.specs.Prelude.{◌++◌, true, false, length, List, Some, None}
+use Rattle.std.specs.Prelude.{◌++◌, ◌||◌, nat_lt, true, false, length, List, [], ◌∷◌, Option, Some, None}
 use Rattle.std.specs.List.{list_all}
 use Rattle.silo_address.specs.Silo.{Silo, silo_eq}
 use Rattle.silo_address.specs.Grain.{Grain}
@@ -10,6 +10,7 @@ use Rattle.membership_view.specs.View.{ViewValue}
 use Rattle.ring_range.specs.Range.{Range}
 use Rattle.hash_ring.specs.Places.{PlacesValue}
 use Rattle.hash_ring.specs.Ring.{is_active_in}
+use Rattle.hash_ring.specs.Hash.{hash_grain}
 use Rattle.directory_rules.specs.declared.act.Request.{Request}
 use Rattle.directory_rules.specs.declared.held.Held.{Held}
 use Rattle.directory_rules.specs.declared.held.Phase.TheVariants.{Firm}
@@ -23,14 +24,15 @@ use Rattle.directory_rules.specs.Table.{table_of, rise_by_grain, lie_in}
 use Rattle.directory_rules.specs.Sight.{is_next}
 use Rattle.directory_rules.specs.Snapshot.{Hands_page, Has_none, shelf_answer, has_snapshot, shelf_without}
 use Rattle.directory_rules.specs.Gatherings.{Wants_page, Has_all, Refuses, gathered}
-use Rattle.directory_rules.specs.Recovery.{Awaits_more, Has_union, recovered}
+use Rattle.directory_rules.specs.Recovery.{Has_more, Awaits_more, Has_union, recovered}
+use Rattle.directory_rules.specs.Standing.{rise_behind}
 use Rattle.directory_rules.specs.Host.{held_of, is_asking, outstanding, requests_about, has_numbers, has_count, is_full_of_activations, is_full_of_finds, asking_under, closing_under, is_finding, confirmed, without_held, without_find, renewed_about}
 use Rattle.directory_rules.specs.Cache.{hint_of, in_front, without_pair, learnt}
 use Rattle.directory_rules.specs.Sent.{gathering_of, recovery_of}
 use Rattle.directory_rules.specs.Answer.{answered}
 use Rattle.directory_rules.specs.Step.{Stepped, silently, sight, started, closing, cancelled, offered, finding, having_nudged, having_nudged_grain, nudge_ranges}
 use Rattle.directory_rules.specs.Host as host
-use Rattle.directory_rules.specs.Transfer.{answering, piece_at, with_settled, with_gathering, with_recovery, asking_on, turned_to_recovery, querying, report_of}
+use Rattle.directory_rules.specs.Transfer.{answering, piece_at, with_settled, with_gathering, with_recovery, asking_on, turned_to_recovery, querying, querying_on, report_of}
 use Rattle.directory_rules.specs.Receive.{replying}
 use Rattle.directory_rules.specs.PlainMachine.{Nothing_changes, step_of_effect}
 use Rattle.directory_rules.specs.declared.own_step.OwnStep.TheVariants.{Wake, Close, Cancel, Find, Forget, Nudge, NudgeGrain, NudgeRanges, Offer}
@@ -86,9 +88,10 @@ pub record IsReportTaken (node : Node) (letter : Letter) (report : Report) : Typ
   pub piece : Piece
   pub has : HasPiece node letter.version report.range piece
   pub recovers : piece.state ≡ state.Recovering
-  pub rise : rise_by_grain report.entries ≡ true
+  pub rise : rise_behind (hash_grain node.settings.hashing) (report.range ∷ []) report.after report.entries ≡ true
   pub lie : lie_in node.settings.hashing report.range report.entries ≡ true
   pub own : list_all (λ e. silo_eq e.activation.silo letter.from) report.entries ≡ true
+  pub some : (report.last || nat_lt 0 (length report.entries)) ≡ true
 
 -- what is to be shown of every way
 pub record Ways (node : Node) (P : Input → Stepped → Type 0) : Type 0 where
@@ -150,8 +153,9 @@ pub record Ways (node : Node) (P : Input → Stepped → Type 0) : Type 0 where
   -- a silo that is asked for a version that it hasn't seen yet, or has passed, or has just seen
   pub lags : (letter : Letter) (range : Range) → P (Receives letter) (answering letter node (Behind_letter range) effect.Behind)
   pub passed : (letter : Letter) (range : Range) → P (Receives letter) (answering letter node (Ahead_letter range) effect.Ahead)
-  pub reports : (letter : Letter) (range : Range) → letter.body ≡ Query_letter range → letter.version ≡ node.view.version
-      → P (Receives letter) (answering letter node (Report_letter (report_of node range)) effect.Report)
+  pub reports : (letter : Letter) (range : Range) (after : Option Grain) → letter.body ≡ Query_letter range after
+      → letter.version ≡ node.view.version
+      → P (Receives letter) (answering letter node (Report_letter (report_of node range after)) effect.Report)
   -- the new owner
   pub gathers : (letter : Letter) (page : Page) (gathering : Gathering) → IsPageTaken node letter page
       → gathered (gathering_of node page.range) page ≡ Wants_page gathering
@@ -165,6 +169,9 @@ pub record Ways (node : Node) (P : Input → Stepped → Type 0) : Type 0 where
   pub turns : (letter : Letter) (range : Range) (piece : Piece) → letter.body ≡ Missing_letter range
       → HasPiece node letter.version range piece → piece.state ≡ state.Awaiting letter.from
       → P (Receives letter) (querying range (turned_to_recovery node range))
+  pub continues : (letter : Letter) (report : Report) (recovery : Recovery) → IsReportTaken node letter report
+      → recovered (recovery_of node report.range) report ≡ Has_more recovery
+      → P (Receives letter) (querying_on report.range report.silo (with_recovery node recovery))
   pub collects : (letter : Letter) (report : Report) (recovery : Recovery) → IsReportTaken node letter report
       → recovered (recovery_of node report.range) report ≡ Awaits_more recovery
       → P (Receives letter) (silently (with_recovery node recovery) effect.More)

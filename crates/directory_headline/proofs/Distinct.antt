@@ -19,7 +19,7 @@ use Rattle.directory_rules.proofs.Cases.{on_bool}
 use Rattle.directory_rules.proofs.RequestNumbers.{one, one_cases, times, with_number, numbers}
 use Rattle.directory_rules.proofs.Renewal.{held_numbers, same_keys, request_numbers, renewed_once, renewed_below}
 use Rattle.directory_facts.proofs.Entries.{same_key}
-use Rattle.directory_headline.proofs.Renewals.{gets, phase_anew, IsRenewal, alike}
+use Rattle.directory_headline.proofs.NewNumbers.{gets, phase_anew, IsRenewal, alike}
 
 -- ---- numbers that are apart occur once
 keys_append : {K X : Type 0} (xs ys : List (K × X)) → keys_of (xs ++ ys) ≡ keys_of xs ++ keys_of ys

@@ -4,7 +4,8 @@ use Rattle.std.proofs.Common.{◌≡◌, ℕ, true, List, [], ◌∷◌, sym, ap
 use Rattle.std.specs.Prelude.{⊤, is_some, All, Some}
 use Rattle.std.proofs.lemmas.List.Elements.{All-nil, All-cons}
 use Rattle.silo_address.specs.Silo.{Silo}
-use Rattle.membership_view.specs.Views.{status_at}
+use Rattle.membership_view.specs.View.{status_of}
+use Rattle.membership_view.specs.Views.{status_at, view_at}
 use Rattle.hash_ring.specs.Hash.{hash_grain}
 use Rattle.range_moves.specs.Arcs.{owner_silo}
 use Rattle.directory_protocol.specs.Setting.{Setting}
@@ -16,6 +17,7 @@ use Rattle.directory_rules.specs.State.{Letter, Node, World}
 use Rattle.directory_rules.specs.Step.{Stepped}
 use Rattle.directory_rules.specs.Input.{Input, Sees, Does, Receives}
 use Rattle.directory_rules.specs.Happens.{node_of}
+use Rattle.directory_rules.proofs.People.{live_said}
 use Rattle.directory_rules.specs.Laws.{is_live}
 use Rattle.directory_facts.specs.Own.{IsOwnLetter}
 use Rattle.directory_facts.proofs.Carried.{IsSight}
@@ -91,10 +93,13 @@ module _ (m : Setting) (f : World) (w : protocol.World) (silo : Silo) (node : No
   pub live_now : is_live (status_at f.views f.views.version silo) ≡ true
   live_now = sym (here.facts.peopled.live silo) ∙ ap is_some here.there
 
+  live_view : is_live (status_of (view_at f.views f.views.version) silo) ≡ true
+  live_view = live_said f.views here.facts.peopled.whole f.views.version (omega arith) silo ∙ live_now
+
   pub alive : m.alive w.now silo ≡ true
   alive =
       ap (λ version. m.alive version silo) here.shown.now ∙ here.setting.alive f.views.version silo (omega arith)
-      ∙ live_alive (status_at f.views f.views.version silo) live_now
+      ∙ live_alive (status_of (view_at f.views f.views.version) silo) live_view
 
   -- of the version that it has seen
   pub seen_is : w.seen silo ≡ node.view.version

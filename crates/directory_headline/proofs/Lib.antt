@@ -15,6 +15,7 @@ pub mod Finds
 pub mod Beginnings
 pub mod Closes
 pub mod Replies
+pub mod NewNumbers
 pub mod Renewals
 pub mod Distinct
 pub mod RenewedAbout
@@ -42,7 +43,9 @@ pub mod PlainViews
 pub mod Plainly
 pub mod Unions
 pub mod MissingSnapshot
+pub mod Awaited
 pub mod Reports
+pub mod Tellings
 pub mod LastReport
 pub mod HashPieces
 pub mod NewRecoveries

@@ -1,6 +1,6 @@
 -- The members of a view: who is awaited by a recovery, and who is there from the version in which it joined.
-use Rattle.std.proofs.Common.{arith, ◌≡◌, ◌≢◌, ℕ, ◌≤◌, List, [], ◌∷◌, inl, inr, refl, sym, ap, ◌∙◌}
-use Rattle.std.specs.Prelude.{option_and_then, ◌||◌, true, false, cond, not, filter, Option, Some, None}
+use Rattle.std.proofs.Common.{arith, ◌≡◌, ◌≢◌, ℕ, ◌≤◌, List, [], ◌∷◌, IsSome, inl, inr, refl, sym, ap, subst, ◌∙◌}
+use Rattle.std.specs.Prelude.{option_and_then, ◌||◌, Bool, true, false, cond, not, filter, Option, Some, None}
 use Rattle.std.specs.Option.{unwrap_or, option_map}
 use Rattle.std.specs.Ordering.{is_eq}
 use Rattle.std.specs.List.{AllByRecursion}
@@ -17,10 +17,11 @@ use Rattle.membership_view.specs.declared.row.Row.{Row}
 use Rattle.membership_view.specs.declared.status.Status.{Status}
 use Rattle.membership_view.specs.declared.status.Status.TheVariants.{Active, Leaving, Dead}
 use Rattle.membership_view.specs.Row.{status_in}
-use Rattle.membership_view.specs.View.{ViewValue, IsByAddress, status_of}
-use Rattle.membership_view.specs.Views.{ViewsValue, row_of, rows_in, status_at, joining_version}
+use Rattle.membership_view.specs.View.{ViewValue, IsByAddress, is_outlived, or_outlived, status_of}
+use Rattle.membership_view.specs.Views.{ViewsValue, row_of, status_at, joining_version, view_at}
 use Rattle.membership_view.specs.Whole.{IsViews}
-use Rattle.texts.proofs.Entries.{lookup-picked}
+use Rattle.membership_view.proofs.Known.{status_at-made}
+use Rattle.membership_view.proofs.Said.{views_say_statuses}
 use Rattle.membership_view.proofs.Unchanged.{joined_from}
 use Rattle.directory_protocol.proofs.Changes.{silo_cases}
 use Rattle.directory_rules.specs.Members.{is_dead_status, is_known_dead, members_of}
@@ -75,7 +76,14 @@ among_rows q (e ∷ es) sorted =
 
 -- the members of a view are those that are there and aren't Dead
 pub members_are : (view : ViewValue) (silo : Silo) → IsByAddress view → is_among silo (members_of view) ≡ is_live (status_of view silo)
-members_are view silo by_address = among_rows silo view.rows by_address
+members_are view silo by_address =
+    among_rows silo view.rows by_address ∙ live_listed (lookup (is_at (silo_cmp silo)) view.rows) (is_outlived silo view.rows)
+  where
+    -- whoever a newer silo outlives isn't live
+    live_listed : (o : Option Status) (outlived : Bool) → is_live o ≡ is_live (or_outlived o outlived)
+    live_listed None true = refl
+    live_listed None false = refl
+    live_listed (Some status) outlived = refl
 
 -- ---- who is there at a version
 nothing : (o : Option Row) → option_map (λ row. row.joined) o ≡ None → o ≡ None
@@ -85,20 +93,20 @@ nothing (Some row) is = absurd (cc (is))
 module _ (views : ViewsValue) (whole : IsViews views) where
   never_there : (silo : Silo) → row_of views silo ≡ None → status_at views views.version silo ≡ None
   never_there silo none =
-      ap (λ b. lookup (is_at (silo_cmp silo)) (cond b (rows_in views.version views.rows) []))
-      (le-leb views.version views.version (omega arith))
-      ∙ lookup-picked silo_cmp_total (status_in views.version) silo views.rows whole.in_order
-      ∙ ap (option_and_then (status_in views.version)) none
+      status_at-made views whole.in_order views.version silo (omega arith) ∙ ap (option_and_then (status_in views.version)) none
 
   -- a silo that is live now, and isn't Dead at a version since it joined, is live there
   pub live_since :
       (silo : Silo) (version : ℕ) → version ≤ views.version → unwrap_or (joining_version views silo) 0 ≤ version
       → is_live (status_at views views.version silo) ≡ true
-      → not (is_known_dead (status_at views version silo)) ≡ true → is_live (status_at views version silo) ≡ true
+      → not (is_known_dead (status_of (view_at views version) silo)) ≡ true → is_live (status_of (view_at views version) silo) ≡ true
   live_since silo version within joined live alive = by (joining_version views silo) refl joined
     where
-      by : (o : Option ℕ) → joining_version views silo ≡ o → unwrap_or o 0 ≤ version → is_live (status_at views version silo) ≡ true
+      by : (o : Option ℕ) → joining_version views silo ≡ o → unwrap_or o 0 ≤ version → is_live (status_of (view_at views version) silo) ≡ true
       by None is le =
           let nobody = ap is_live (never_there silo (nothing (row_of views silo) is)) in
           absurd (cc (sym nobody ∙ live))
-      by (Some j) is le = alive_live (status_at views version silo) ((joined_from views whole silo j is version within).1 le) alive
+      by (Some j) is le =
+          let there = (joined_from views whole silo j is version within).1 le in
+          let said = views_say_statuses views whole silo version within there in
+          alive_live (status_of (view_at views version) silo) (subst (λ o. IsSome o) (sym said) there) alive

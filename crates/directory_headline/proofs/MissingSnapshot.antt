@@ -12,10 +12,10 @@ use Rattle.directory_protocol.specs.World as protocol
 use Rattle.directory_rules.specs.declared.piece_state.PieceState.{PieceState}
 use Rattle.directory_rules.specs.declared.piece_state.PieceState.TheVariants as state
 use Rattle.directory_rules.specs.Table.{entry_at}
-use Rattle.directory_rules.specs.State.{Piece, Gathering, Recovery, Letter, Query_letter, Node, World}
+use Rattle.directory_rules.specs.State.{Piece, Gathering, Recovery, Letter, Node, World}
 use Rattle.directory_rules.specs.Recovery.{new_recovery}
 use Rattle.directory_rules.specs.Sight.{is_settled}
-use Rattle.directory_rules.specs.Sent.{letter_to, recovery_of}
+use Rattle.directory_rules.specs.Sent.{query_to, recovery_of}
 use Rattle.directory_rules.specs.Transfer.{querying, turned_to_recovery, with_state}
 use Rattle.directory_rules.proofs.Cases.{on_bool}
 use Rattle.directory_facts.proofs.Entries.{all_put, all_removed}
@@ -66,4 +66,4 @@ module _ (m : Setting) (f : World) (w : protocol.World) (silo : Silo) (node : No
             all_put nat_cmp exact_unsigned (λ (e : ℕ × Recovery). IsShownRecovery m w.reports e.1) range.start
             (new_recovery node.view range) node.recoveries was.recoveries
             (recovery_begins m f w silo node here range);
-      }) (All-map (IsShownLetter m.hash w) (λ s. letter_to s its (Query_letter range)) (recovery_of its range).awaiting (λ k d below. tt))
+      }) (All-map (IsShownLetter m.hash w) (query_to its range) (recovery_of its range).awaiting (λ k d below. tt))

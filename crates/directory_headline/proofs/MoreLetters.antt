@@ -1,5 +1,5 @@
 -- What is shown by letters stays shown when more are sent.
-use Rattle.std.proofs.Common.{ℕ, List, Option, Some, None, inl, inr}
+use Rattle.std.proofs.Common.{ℕ, List, Option, Some, None}
 use Rattle.std.specs.Prelude.{All}
 use Rattle.std.proofs.lemmas.List.Elements.{All-weaker}
 use Rattle.silo_address.specs.Silo.{Silo}
@@ -17,7 +17,7 @@ use Rattle.directory_rules.specs.declared.reply.Reply.{Reply}
 use Rattle.directory_rules.specs.declared.reply.Reply.TheVariants as reply
 use Rattle.directory_rules.specs.State.{Snapshot, Page, Gathering, Whole, Report, Recovery, Letter, Body, Request_letter, Reply_letter, Ask_letter, Page_letter, Missing_letter, Done_letter, Query_letter, Report_letter, Behind_letter, Ahead_letter, Offer_letter, Node}
 use Rattle.directory_headline.specs.SiloState.{SiloState}
-use Rattle.directory_headline.specs.Shown.{HasSealed, IsShownSnapshot, IsShownPage, IsShownWhole, IsShownGathering, IsShownReport, HasReported, IsShownRecovery, IsShownRequest, IsShownReply, IsShownBody, IsShownLetter, IsShownNode}
+use Rattle.directory_headline.specs.Shown.{HasSealed, IsShownSnapshot, IsShownPage, IsShownWhole, IsShownGathering, IsShownReport, HasTold, IsShownRecovery, IsShownRequest, IsShownReply, IsShownBody, IsShownLetter, IsShownNode}
 use Rattle.directory_headline.proofs.Actors.{Grows}
 
 module _ (hash : Grain → ℕ) (sent more : List letters.Snapshot) (grows : (x : letters.Snapshot) → Sent x sent → Sent x more) where
@@ -60,10 +60,11 @@ module _ (hash : Grain → ℕ) (sent more : List letters.Snapshot) (grows : (x 
 module _ (m : Setting) (sent more : List letters.Report) (grows : (x : letters.Report) → Sent x sent → Sent x more) where
   pub report_still : (report : Report) → IsShownReport m.hash sent report → IsShownReport m.hash more report
   report_still report x =
-      record { told = x.told; was_sent = grows x.told x.was_sent; version = x.version; sender = x.sender; firm = x.firm }
+      record { told = x.told; was_sent = grows x.told x.was_sent; version = x.version; sender = x.sender; firm = x.firm; more = x.more }
 
-  reported_still : (recovery : Recovery) (member : Silo) → HasReported m.hash sent recovery member → HasReported m.hash more recovery member
-  reported_still recovery member x = record {
+  told_still : (recovery : Recovery) (member : Silo) (grain : Grain) → HasTold m.hash sent recovery member grain
+      → HasTold m.hash more recovery member grain
+  told_still recovery member grain x = record {
     told = x.told;
     was_sent = grows x.told x.was_sent;
     version = x.version;
@@ -76,7 +77,7 @@ module _ (m : Setting) (sent more : List letters.Report) (grows : (x : letters.R
   recovery_still recovery x = record {
     gathered = x.gathered;
     awaits = x.awaits;
-    members = λ silo is. elim (x.members silo is) [ inl awaited ↦ inl awaited | inr had ↦ inr (reported_still recovery silo had) ];
+    members = λ silo grain is told. told_still recovery silo grain (x.members silo grain is told);
   }
 
 module _ (m : Setting) (w later : World) (grows : Grows w later) where
@@ -102,7 +103,7 @@ module _ (m : Setting) (w later : World) (grows : Grows w later) where
   body_still letter (Page_letter page) x = page_still m.hash w.snapshots later.snapshots grows.snapshots page x
   body_still letter (Missing_letter range) x = tt
   body_still letter (Done_letter range) x = tt
-  body_still letter (Query_letter range) x = tt
+  body_still letter (Query_letter range after) x = tt
   body_still letter (Report_letter report) x = report_still m w.reports later.reports grows.reports report x
   body_still letter (Behind_letter range) x = tt
   body_still letter (Ahead_letter range) x = tt

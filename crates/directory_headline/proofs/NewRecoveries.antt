@@ -1,5 +1,6 @@
 -- Recoveries that begin: each member of the view is awaited, and nothing is gathered.
-use Rattle.std.proofs.Common.{◌≡◌, inl, sym, subst, ◌∙◌}
+use Rattle.std.proofs.Common.{◌≡◌, sym, ap, subst, ◌∙◌}
+use Rattle.std.specs.Prelude.{◌||◌, not, true, false}
 use Rattle.silo_address.specs.Silo.{Silo}
 use Rattle.membership_view.specs.View.{ViewValue, IsByAddress}
 use Rattle.ring_range.specs.Range.{Range}
@@ -20,7 +21,10 @@ pub new_recovery_shown :
 new_recovery_shown m w view range by_address members = record {
   gathered = λ grain e found. absurd (cc (found));
   awaits = λ silo is. members silo ∙ sym (members_are view silo by_address) ∙ is;
-  members = λ silo is. inl (members_are view silo by_address ∙ sym (members silo) ∙ is);
+  members = λ silo grain is told.
+      let awaited = members_are view silo by_address ∙ sym (members silo) ∙ is in
+      let nothing : false ≡ true = sym (ap (λ b. not b || false) awaited) ∙ told in
+      absurd (cc (nothing));
 }
 
 -- at the view that a silo has seen

@@ -20,16 +20,17 @@ use Rattle.directory_rules.specs.declared.held.Phase.{Phase}
 use Rattle.directory_rules.specs.declared.held.Phase.TheVariants.{Asking, Firm, Closing}
 use Rattle.directory_rules.specs.declared.piece_state.PieceState.{PieceState}
 use Rattle.directory_rules.specs.declared.piece_state.PieceState.TheVariants as state
-use Rattle.directory_rules.specs.State.{Host, Piece, Letter, Query_letter, Node, World}
+use Rattle.directory_rules.specs.State.{Host, Piece, Letter, Node, World}
 use Rattle.directory_rules.specs.Host.{grain_of, held_acts, find_acts, act_in, entry_of, outstanding, new_number, renewed, requests_about, new_number_about, renewed_about}
-use Rattle.directory_rules.specs.Sent.{letter_to, request_of, request_letters, all_requests, requests_of_grain, recovery_of, wants_by, all_wants}
+use Rattle.directory_rules.specs.Sent.{request_of, request_letters, all_requests, requests_of_grain, recovery_of, wants_by, all_wants, query_to}
 use Rattle.directory_rules.specs.Step.{having_nudged, having_nudged_grain, nudge_ranges}
 use Rattle.directory_facts.proofs.Entries.{all_put}
 use Rattle.directory_headline.specs.Shown.{IsShownLetter, IsShownRequest}
 use Rattle.directory_headline.proofs.Actors.{leaves_run}
 use Rattle.directory_headline.proofs.Frame.{Here, Moves, stays, alive, node_facts, node_shown, host_is, seen_is, no_letters, one_letter}
 use Rattle.directory_headline.proofs.Hosts.{host_changes, request_shown}
-use Rattle.directory_headline.proofs.Renewals.{IsRenewal, IsSent, sends_anew}
+use Rattle.directory_headline.proofs.NewNumbers.{IsRenewal, IsSent}
+use Rattle.directory_headline.proofs.Renewals.{sends_anew}
 use Rattle.directory_headline.proofs.Distinct.{all_renewed}
 use Rattle.directory_headline.proofs.RenewedAbout.{grain_renewed}
 
@@ -109,7 +110,7 @@ module _ (m : Setting) (later : protocol.World) (node : Node) where
   wants_shown state.Settled range = no_letters (IsShownLetter m.hash later)
   wants_shown (state.Awaiting from) range = one_letter (IsShownLetter m.hash later) _ tt
   wants_shown state.Recovering range =
-      All-map (IsShownLetter m.hash later) (λ silo. letter_to silo node (Query_letter range)) (recovery_of node range).awaiting
+      All-map (IsShownLetter m.hash later) (query_to node range) (recovery_of node range).awaiting
       (λ k d below. tt)
 
   pieces_shown : (pieces : List (ℕ × Piece)) → All (IsShownLetter m.hash later) (flat_map (λ e. wants_by e.1.state node e.1.range) pieces)

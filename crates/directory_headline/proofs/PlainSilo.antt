@@ -1,12 +1,14 @@
 -- A silo's step is a plain step of the world. The protocol is needed for one thing alone: where an activation becomes firm, no
 -- other of its grain is.
-use Rattle.std.proofs.Common.{◌≡◌, ◌≢◌, ℕ, inl, inr, refl, sym, ap, ◌∙◌}
+use Rattle.std.proofs.Common.{arith, ◌≡◌, ◌≢◌, ℕ, inl, inr, refl, sym, ap, ◌∙◌}
 use Rattle.std.specs.Prelude.{true, is_some, Option, Some, None}
 use Rattle.std.specs.Option.{option_map, option_and_then}
 use Rattle.silo_address.specs.Silo.{Silo}
 use Rattle.silo_address.specs.Grain.{Grain}
-use Rattle.membership_view.specs.Views.{view_at, status_at}
+use Rattle.membership_view.specs.View.{status_of}
+use Rattle.membership_view.specs.Views.{view_at}
 use Rattle.directory_protocol.proofs.Changes.{silo_cases}
+use Rattle.directory_rules.proofs.People.{live_said}
 use Rattle.directory_rules.specs.declared.held.Held.{Held}
 use Rattle.directory_rules.specs.declared.held.Phase.{Phase}
 use Rattle.directory_rules.specs.declared.held.Phase.TheVariants as phase
@@ -88,16 +90,16 @@ module _ (f later : World) (silo : Silo) (node next : Node) (peopled : ArePeople
         ];
   }
 
-  live_now : is_live (status_at f.views f.views.version silo) ≡ true
-  live_now = sym (peopled.live silo) ∙ ap is_some there
+  live_now : is_live (status_of (view_at f.views f.views.version) silo) ≡ true
+  live_now = live_said f.views peopled.whole f.views.version (omega arith) silo ∙ sym (peopled.live silo) ∙ ap is_some there
 
   begins : NodeBegins node next → Begins (plain_of f) (plain_of later)
   begins is = record {
     silo = silo;
     grain = is.grain;
     count = node.host.next_count;
-    known = live_there (status_at f.views f.views.version silo) live_now;
-    alive = live_not_dead (status_at f.views f.views.version silo) live_now;
+    known = live_there (status_of (view_at f.views f.views.version) silo) live_now;
+    alive = live_not_dead (status_of (view_at f.views f.views.version) silo) live_now;
     free = lives_of f silo node there is.grain ∙ is.free;
     fresh = unused_of f silo node there;
     begun = changed is.grain (Some (Is_asking node.host.next_count)) is.there is.elsewhere;

@@ -1,14 +1,13 @@
 -- A join, a leaving and a death change the plain machine's view, and its activations by the silos that are Dead alone.
 use Rattle.std.proofs.Common.{arith, ◌≡◌, ◌⊎◌, IsSome, inl, inr, refl, sym, ap, subst, ◌∙◌}
-use Rattle.std.specs.Prelude.{true, false, is_some, Option, Some, None}
+use Rattle.std.specs.Prelude.{true, false, not, is_some, Option, Some, None}
 use Rattle.std.specs.Option.{option_map, option_and_then}
 use Rattle.silo_address.specs.Silo.{Silo}
 use Rattle.silo_address.specs.Grain.{Grain}
 use Rattle.membership_view.specs.View.{status_of}
-use Rattle.membership_view.specs.Views.{ViewsValue, view_at, status_at}
+use Rattle.membership_view.specs.Views.{ViewsValue, view_at}
 use Rattle.membership_view.specs.Changes as change
 use Rattle.membership_view.specs.Step.{Joins, MembershipStep}
-use Rattle.membership_view.proofs.Unchanged.{rows_stay}
 use Rattle.hash_ring.specs.Places.{PlacesValue}
 use Rattle.directory_rules.proofs.Decided.{died}
 use Rattle.directory_rules.specs.Members.{is_dead_in}
@@ -18,8 +17,10 @@ use Rattle.directory_rules.specs.Input.{step}
 use Rattle.directory_rules.specs.Happens.{node_of, after_joining}
 use Rattle.directory_rules.specs.Laws.{ArePeopled, is_live}
 use Rattle.directory_rules.specs.PlainMachine.{life_on, plain_of, ViewChanges}
-use Rattle.directory_headline.proofs.Settings.{GoesOnTo}
-use Rattle.directory_headline.proofs.Statuses.{live_there, dead_not_live, there_live}
+use Rattle.directory_headline.specs.Setting.{is_member_in}
+use Rattle.directory_rules.proofs.People.{live_said}
+use Rattle.directory_headline.proofs.Settings.{GoesOnTo, member_stays}
+use Rattle.directory_headline.proofs.Statuses.{dead_not_live}
 use Rattle.directory_headline.proofs.Viewed.{still_there, newcomer, joining_node}
 
 nobody : (o : Option Node) → is_some o ≡ false → o ≡ None
@@ -32,11 +33,6 @@ WasThere f silo node = (node_of f silo ≡ Some node) ⊎ ((node_of f silo ≡ N
 
 module _ (f later : World) (before : ArePeopled f.views f.nodes) (after : ArePeopled later.views later.nodes) (on : GoesOnTo f later)
     (kept : (silo : Silo) (node : Node) → node_of later silo ≡ Some node → WasThere f silo node) where
-  row_stays : (silo : Silo) → IsSome (status_at f.views f.views.version silo) → IsSome (status_at later.views later.views.version silo)
-  row_stays silo there =
-      rows_stay later.views after.whole silo f.views.version later.views.version on.version (omega arith)
-      (subst (λ view. IsSome (status_of view silo)) (sym (on.views f.views.version (omega arith))) there)
-
   -- a silo that isn't Dead has the node that it had
   node_stays : (silo : Silo) (node : Node) → node_of f silo ≡ Some node → is_dead_in (view_at later.views later.views.version) silo ≡ false
       → node_of later silo ≡ Some node
@@ -44,9 +40,12 @@ module _ (f later : World) (before : ArePeopled f.views f.nodes) (after : ArePeo
     where
       lives : is_some (node_of later silo) ≡ true
       lives =
-          let was : is_live (status_at f.views f.views.version silo) ≡ true = sym (before.live silo) ∙ ap is_some there in
-          after.live silo ∙ there_live (status_at later.views later.views.version silo)
-          (row_stays silo (live_there (status_at f.views f.views.version silo) was)) not_dead
+          let was : is_member_in (view_at f.views f.views.version) silo ≡ true =
+          live_said f.views before.whole f.views.version (omega arith) silo ∙ sym (before.live silo) ∙ ap is_some there in
+          let low = on.version in
+          after.live silo ∙ sym (live_said later.views after.whole later.views.version (omega arith) silo)
+          ∙ member_stays later.views after.whole silo f.views.version later.views.version low (omega arith)
+          (ap (λ view. is_member_in view silo) (on.views f.views.version (omega arith)) ∙ was) (ap not not_dead)
 
       by : (o : Option Node) → node_of later silo ≡ o → node_of later silo ≡ Some node
       by None is = let none = ap is_some is in absurd (cc (lives, none))
@@ -87,7 +86,8 @@ module _ (f later : World) (before : ArePeopled f.views f.nodes) (after : ArePeo
     step = step;
     dead = λ silo grain dead.
         ap (λ o. option_and_then (life_on grain) o) (nobody (node_of later silo)
-        (after.live silo ∙ dead_not_live (status_at later.views later.views.version silo) dead));
+        (after.live silo ∙ sym (live_said later.views after.whole later.views.version (omega arith) silo)
+        ∙ dead_not_live (status_of (view_at later.views later.views.version) silo) dead));
     others = others;
     unused = unused;
   }
@@ -97,7 +97,7 @@ module _ (f : World) (peopled : ArePeopled f.views f.nodes) where
   -- who joins wasn't there
   no_node : (silo : Silo) (next : ViewsValue) → Joins silo (view_at f.views f.views.version) (view_at next next.version)
       → node_of f silo ≡ None
-  no_node silo next step = nobody (node_of f silo) (peopled.live silo ∙ ap is_live (newcomer silo f.views next step))
+  no_node silo next step = nobody (node_of f silo) (peopled.live silo ∙ ap is_live (newcomer silo f.views next peopled.whole step))
 
   pub joining_kept : (silo : Silo) (next : ViewsValue) (added : PlacesValue) (old : Option Silo)
       → Joins silo (view_at f.views f.views.version) (view_at next next.version)

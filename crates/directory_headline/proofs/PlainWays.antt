@@ -249,11 +249,12 @@ module _ (node : Node) (once : HoldsOnce node.host) where
     forgoes = λ letter range body there. host_same _ refl refl;
     lags = λ letter range. same;
     passed = λ letter range. same;
-    reports = λ letter range body seen. same;
+    reports = λ letter range after body seen. same;
     gathers = λ letter page gathering taken is. host_same _ refl refl;
     installs = λ letter page entries taken is. host_same _ refl refl;
     drops = λ letter page gathering taken is. host_same _ refl refl;
     turns = λ letter range piece body has awaits. host_same _ refl refl;
+    continues = λ letter report recovery taken is. host_same _ refl refl;
     collects = λ letter report recovery taken is. host_same _ refl refl;
     completes = λ letter report table taken is. host_same _ refl refl;
     takes_over = λ letter entry body seen may. begins entry.grain (Some entry.activation) may.free;

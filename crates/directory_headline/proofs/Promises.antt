@@ -12,7 +12,9 @@ use Rattle.silo_address.specs.declared.ActivationId.{ActivationId}
 use Rattle.silo_address.specs.declared.Entry.{Entry}
 use Rattle.silo_address.proofs.Same.{same_entry}
 use Rattle.membership_view.specs.declared.status.Status.{Status}
+use Rattle.membership_view.specs.View.{status_of}
 use Rattle.membership_view.specs.Views.{view_at, status_at}
+use Rattle.membership_view.proofs.Said.{views_say_statuses}
 use Rattle.ring_range.specs.Range.{circle, IsRange}
 use Rattle.hash_ring.specs.declared.point.Point.{Point}
 use Rattle.hash_ring.specs.Point.{back, HaveSamePoints}
@@ -39,6 +41,7 @@ use Rattle.directory_rules.specs.Host.{entry_on, held_of}
 use Rattle.directory_rules.specs.Happens.{node_of}
 use Rattle.directory_rules.specs.Settled.{HasNode, OwnsIn, IsSettledAt, entries_with, IsHeld, IsFirmOn, AreComplete, IsRightTable, IsRightOnLive}
 use Rattle.directory_rules.specs.Headline.{RingsAreSortedAnew, IsRetry, UnsettledRangesRetry, NoTwoFirm, OneSettles, Headline}
+use Rattle.directory_rules.proofs.People.{live_said}
 use Rattle.directory_rules.proofs.Retried.{unsettled_retries}
 use Rattle.directory_facts.proofs.Hashes.{grains_have_hashes}
 use Rattle.directory_facts.proofs.Served.{serves}
@@ -136,14 +139,21 @@ module _ (m : Setting) (f : World) (setting : IsSettingOf m f) (facts : WorldFac
   holder_there : (silo : Silo) (grain : Grain) (x : protocol.Held) → m.alive w.now silo ≡ true → w.held silo grain ≡ Some x
       → (node : Node) × HasNode f silo node
   holder_there silo grain x lives there =
-      let known : not (is_known_dead (status_at f.views f.views.version silo)) ≡ true =
+      let known : not (is_known_dead (status_of (view_at f.views f.views.version) silo)) ≡ true =
       sym (ap (λ version. m.alive version silo) carried.shown.now ∙ setting.alive f.views.version silo (omega arith)) ∙ lives in
       some_node (node_of f silo) (facts.peopled.live silo
-      ∙ alive_live (status_at f.views f.views.version silo) (row (status_at f.views f.views.version silo) refl) known)
+      ∙ sym (live_said f.views facts.peopled.whole f.views.version (omega arith) silo)
+      ∙ alive_live (status_of (view_at f.views f.views.version) silo) listed known)
     where
       row : (status : Option Status) → status_at f.views f.views.version silo ≡ status → IsSome (status_at f.views f.views.version silo)
       row None none = let first = ap (λ s. s.held grain) (carried.shown.absent silo none) in absurd (cc (first, there))
       row (Some status) is = subst (λ o. IsSome o) (sym is) refl
+
+      there_now : IsSome (status_at f.views f.views.version silo)
+      there_now = row (status_at f.views f.views.version silo) refl
+
+      listed : IsSome (status_of (view_at f.views f.views.version) silo)
+      listed = subst (λ o. IsSome o) (sym (views_say_statuses f.views facts.peopled.whole silo f.views.version (omega arith) there_now)) there_now
 
   -- ---- settled hashes
   module _ (version number : ℕ) (silo : Silo) (node : Node) (at : IsSettledAt f version number silo node) where

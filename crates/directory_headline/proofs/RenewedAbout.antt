@@ -17,7 +17,7 @@ use Rattle.directory_rules.proofs.Cases.{on_bool}
 use Rattle.directory_rules.proofs.RequestNumbers.{times_append, numbers}
 use Rattle.directory_rules.proofs.GrainRenewal.{new_below}
 use Rattle.directory_facts.proofs.Entries.{same_key}
-use Rattle.directory_headline.proofs.Renewals.{gets, phase_anew, IsRenewal, alike}
+use Rattle.directory_headline.proofs.NewNumbers.{gets, phase_anew, IsRenewal, alike}
 use Rattle.directory_headline.proofs.Distinct.{once, many_more, many_found}
 
 -- what is found of a grain that passes a test is found among those that pass

@@ -1,20 +1,17 @@
 -- The views and places of a world make a setting; and that of a later world is that of an earlier one, as far as its versions go.
-use Rattle.std.proofs.Common.{arith, ◌≡◌, ◌≢◌, ℕ, ◌≤◌, true, [], refl, sym, ap, ◌∙◌, subst}
+use Rattle.std.proofs.Common.{arith, ◌≡◌, ◌≢◌, ℕ, ◌≤◌, IsSome, true, [], refl, sym, ap, ◌∙◌, subst}
 use Rattle.std.specs.Prelude.{nat_le, not, if◌then◌else◌, Contains, Option, Some, None}
 use Rattle.std.specs.Option.{option_map}
-use Rattle.std.specs.List.Sorted.{IsStrictlySortedBy}
-use Rattle.std.specs.Map.{keys_of}
 use Rattle.std.proofs.lemmas.Bool.{le-leb, leb-true}
-use Rattle.silo_address.specs.Silo.{Silo, silo_cmp}
-use Rattle.silo_address.proofs.Order.{silo_cmp_total}
+use Rattle.silo_address.specs.Silo.{Silo}
 use Rattle.membership_view.specs.declared.status.Status.{Status}
 use Rattle.membership_view.specs.declared.status.Status.TheVariants.{Active, Leaving, Dead}
-use Rattle.membership_view.specs.Row.{status_in}
 use Rattle.membership_view.specs.View.{ViewValue, IsByAddress, status_of}
-use Rattle.membership_view.specs.Views.{ViewsValue, rows_in, view_at, status_at}
+use Rattle.membership_view.specs.Views.{ViewsValue, view_at, status_at}
 use Rattle.membership_view.specs.Whole.{IsViews}
-use Rattle.texts.proofs.Entries.{sorted-nil, sorted-picked}
-use Rattle.membership_view.proofs.Unchanged.{first_is_empty, rows_stay, dead_stays_dead}
+use Rattle.membership_view.proofs.DeadViews.{view_dead_stays}
+use Rattle.membership_view.proofs.Said.{view_in_order, views_say_statuses}
+use Rattle.membership_view.proofs.Unchanged.{first_is_empty, rows_stay}
 use Rattle.hash_ring.specs.declared.point.Point.{Point}
 use Rattle.hash_ring.specs.Hash.{hash_grain}
 use Rattle.hash_ring.specs.Owner.{owner_of}
@@ -28,6 +25,7 @@ use Rattle.directory_rules.specs.Members.{is_known_dead}
 use Rattle.directory_rules.specs.State.{World}
 use Rattle.directory_rules.specs.Laws.{is_live}
 use Rattle.directory_rules.proofs.Cases.{on_bool}
+use Rattle.directory_rules.proofs.People.{live_said}
 use Rattle.directory_headline.specs.Setting.{is_member_in, is_alive_in, owner_in, view_up_to, IsSettingOf}
 use Rattle.directory_headline.proofs.Statuses.{live_alive, live_there, alive_live}
 
@@ -62,9 +60,7 @@ view_within views version within = view_up_to-is views version ∙ ap (view_at v
 
 -- ---- owners
 pub view_by_address : (views : ViewsValue) (version : ℕ) → IsViews views → IsByAddress (view_at views version)
-view_by_address views version whole =
-    on_bool (λ b. IsStrictlySortedBy silo_cmp (keys_of (if b then rows_in version views.rows else []))) (nat_le version views.version)
-    (λ t. sorted-picked silo_cmp_total (status_in version) views.rows whole.in_order) (λ f. sorted-nil silo_cmp)
+view_by_address views version whole = view_in_order views whole.in_order version
 
 none_is : {X : Type 0} (o : Option X) (x : X) → o ≡ None → o ≢ Some x
 none_is o x none some = absurd (cc)
@@ -74,20 +70,20 @@ no_owner view places hash none = ap (λ rows. owner_in (record view { rows = row
 
 pub owner_active : (views : ViewsValue) (version : ℕ) (places : PlacesValue) (hash : ℕ) (silo : Silo) → IsViews views
     → owner_in (view_at views version) places hash ≡ Some silo
-    → status_at views version silo ≡ Some Active
+    → status_of (view_at views version) silo ≡ Some Active
 owner_active views version places hash silo whole is = by (owner_of (sorted_ring view places) hash) refl is
   where
     view : ViewValue
     view = view_at views version
 
     by : (o : Option Point) → owner_of (sorted_ring (view_at views version) places) hash ≡ o → option_map (λ p. p.silo) o ≡ Some silo
-        → status_at views version silo ≡ Some Active
+        → status_of (view_at views version) silo ≡ Some Active
     by None found its = absurd (cc (its))
     by (Some p) found its =
         let there : Contains (sorted_points (points_of (view_at views version) places)) p = (owner_is (sorted_ring (view_at views version) places) hash p found).there in
         let of_view = ((points_are (view_at views version) (view_by_address views version whole) places p).0 ((is_sorted_anew (points_of (view_at views version) places)).same.forth p there)) in
         let same : p.silo ≡ silo = cc (its) in
-        subst (λ s. status_at views version s ≡ Some Active) same of_view.active
+        subst (λ s. status_of (view_at views version) s ≡ Some Active) same of_view.active
 
 -- ---- statuses
 alive_before : (before after : Option Status) → (before ≡ Some Dead → after ≡ Some Dead) → not (is_known_dead after) ≡ true
@@ -96,6 +92,15 @@ alive_before None after stays alive = refl
 alive_before (Some Active) after stays alive = refl
 alive_before (Some Leaving) after stays alive = refl
 alive_before (Some Dead) after stays alive = let dead = stays refl in absurd (cc (sym (ap (λ s. not (is_known_dead s)) dead) ∙ alive))
+
+-- a member stays one as long as it isn't Dead
+pub member_stays : (views : ViewsValue) → IsViews views → (silo : Silo) (j k : ℕ) → j ≤ k → k ≤ views.version
+    → is_member_in (view_at views j) silo ≡ true → is_alive_in (view_at views k) silo ≡ true → is_member_in (view_at views k) silo ≡ true
+member_stays views whole silo j k le made member alive =
+    let was : is_live (status_at views j silo) ≡ true = sym (live_said views whole j (omega (le, made, arith)) silo) ∙ member in
+    let there = rows_stay views whole silo j k le made (live_there (status_at views j silo) was) in
+    let said = views_say_statuses views whole silo k made there in
+    alive_live (status_of (view_at views k) silo) (subst (λ o. IsSome o) (sym said) there) alive
 
 -- ---- the setting
 pub setting_of : (end : World) → IsViews end.views → Setting
@@ -114,15 +119,14 @@ setting_of end whole = record {
   member_is_alive = λ version silo is. live_alive (status_of (view_up_to end.views version) silo) is;
   dead_stays_dead = λ j k silo le alive.
       let later = subst (λ view. is_alive_in view silo ≡ true) (view_up_to-is end.views k) alive in
-      let before = alive_before (status_at end.views (up_to end.views j) silo) (status_at end.views (up_to end.views k) silo)
-      (dead_stays_dead end.views whole silo (up_to end.views j) (up_to end.views k) (up_to-rises end.views j k le) (up_to-made end.views k))
+      let before = alive_before (status_of (view_at end.views (up_to end.views j)) silo) (status_of (view_at end.views (up_to end.views k)) silo)
+      (view_dead_stays end.views whole silo (up_to end.views j) (up_to end.views k) (up_to-rises end.views j k le) (up_to-made end.views k))
       later in
       subst (λ view. is_alive_in view silo ≡ true) (sym (view_up_to-is end.views j)) before;
   member_until_death = λ j k silo le member alive.
       let before = subst (λ view. is_member_in view silo ≡ true) (view_up_to-is end.views j) member in
       let later = subst (λ view. is_alive_in view silo ≡ true) (view_up_to-is end.views k) alive in
-      let there = rows_stay end.views whole silo (up_to end.views j) (up_to end.views k) (up_to-rises end.views j k le) (up_to-made end.views k) (live_there (status_at end.views (up_to end.views j) silo) before) in
-      let so = alive_live (status_at end.views (up_to end.views k) silo) there later in
+      let so = member_stays end.views whole silo (up_to end.views j) (up_to end.views k) (up_to-rises end.views j k le) (up_to-made end.views k) before later in
       subst (λ view. is_member_in view silo ≡ true) (sym (view_up_to-is end.views k)) so;
 }
 

@@ -21,7 +21,7 @@ use Rattle.directory_headline.proofs.Requests.{answers}
 use Rattle.directory_headline.proofs.Pages.{hands, gathers, drops}
 use Rattle.directory_headline.proofs.LastPage.{installs}
 use Rattle.directory_headline.proofs.MissingSnapshot.{turns}
-use Rattle.directory_headline.proofs.Reports.{collects}
+use Rattle.directory_headline.proofs.Tellings.{continues, collects}
 use Rattle.directory_headline.proofs.LastReport.{completes}
 use Rattle.directory_headline.proofs.Nudges.{nudges, nudges_grain, nudges_ranges}
 use Rattle.directory_headline.proofs.SightSteps.{sees}
@@ -59,11 +59,12 @@ ways m f w silo node here = record {
   forgoes = λ letter range body there brings. forgoes m f w silo node here letter range;
   lags = λ letter range brings. answers_so m f w silo node here letter (Behind_letter range) effect.Behind tt;
   passed = λ letter range brings. answers_so m f w silo node here letter (Ahead_letter range) effect.Ahead tt;
-  reports = λ letter range body seen brings. reports m f w silo node here letter range;
+  reports = λ letter range after body seen brings. reports m f w silo node here letter range after;
   gathers = λ letter page gathering taken is brings. gathers m f w silo node here letter page taken brings gathering is;
   installs = λ letter page entries taken is brings. installs m f w silo node here letter page taken brings entries is;
   drops = λ letter page gathering taken is brings. drops m f w silo node here letter page taken brings gathering is;
   turns = λ letter range piece body has awaits brings. turns m f w silo node here letter range piece has awaits;
+  continues = λ letter report recovery taken is brings. continues m f w silo node here letter report taken brings recovery is;
   collects = λ letter report recovery taken is brings. collects m f w silo node here letter report taken brings recovery is;
   completes = λ letter report table taken is brings. completes m f w silo node here letter report taken brings table is;
   takes_over = λ letter entry body seen may brings. takes_over m f w silo node here letter entry body seen may brings;

@@ -1,17 +1,19 @@
 -- What is found in a table after the entries of a report were taken into it: the ones that were there, or else the report's.
-use Rattle.std.proofs.Common.{◌≡◌, ◌⊎◌, List, [], ◌∷◌, inl, inr, refl, sym, ap, ◌∙◌}
+use Rattle.std.proofs.Common.{◌≡◌, ◌⊎◌, ℕ, List, [], ◌∷◌, inl, inr, refl, sym, ap, ◌∙◌}
 use Rattle.std.specs.Prelude.{true, cond, is_some, Option, Some, None, fold}
 use Rattle.silo_address.specs.Grain.{Grain, grain_cmp}
 use Rattle.silo_address.specs.declared.Entry.{Entry}
 use Rattle.silo_address.proofs.Order.{grain_cmp_total, grain_cmp_exact}
+use Rattle.ring_range.specs.Range.{Range}
 use Rattle.directory_protocol.proofs.Changes.{grain_cases}
 use Rattle.directory_rules.specs.State.{Table}
 use Rattle.directory_rules.specs.Table.{entry_at, with_entry, table_of}
 use Rattle.directory_rules.specs.Recovery.{with_reported}
+use Rattle.directory_rules.specs.Standing.{rise_behind}
 use Rattle.directory_rules.proofs.Cases.{on_bool}
-use Rattle.directory_facts.proofs.Tables.{InOrder}
-use Rattle.directory_facts.proofs.Lookups.{found_put, found_beside_put, absent_found, lookup_first, lookup_later}
-use Rattle.directory_headline.proofs.TableEntries.{table_tail, head_apart}
+use Rattle.directory_rules.proofs.Standings.{rise_parts, first_apart}
+use Rattle.directory_facts.proofs.Lookups.{found_put, found_beside_put, lookup_first, lookup_later}
+use Rattle.directory_facts.proofs.StandingEntries.{none_found}
 
 -- one entry is taken
 stays_one : (grain : Grain) (table : Table) (x e : Entry) → entry_at grain table ≡ Some e → entry_at grain (with_reported table x) ≡ Some e
@@ -53,21 +55,21 @@ pub union_stays : (grain : Grain) (entries : List Entry) (table : Table) (e : En
 union_stays grain [] table e found = found
 union_stays grain (x ∷ xs) table e found = union_stays grain xs (with_reported table x) e (stays_one grain table x e found)
 
--- what is there was there, or is the report's
+-- what is there was there, or is the report's, whose entries are of different grains
 pub union_came :
-    (grain : Grain) (entries : List Entry) (table : Table) (e : Entry) → InOrder (table_of entries)
-    → entry_at grain (fold with_reported table entries) ≡ Some e
+    (hash : Grain → ℕ) (ranges : List Range) (after : Option Grain) (grain : Grain) (entries : List Entry) (table : Table) (e : Entry)
+    → rise_behind hash ranges after entries ≡ true → entry_at grain (fold with_reported table entries) ≡ Some e
     → (entry_at grain table ≡ Some e) ⊎ (entry_at grain (table_of entries) ≡ Some e)
-union_came grain [] table e is found = inl found
-union_came grain (x ∷ xs) table e is found =
-    elim (union_came grain xs (with_reported table x) e (table_tail (x.grain, x) (table_of xs) is) found) [
+union_came hash ranges after grain [] table e rises found = inl found
+union_came hash ranges after grain (x ∷ xs) table e rises found =
+    elim (union_came hash ranges (Some x.grain) grain xs (with_reported table x) e (rise_parts hash ranges after x xs rises).1 found) [
       | inl before ↦ elim (came_one grain table x e before) [
         | inl old ↦ inl old
         | inr new ↦ inr (ap (λ g. entry_at g (table_of (x ∷ xs))) new.0 ∙ lookup_first grain_cmp grain_cmp_total x.grain x (table_of xs)
             ∙ ap Some new.1)
       ]
       | inr later ↦ inr (lookup_later grain_cmp grain_cmp_exact grain x.grain x (table_of xs) (λ same.
-          let none = absent_found grain_cmp grain_cmp_exact x.grain (table_of xs) (head_apart (x.grain, x) (table_of xs) is) in
+          let none = none_found x.grain xs (first_apart hash ranges after x xs rises) in
           let there = ap (λ g. entry_at g (table_of xs)) (sym same) ∙ later in
           absurd (cc (sym none ∙ there))) ∙ later)
     ]

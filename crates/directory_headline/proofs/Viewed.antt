@@ -1,21 +1,19 @@
 -- A join, a leaving and a death are the next view: `Shown` is carried on.
 use Rattle.std.proofs.Common.{arith, ◌≡◌, ℕ, ◌+◌, ◌<◌, IsSome, inl, inr, refl, sym, ap, ◌∙◌, subst, ◌⊎◌}
 use Rattle.std.specs.Prelude.{All, Option, Some, None, Ok}
-use Rattle.std.specs.Option.{option_map}
 use Rattle.std.specs.Map.{lookup, remove_entry}
 use Rattle.std.specs.BTreeMap.{is_at, insert_entry}
 use Rattle.std.proofs.lemmas.List.Elements.{All-nil, All-weaker}
-use Rattle.texts.proofs.Decided.{decided}
 use Rattle.silo_address.specs.Silo.{Silo, silo_cmp}
 use Rattle.silo_address.proofs.Order.{silo_cmp_total, silo_cmp_exact}
 use Rattle.membership_view.specs.declared.status.Status.{Status}
-use Rattle.membership_view.specs.declared.status.Status.TheVariants.{Dead}
 use Rattle.membership_view.specs.Views.{ViewsValue, view_at, status_at}
 use Rattle.membership_view.specs.Changes as change
 use Rattle.membership_view.specs.Laws.{Accepts}
-use Rattle.membership_view.specs.Step.{Joins, Leaves, Dies}
-use Rattle.membership_view.proofs.Order.{Decides-shares}
-use Rattle.membership_view.proofs.Unchanged.{versions_rise}
+use Rattle.membership_view.specs.Step.{Joins}
+use Rattle.membership_view.specs.Whole.{IsViews}
+use Rattle.membership_view.proofs.Said.{views_say_statuses}
+use Rattle.membership_view.proofs.Unchanged.{rows_stay, statuses_stay, versions_rise, views_are_kept}
 use Rattle.membership_view.proofs.Changes.{changes_are_steps}
 use Rattle.hash_ring.specs.Places.{PlacesValue}
 use Rattle.directory_protocol.specs.Setting.{Setting}
@@ -83,33 +81,39 @@ module _ (m : Setting) (w : protocol.World) where
             (subst (All Says) (sym mail) shown.letters);
       }
 
-nothing_was : (status : Option Status) → option_map (λ _. Dead) status ≡ None → status ≡ None
-nothing_was None none = refl
-nothing_was (Some status) none = absurd (cc)
-
--- who had no status before a join
-was_absent : (silo : Silo) (views next : ViewsValue) → Joins silo (view_at views views.version) (view_at next next.version) → (q : Silo)
+-- who isn't there after a change wasn't there before
+pub was_absent : (views next : ViewsValue) (way : change.Change) → Accepts views way next → (q : Silo)
     → status_at next next.version q ≡ None
     → status_at views views.version q ≡ None
-was_absent silo views next step q none =
-    elim (silo_cases q silo) [
-      | inl same ↦ let there = step.joined in let nothing = subst (λ s. status_at next next.version s ≡ None) same none in absurd (cc)
-      | inr apart ↦ elim (decided (change.shares_endpoint silo q) (Decides-shares silo q)) [
-        | inl one ↦ nothing_was (status_at views views.version q) (sym (step.older q one apart) ∙ none)
-        | inr other ↦ sym (step.others q other) ∙ none
-      ]
-    ]
+was_absent views next way accepts q none = by (status_at views views.version q) refl
+  where
+    rises : next.version ≡ views.version + 1
+    rises = versions_rise views way next accepts
+
+    before : status_at next views.version q ≡ status_at views views.version q
+    before = statuses_stay views way next accepts views.version (omega arith) q
+
+    by : (o : Option Status) → status_at views views.version q ≡ o → o ≡ None
+    by None is = refl
+    by (Some status) is =
+        let one = rises in
+        let was : IsSome (status_at next views.version q) = subst (λ o. IsSome o) (sym (before ∙ is)) refl in
+        let still = rows_stay next (views_are_kept views way next accepts) q views.version next.version (omega (one, arith)) (omega arith) was in
+        absurd (cc (subst (λ o. IsSome o) none still))
 
 -- who joins wasn't there
-pub newcomer : (silo : Silo) (views next : ViewsValue) → Joins silo (view_at views views.version) (view_at next next.version)
+pub newcomer : (silo : Silo) (views next : ViewsValue) → IsViews views
+    → Joins silo (view_at views views.version) (view_at next next.version)
     → status_at views views.version silo ≡ None
-newcomer silo views next step = by (status_at views views.version silo) refl
+newcomer silo views next whole step = by (status_at views views.version silo) refl
   where
     by : (status : Option Status) → status_at views views.version silo ≡ status → status ≡ None
     by None is = refl
     by (Some status) is =
-        let newer : silo.generation < silo.generation = step.newest silo (refl, refl) (subst (λ o. IsSome o) (sym is) refl) in
-        absurd (omega arith)
+        let there : IsSome (status_at views views.version silo) = subst (λ o. IsSome o) (sym is) refl in
+        let said = views_say_statuses views whole silo views.version (omega arith) there in
+        let newer : silo.generation < silo.generation = step.newest silo (refl, refl) (subst (λ o. IsSome o) (sym said) there) in
+        absurd (omega (newer, arith))
 
 -- ---- nodes
 module _ (f : World) (peopled : ArePeopled f.views f.nodes) where
@@ -161,26 +165,18 @@ module _ (m : Setting) (f : World) (facts : WorldFacts m.hash f) (carried : Carr
   shown_leaving silo is =
       let next = change.with_leave f.views silo in
       let accepts : Accepts f.views (change.Leave silo) next = record { whole = facts.peopled.whole; is = is } in
-      let step : Leaves silo (view_at f.views f.views.version) (view_at next next.version) = changes_are_steps f.views (change.Leave silo) next accepts in
       view_shown m carried.world f (counted (record f { views = next })) carried.shown
-      (versions_rise f.views (change.Leave silo) next accepts) refl carried.shown.live (λ q none.
-      elim (silo_cases q silo) [
-        | inl same ↦ let left = step.left in let nothing = subst (λ s. status_at next next.version s ≡ None) same none in absurd (cc)
-        | inr apart ↦ sym (step.others q apart) ∙ none
-      ])
+      (versions_rise f.views (change.Leave silo) next accepts) refl carried.shown.live
+      (was_absent f.views next (change.Leave silo) accepts)
 
   pub shown_death : (silo : Silo) → change.after f.views (change.Die silo) ≡ Ok (change.with_death f.views silo)
       → Shown m (died f silo).world (viewed m carried.world)
   shown_death silo is =
       let next = change.with_death f.views silo in
       let accepts : Accepts f.views (change.Die silo) next = record { whole = facts.peopled.whole; is = is } in
-      let step : Dies silo (view_at f.views f.views.version) (view_at next next.version) = changes_are_steps f.views (change.Die silo) next accepts in
       view_shown m carried.world f (died f silo).world carried.shown (versions_rise f.views (change.Die silo) next accepts) refl
-      (λ q node there. carried.shown.live q node (still_there f facts.peopled silo q node there)) (λ q none.
-      elim (silo_cases q silo) [
-        | inl same ↦ let dead = step.dead in let nothing = subst (λ s. status_at next next.version s ≡ None) same none in absurd (cc)
-        | inr apart ↦ sym (step.others q apart) ∙ none
-      ])
+      (λ q node there. carried.shown.live q node (still_there f facts.peopled silo q node there))
+      (was_absent f.views next (change.Die silo) accepts)
 
   pub shown_joining : (silo : Silo) (next : ViewsValue) (added : PlacesValue) → change.after_join f.views silo ≡ Ok next
       → (old : Option Silo)
@@ -192,11 +188,11 @@ module _ (m : Setting) (f : World) (facts : WorldFacts m.hash f) (carried : Carr
       (versions_rise f.views (change.Join silo) next accepts) (mail_same old) (λ q node there.
       elim (joining_node f facts.peopled silo next added old q node there) [
         | inl its ↦
-            let first : state_of carried.world q ≡ first_state = ap (state_of carried.world) its.0 ∙ carried.shown.absent silo (newcomer silo f.views next step) in
+            let first : state_of carried.world q ≡ first_state = ap (state_of carried.world) its.0 ∙ carried.shown.absent silo (newcomer silo f.views next facts.peopled.whole step) in
             subst (λ n. IsShownNode m carried.world n (state_of carried.world q)) (sym its.1)
             (subst (IsShownNode m carried.world (new_node f.settings silo)) (sym first) (new_shown m carried.world f.settings silo))
         | inr was ↦ carried.shown.live q node was
-      ]) (was_absent silo f.views next step)
+      ]) (was_absent f.views next (change.Join silo) accepts)
     where
       mail_same : (old : Option Silo) → (after_joining f silo old next added).mail ≡ f.mail
       mail_same None = refl

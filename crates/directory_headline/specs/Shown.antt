@@ -1,6 +1,6 @@
 -- The relation between a world of the event rule and one of the protocol: what the rule's world has, the protocol's shows.
 -- Each clause about one silo is over that silo's values alone, and over the letters ever sent.
-use Rattle.std.specs.Prelude.{◌≡◌, ◌⊎◌, ⊤, ℕ, suc, ◌*◌, ◌<◌, ◌&&◌, nat_lt, Bool, true, false, List, [], Option, Some, None, length, take, All}
+use Rattle.std.specs.Prelude.{◌≡◌, ⊤, ℕ, suc, ◌*◌, ◌<◌, ◌&&◌, ◌||◌, not, nat_lt, Bool, true, false, List, [], ◌∷◌, Option, Some, None, length, take, All}
 use Rattle.std.specs.Option.{option_map}
 use Rattle.silo_address.specs.Silo.{Silo}
 use Rattle.silo_address.specs.Grain.{Grain}
@@ -25,7 +25,8 @@ use Rattle.directory_rules.specs.Settings.{page_size}
 use Rattle.directory_rules.specs.Table.{entry_at, table_of, rise_by_grain}
 use Rattle.directory_rules.specs.State.{Piece, Holding, Snapshot, Page, Gathering, Whole, Report, Recovery, Host, Letter, Body, Request_letter, Reply_letter, Ask_letter, Page_letter, Missing_letter, Done_letter, Query_letter, Report_letter, Behind_letter, Ahead_letter, Offer_letter, Node, World}
 use Rattle.directory_rules.specs.Snapshot.{page_count, page_entries, digest_of}
-use Rattle.directory_rules.specs.Recovery.{is_among}
+use Rattle.directory_rules.specs.Standing.{stands_behind, last_grain}
+use Rattle.directory_rules.specs.Recovery.{is_among, told_by}
 use Rattle.directory_rules.specs.Host.{held_of}
 use Rattle.directory_rules.specs.Answer.{piece_with, last_served}
 use Rattle.directory_rules.specs.Sight.{is_settled}
@@ -115,33 +116,58 @@ IsShownGathering hash sent gathering = IsShownWhole hash sent gathering gatherin
 
 -- ---- reports and what is recovered by them
 
--- a report letter: what is said there of the range is what was firm
+-- whether a report tells of the grain: it stands behind the one asked for, and not behind the last entry unless no others stand there
+abbrev pub tells_of : (hash : Grain → ℕ) → Report → Grain → Bool
+tells_of hash report grain =
+    stands_behind hash (report.range ∷ []) report.after grain
+    && (report.last || not (stands_behind hash (report.range ∷ []) (last_grain report.after report.entries) grain))
+
+-- another grain of the range, behind the report's last entry, was firm
+pub record HasMore (hash : Grain → ℕ) (told : letters.Report) (report : Report) : Type 0 where
+  pub grain : Grain
+  pub count : ℕ
+  pub inside : holds report.range (hash grain) ≡ true
+  pub behind : stands_behind hash (report.range ∷ []) (last_grain report.after report.entries) grain ≡ true
+  pub firm : told.firm grain ≡ Some count
+
+-- a report letter: what is said there of the grains of the range of which it tells is what was firm, and if it isn't the last there was more
 pub record IsShownReport (hash : Grain → ℕ) (sent : List letters.Report) (report : Report) : Type 0 where
   pub told : letters.Report
   pub was_sent : Sent told sent
   pub version : told.version ≡ report.version
   pub sender : told.sender ≡ report.silo
-  pub firm : (grain : Grain) → holds report.range (hash grain) ≡ true → told.firm grain ≡ option_map (λ e. e.activation.count) (entry_at grain (table_of report.entries))
+  pub firm :
+      (grain : Grain) → holds report.range (hash grain) ≡ true → tells_of hash report grain ≡ true
+      → told.firm grain ≡ option_map (λ e. e.activation.count) (entry_at grain (table_of report.entries))
+  pub more : report.last ≡ false → HasMore hash told report
 
--- a member that reported: what was gathered on it is in its report, and each grain of the range that it reported has an entry
-pub record HasReported (hash : Grain → ℕ) (sent : List letters.Report) (recovery : Recovery) (member : Silo) : Type 0 where
+-- whether the silo has told of the grain: it is awaited no more, or the grain doesn't stand behind the one up to which it has told
+abbrev pub has_told : (hash : Grain → ℕ) → Recovery → Silo → Grain → Bool
+has_told hash recovery silo grain =
+    not (is_among silo recovery.awaiting) || not (stands_behind hash (recovery.range ∷ []) (told_by silo recovery) grain)
+
+-- a member that has told of a grain, by some report: what was gathered of it on the member is in that report, and if it is reported there
+-- it has an entry
+pub record HasTold (hash : Grain → ℕ) (sent : List letters.Report) (recovery : Recovery) (member : Silo) (grain : Grain) : Type 0 where
   pub told : letters.Report
   pub was_sent : Sent told sent
   pub version : told.version ≡ recovery.version
   pub sender : told.sender ≡ member
-  pub from_it : (grain : Grain) (e : Entry) → entry_at grain recovery.gathered ≡ Some e → e.activation.silo ≡ member → told.firm grain ≡ Some e.activation.count
-  pub complete : (grain : Grain) (count : ℕ) → holds recovery.range (hash grain) ≡ true → told.firm grain ≡ Some count → (e : Entry) × (entry_at grain recovery.gathered ≡ Some e)
+  pub from_it : (e : Entry) → entry_at grain recovery.gathered ≡ Some e → e.activation.silo ≡ member → told.firm grain ≡ Some e.activation.count
+  pub complete : (count : ℕ) → holds recovery.range (hash grain) ≡ true → told.firm grain ≡ Some count → (e : Entry) × (entry_at grain recovery.gathered ≡ Some e)
 
--- an entry that was gathered lies in the range, and is on a member that reported
+-- an entry that was gathered lies in the range, and is on a member that has told of its grain
 pub record IsGathered (m : Setting) (recovery : Recovery) (grain : Grain) (e : Entry) : Type 0 where
   pub inside : holds recovery.range (m.hash grain) ≡ true
   pub on_member : m.member recovery.version e.activation.silo ≡ true
-  pub reported : is_among e.activation.silo recovery.awaiting ≡ false
+  pub told : has_told m.hash recovery e.activation.silo grain ≡ true
 
 pub record IsShownRecovery (m : Setting) (sent : List letters.Report) (recovery : Recovery) : Type 0 where
   pub gathered : (grain : Grain) (e : Entry) → entry_at grain recovery.gathered ≡ Some e → IsGathered m recovery grain e
   pub awaits : (silo : Silo) → is_among silo recovery.awaiting ≡ true → m.member recovery.version silo ≡ true
-  pub members : (silo : Silo) → m.member recovery.version silo ≡ true → (is_among silo recovery.awaiting ≡ true) ⊎ HasReported m.hash sent recovery silo
+  pub members :
+      (silo : Silo) (grain : Grain) → m.member recovery.version silo ≡ true → has_told m.hash recovery silo grain ≡ true
+      → HasTold m.hash sent recovery silo grain
 
 -- ---- letters
 
@@ -184,7 +210,7 @@ IsShownBody hash w letter (Ask_letter range page) = ⊤
 IsShownBody hash w letter (Page_letter page) = IsShownPage hash w.snapshots page
 IsShownBody hash w letter (Missing_letter range) = ⊤
 IsShownBody hash w letter (Done_letter range) = ⊤
-IsShownBody hash w letter (Query_letter range) = ⊤
+IsShownBody hash w letter (Query_letter range after) = ⊤
 IsShownBody hash w letter (Report_letter report) = IsShownReport hash w.reports report
 IsShownBody hash w letter (Behind_letter range) = ⊤
 IsShownBody hash w letter (Ahead_letter range) = ⊤

@@ -4,10 +4,10 @@ ghost use Rattle.directory_letters.specs.LetterModel.{body_of};
 
 use directory_rules::{Act, LetterKind, Reply};
 use grain_table::HashedRequest;
-use range_recovery::Report;
+use range_recovery::{Report, same_grain};
 use ring_range::RingRange;
 use seal_snapshot::Page;
-use silo_address::{Entry, SiloAddress};
+use silo_address::{Entry, GrainId, SiloAddress};
 use std::alloc::AllocError;
 use std::marker::Model;
 
@@ -17,18 +17,27 @@ pub enum Body {
     /// A silo to the owner of a grain's hash.
     Request(HashedRequest),
     /// The owner back, under the request's number.
-    Reply { number: u64, reply: Reply },
+    Reply {
+        number: u64,
+        reply: Reply,
+    },
     /// The new owner of a range to the previous one: for the page of that number of its snapshot.
-    Ask { range: RingRange, page: u64 },
+    Ask {
+        range: RingRange,
+        page: u64,
+    },
     /// A page of the snapshot.
     Page(Page),
     /// The asked silo has no such snapshot or page.
     Missing(RingRange),
     /// The new owner has the whole snapshot.
     Done(RingRange),
-    /// The new owner of a range to any silo, for what that has firm there.
-    Query(RingRange),
-    /// What a silo has firm in a range.
+    /// The new owner of a range to any silo, for what that has firm there behind a grain, or from the start of the range on.
+    Query {
+        range: RingRange,
+        after: Option<GrainId>,
+    },
+    /// The first of what a silo has firm there.
     Report(Report),
     /// The asked silo has not seen the version yet.
     Behind(RingRange),
@@ -56,7 +65,10 @@ impl Body {
             Body::Page(page) => Ok(Body::Page(page.copy()?)),
             Body::Missing(range) => Ok(Body::Missing(*range)),
             Body::Done(range) => Ok(Body::Done(*range)),
-            Body::Query(range) => Ok(Body::Query(*range)),
+            Body::Query { range, after } => Ok(Body::Query {
+                range: *range,
+                after: *after,
+            }),
             Body::Report(report) => Ok(Body::Report(report.copy()?)),
             Body::Behind(range) => Ok(Body::Behind(*range)),
             Body::Ahead(range) => Ok(Body::Ahead(*range)),
@@ -87,7 +99,13 @@ impl Body {
             (Body::Page(page), Body::Page(its)) => page.same(its),
             (Body::Missing(range), Body::Missing(its)) => range.same(its),
             (Body::Done(range), Body::Done(its)) => range.same(its),
-            (Body::Query(range), Body::Query(its)) => range.same(its),
+            (
+                Body::Query { range, after },
+                Body::Query {
+                    range: its,
+                    after: other,
+                },
+            ) => { range.same(its) && same_grain(*after, *other) }
             (Body::Report(report), Body::Report(its)) => report.same(its),
             (Body::Behind(range), Body::Behind(its)) => range.same(its),
             (Body::Ahead(range), Body::Ahead(its)) => range.same(its),
@@ -169,7 +187,7 @@ impl Letter {
             Body::Page(_) => LetterKind::Page,
             Body::Missing(_) => LetterKind::Missing,
             Body::Done(_) => LetterKind::Done,
-            Body::Query(_) => LetterKind::Query,
+            Body::Query { .. } => LetterKind::Query,
             Body::Report(_) => LetterKind::Report,
             Body::Behind(_) => LetterKind::Behind,
             Body::Ahead(_) => LetterKind::Ahead,

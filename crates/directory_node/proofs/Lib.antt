@@ -1,2 +1,5 @@
 pub mod Numbered
 pub mod SightBy
+mod StatedPlaces
+mod ListedSilos
+mod ListedRows

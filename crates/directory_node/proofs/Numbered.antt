@@ -19,6 +19,7 @@ views_numbered Unnumbered views.UnknownSilo other = tt
 views_numbered Unnumbered views.NotActive other = tt
 views_numbered Unnumbered views.AlreadyDead other = tt
 views_numbered Unnumbered views.RowsFull other = tt
+views_numbered Unnumbered views.NotListable other = tt
 views_numbered Unnumbered views.OutOfMemory other = absurd (other refl)
 
 pub ring_numbered : (Unnumbered : Type 0) (refusal : RingError) → refusal ≢ ring.OutOfMemory → IfNone (ring_error_number refusal) Unnumbered

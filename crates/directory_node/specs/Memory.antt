@@ -13,5 +13,5 @@ MayLackMemory node (Sees before view places) outcome = IsOk outcome
 MayLackMemory node (Does Nudge) outcome = IsOk outcome
 MayLackMemory node (Does (NudgeGrain grain)) outcome = IsOk outcome
 MayLackMemory node (Does NudgeRanges) outcome = IsOk outcome
-MayLackMemory node (Receives letter) outcome = Sends (answer_count node letter.body) outcome
+MayLackMemory node (Receives letter) outcome = Sends (answer_count node letter letter.body) outcome
 MayLackMemory node (Does step) outcome = Sends 1 outcome

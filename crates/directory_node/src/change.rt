@@ -56,6 +56,15 @@ impl Node {
                 self.discard(version, range, &to);
                 Ok(())
             }
+            Change::Digests {
+                version,
+                range,
+                to,
+                digest,
+            } => {
+                self.keep_digest(version, range, &to, digest);
+                Ok(())
+            }
             Change::Gathers(page) => self.gather(&page),
             Change::GathersAnew(range) => self.gather_anew(range),
             Change::Installs { range, entries } => {

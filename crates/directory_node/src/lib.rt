@@ -2,6 +2,7 @@
 //! until it changes; and a node as the lists of a dump. The rules are in `docs/RULES.md#the-world`.
 #![tactic(auto)]
 
+mod beginnings;
 mod change;
 mod close;
 mod counts;
@@ -18,6 +19,7 @@ mod sends;
 mod shared;
 mod sight;
 mod sight_change;
+mod stated;
 mod step;
 mod transfer_changes;
 mod transfers;

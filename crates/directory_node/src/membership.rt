@@ -1,18 +1,22 @@
 //! Membership as a world has it, or a silo by what it was told: all that changes of membership make.
 
-ghost use Rattle.std.specs.Prelude.{◌≡◌, ◌≤◌, IfErr, IfOk, IsOk, IsSomeAnd, Ok, OnErr, OnOk};
+ghost use Rattle.std.specs.Prelude.{◌≡◌, ◌≤◌, ◌==◌, [], IfErr, IfOk, IsOk, IsSomeAnd, Ok, OnErr, OnOk, false, length, true};
+ghost use Rattle.membership_view.specs.Beginning.{after_listing, with_listed};
 ghost use Rattle.membership_view.specs.Changes.{after_join, with_join};
 ghost use Rattle.membership_view.specs.Refusal.{views_error_number};
 ghost use Rattle.membership_view.specs.Views.{view_at};
 ghost use Rattle.hash_ring.specs.Numbers.{ring_error_number};
 ghost use Rattle.hash_ring.specs.Places.{after_add};
-ghost use Rattle.directory_rules.specs.Membership.{Join, Leave, Die, changed, first_membership, is_seeable, placed, replaced_by, status_in};
+ghost use Rattle.directory_rules.specs.ListedModel.{all_listed_of, listed_of};
+ghost use Rattle.directory_rules.specs.Membership.{Join, Leave, Die, begun, changed, first_membership, is_seeable, listed, placed, replaced_by, status_in};
 ghost use Rattle.directory_rules.specs.Settings.{Settings as SettingsValue};
 ghost use Rattle.node_plans.specs.Follows.{Follows};
-ghost use Rattle.directory_node.specs.MembershipModel.{IsNumberedUnlessMemory, change_refusal_number};
+ghost use Rattle.directory_node.specs.MembershipModel.{IsNumberedUnlessMemory, MayBeListed, RefusesPlaces, change_refusal_number, places_of_listed};
 
-use directory_rules::Settings;
-use hash_ring::{Hashing, Places, RingError};
+use crate::beginnings::may_begin;
+use crate::stated::{may_state, may_state_none};
+use directory_rules::{Listed, Settings};
+use hash_ring::{Places, RingError};
 use membership_view::{Status, View, Views, ViewsError};
 use silo_address::SiloAddress;
 use std::alloc::{AllocError, Global};
@@ -58,6 +62,91 @@ impl Membership {
         Membership {
             views: Views::new(alloc, settings.silos()),
             places,
+        }
+    }
+
+    /// What is known by the view of a version alone, in place of all changes up to it. Refused by 210 where no history may begin with that
+    /// version; then silo by silo, the first one first: by 210 where its endpoint was listed, or the version is 0; by 205 where as many
+    /// are known as may be; by 402, 403 as at a join, or by 402 where places are stated for one that is Dead. Memory runs out only where
+    /// none of them is refused.
+    pub fn begun(
+        alloc: Global,
+        settings: &Settings,
+        version: u64,
+        rows: &[Listed],
+    ) -> Result<Membership, ChangeRefusal>
+        ensures begun { Follows (λ m. m) change_refusal_number IsOk (begun settings.now version (all_listed_of rows.now)) result }
+        ensures numbered { IfErr result IsNumberedUnlessMemory }
+    {
+        let mut begun = Membership::before_listing(alloc, settings, version)?;
+        for one in rows {
+            if let Err(refusal) = begun.list(settings, one) {
+                // Memory may have run out in front of a silo that is refused.
+                may_begin(settings, version, rows)?;
+                return Err(refusal);
+            }
+        }
+        Ok(begun)
+    }
+
+    // Before any silo is listed.
+    fn before_listing(
+        alloc: Global,
+        settings: &Settings,
+        version: u64,
+    ) -> Result<Membership, ChangeRefusal>
+        ensures begun { Follows (λ m. m) change_refusal_number IsOk (begun settings.now version []) result }
+        ensures numbered { IfErr result (λ refusal. refusal ≡ ChangeRefusal.Views ViewsError.NotListable) }
+    {
+        settings.in_range();
+        let Ok(places) = Places::new(alloc, settings.hashing(), settings.points()) else {
+            unreachable!()
+        };
+        match Views::beginning(alloc, settings.silos(), version) {
+            Ok(views) => Ok(Membership { views, places }),
+            Err(refusal) => Err(ChangeRefusal::Views(refusal)),
+        }
+    }
+
+    // A silo is listed. What is begun is lost where memory runs out.
+    fn list(&mut self, settings: &Settings, one: &Listed) -> Result<(), ChangeRefusal>
+        ensures listed { Follows (λ _. self.new) change_refusal_number IsOk (listed settings.now self.old (listed_of one.now)) result }
+        ensures numbered { IfErr result IsNumberedUnlessMemory }
+    {
+        if let Err(refusal) = self.views.may_list(&one.silo) {
+            return Err(ChangeRefusal::Views(refusal));
+        }
+        if let Err(refusal) = self.may_place_listed(settings, one) {
+            return Err(ChangeRefusal::Ring(refusal));
+        }
+        match self.put_listed(settings, one) {
+            Ok(()) => Ok(()),
+            Err(_) => Err(ChangeRefusal::OutOfMemory),
+        }
+    }
+
+    // Whether a silo that is listed may be given the places stated for it: none where it is Dead.
+    fn may_place_listed(&self, settings: &Settings, one: &Listed) -> Result<(), RingError>
+        ensures placed { OnOk result (MayBeListed settings.now self.now.places (listed_of one.now)) }
+        ensures refused { IfErr result (λ refusal. IsSomeAnd (ring_error_number refusal) (λ number. RefusesPlaces settings.now self.now.places (listed_of one.now) number)) }
+    {
+        match one.status {
+            Status::Active => self.may_place(settings, &one.silo, &one.places),
+            Status::Leaving => self.may_place(settings, &one.silo, &one.places),
+            Status::Dead => may_state_none(&one.places),
+        }
+    }
+
+    // A silo that may be listed is, with its places.
+    fn put_listed(&mut self, settings: &Settings, one: &Listed) -> Result<(), AllocError>
+        requires lists { after_listing self.old.views one.now.silo one.now.status ≡ Ok (with_listed self.old.views one.now.silo one.now.status) }
+        requires placed { MayBeListed settings.now self.old.places (listed_of one.now) }
+        ensures { OnOk result (listed settings.now self.old (listed_of one.now) ≡ Ok self.new) }
+    {
+        place_listed(&mut self.places, settings, one)?;
+        match self.views.list(one.silo, one.status) {
+            Ok(()) => Ok(()),
+            Err(_) => Err(AllocError),
         }
     }
 
@@ -132,14 +221,7 @@ impl Membership {
         ensures placed { OnOk result (IsOk (placed settings.now self.now.places silo.now stated.now)) }
         ensures refused { IfErr result (λ refusal. IsSomeAnd (ring_error_number refusal) (λ number. placed settings.now self.now.places silo.now stated.now ≡ Err number)) }
     {
-        settings.in_range();
-        let is_hashed = self.places.hashing() == Hashing::Sha256;
-        if stated.len() > settings.places() || is_hashed && !stated.is_empty() {
-            return Err(RingError::PointCount);
-        }
-        if !is_hashed && stated.is_empty() {
-            return Err(RingError::PointsMissing);
-        }
+        may_state(settings, self.places.hashing(), stated)?;
         if self.places.is_added(silo) {
             return Err(RingError::AlreadyAdded);
         }
@@ -214,5 +296,19 @@ impl Membership {
             Ok(_) => Ok(()),
             Err(refusal) => Err(ChangeRefusal::Views(refusal)),
         }
+    }
+}
+
+// A silo that is listed gets the places stated for it, but for one that is Dead.
+fn place_listed(places: &mut Places, settings: &Settings, one: &Listed) -> Result<(), AllocError>
+    requires { MayBeListed settings.now places.old (listed_of one.now) }
+    ensures { OnOk result (places_of_listed settings.now places.old (listed_of one.now) ≡ Ok places.new) }
+{
+    if one.status == Status::Dead {
+        return Ok(());
+    }
+    match places.add(one.silo, &one.places) {
+        Ok(()) => Ok(()),
+        Err(_) => Err(AllocError),
     }
 }

@@ -62,7 +62,7 @@ impl Node {
     pub fn plan_letter(&self, alloc: Global, letter: &Letter) -> Result<Plan, AllocError>
         ensures planned { IfOk result (λ plan. step_by self.now plan ≡ received self.now letter.now) }
         ensures fits { IfOk result (λ plan. Fits plan.change self.now) }
-        ensures answers { OnErr result (length (received self.now letter.now).letters ≡ answer_count self.now letter.now.body) }
+        ensures answers { OnErr result (length (received self.now letter.now).letters ≡ answer_count self.now letter.now letter.now.body) }
     {
         match letter.body() {
             Body::Request(request) => self.plan_request(alloc, letter, request),
@@ -73,27 +73,27 @@ impl Node {
             Body::Page(page) => self.plan_page(alloc, letter, page),
             Body::Missing(range) => self.plan_missing(alloc, letter, *range),
             Body::Done(range) => Ok(self.plan_done(alloc, letter, *range)),
-            Body::Query(range) => self.plan_query(alloc, letter, *range),
+            Body::Query { range, after } => self.plan_query(alloc, letter, *range, *after),
             Body::Report(report) => self.plan_report(alloc, letter, report),
             Body::Behind(_) | Body::Ahead(_) => Ok(Plan::idle(alloc, Effect::Noted)),
             Body::Offer(entry) => self.plan_offered(alloc, letter, entry),
         }
     }
 
-    /// How many letters the node sends by this letter, where it may run out of memory: a report is answered by none, and where a
-    /// snapshot is missing all silos are asked.
+    /// How many letters the node sends by this letter, where it may run out of memory: by a report none, or one where its silo is
+    /// asked on, and where a snapshot is missing all silos are asked.
     pub fn answer_count(&self, letter: &Letter) -> usize
-        ensures { result ≡ answer_count self.now letter.now.body }
+        ensures { result ≡ answer_count self.now letter.now letter.now.body }
     {
         match letter.body() {
-            Body::Report(_) => 0,
+            Body::Report(report) => self.report_answers(letter, report),
             Body::Missing(_) => member_count(&self.view),
             Body::Request(_)
             | Body::Reply { .. }
             | Body::Ask { .. }
             | Body::Page(_)
             | Body::Done(_)
-            | Body::Query(_)
+            | Body::Query { .. }
             | Body::Behind(_)
             | Body::Ahead(_)
             | Body::Offer(_) => 1,

@@ -5,6 +5,7 @@ ghost use Rattle.directory_rules.specs.Sent.{gathering_of};
 ghost use Rattle.directory_rules.specs.Snapshot.{shelf_without};
 ghost use Rattle.directory_rules.specs.Transfer.{with_gathering, with_settled};
 ghost use Rattle.node_plans.specs.Plans.{GoesOn, recovering_by};
+ghost use Rattle.seal_snapshot.specs.Shelf.{IsDigestFor};
 ghost use Rattle.grain_partition.specs.Holdings.{HasPiece};
 
 use crate::Node;
@@ -22,6 +23,20 @@ impl Node {
         ensures { self.new ≡ record self.old { shelf = shelf_without self.old.shelf version range to.now } }
     {
         self.shelf.done(version, &range, to);
+    }
+
+    // The digest of the silo's snapshot is kept.
+    pub(crate) fn keep_digest(
+        &mut self,
+        version: u64,
+        range: RingRange,
+        to: &SiloAddress,
+        digest: [u8; 32],
+    )
+        requires { IsDigestFor version range to.now self.old.shelf digest }
+        ensures { self.new ≡ self.old }
+    {
+        self.shelf.keep_digest(version, &range, to, digest);
     }
 
     // A page, behind those gathered.

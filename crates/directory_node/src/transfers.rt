@@ -3,26 +3,29 @@ ghost use Rattle.std.specs.Prelude.{◌≡◌, ◌++◌, IfOk, OnErr, Ok, length
 ghost use Rattle.directory_rules.specs.Gatherings.{gathered};
 ghost use Rattle.directory_rules.specs.Sent.{gathering_of};
 ghost use Rattle.directory_rules.specs.Table.{rise_by_grain};
-ghost use Rattle.directory_rules.specs.Transfer.{asked, awaits, done, gathered_by, is_awaiting_from, is_page_awaited, missing, paged};
+ghost use Rattle.directory_rules.specs.Transfer.{answering, asked, awaits, done, gathered_by, is_awaiting_from, is_page_awaited, missing, paged};
 ghost use Rattle.node_plans.specs.Plans.{Fits, answer_count, step_by};
-ghost use Rattle.directory_rules.specs.State.{Missing_letter};
+ghost use Rattle.directory_rules.specs.State.{Missing_letter, Page_letter};
+ghost use Rattle.directory_rules.specs.declared.Effect.TheVariants.{Page as PageEffect};
 ghost use Rattle.seal_snapshot.specs.Progress.{progress_of};
+ghost use Rattle.seal_snapshot.specs.Shelf.{IsDigestFor};
 ghost use Rattle.seal_snapshot.specs.declared.progress.GatheringProgress.TheVariants.{Complete, More};
 ghost use Rattle.grain_partition.specs.Holdings.{HasPiece};
 
 use crate::{Change, Node, Plan};
 use directory_letters::{Body, Letter};
 use directory_rules::{Effect, PieceState};
+use grain_table::ShortEntry;
 use node_plans::{go_on, lie_in, table_of};
 use range_recovery::Recovery;
 use ring_range::RingRange;
 use seal_snapshot::{Gathering, GatheringError, GatheringProgress, Page, ShelfAnswer};
-use silo_address::{Entry, SiloAddress};
+use silo_address::SiloAddress;
 use std::alloc::{AllocError, Global};
 
 // The previous owner.
 impl Node {
-    // An ask comes. Nothing changes by it.
+    // An ask comes. Nothing changes by it that any answer tells.
     pub(crate) fn plan_ask(
         &self,
         alloc: Global,
@@ -40,12 +43,39 @@ impl Node {
             .shelf
             .answer(alloc, seen, version, &range, &asker, page)?
         {
-            ShelfAnswer::Page(page) => self.answer(alloc, letter, Body::Page(page), Effect::Page),
+            ShelfAnswer::Page(page) => self.plan_handed(alloc, letter, range, page),
             ShelfAnswer::Missing => {
                 self.answer(alloc, letter, Body::Missing(range), Effect::Missing)
             }
             ShelfAnswer::Behind => self.answer(alloc, letter, Body::Behind(range), Effect::Behind),
         }
+    }
+
+    // The page is handed out. The digest of its snapshot is kept, if it isn't yet: it was computed for the page.
+    fn plan_handed(
+        &self,
+        alloc: Global,
+        letter: &Letter,
+        range: RingRange,
+        page: Page,
+    ) -> Result<Plan, AllocError>
+        requires digest { IsDigestFor letter.now.version range letter.now.from self.now.shelf page.digest }
+        ensures planned { IfOk result (λ plan. step_by self.now plan ≡ answering letter.now self.now (Page_letter page) PageEffect) }
+        ensures fits { IfOk result (λ plan. Fits plan.change self.now) }
+    {
+        let (version, to) = (letter.version(), letter.from());
+        let digest = page.digest();
+        if self.shelf.keeps_digest(version, &range, &to) {
+            return self.answer(alloc, letter, Body::Page(page), Effect::Page);
+        }
+        let handed = self.answer_letter(letter, Body::Page(page));
+        let digests = Change::Digests {
+            version,
+            range,
+            to,
+            digest,
+        };
+        Plan::of_one(alloc, handed, Effect::Page, digests)
     }
 
     // The new owner has its snapshot. That is answered by no letter.
@@ -163,7 +193,7 @@ impl Node {
 
     // Whether the page counts: it is of the letter's version, it is awaited from the sender, its entries are hashed into the range
     // and go on in the order of the grains.
-    fn is_page_awaited(&self, letter: &Letter, page: &Page, gathered: &[Entry]) -> bool
+    fn is_page_awaited(&self, letter: &Letter, page: &Page, gathered: &[ShortEntry]) -> bool
         requires its { gathered.now ≡ (gathering_of self.now page.now.range).entries }
         requires rises { rise_by_grain gathered.now ≡ true }
         ensures { result ≡ is_page_awaited self.now letter.now page.now }
@@ -196,7 +226,7 @@ impl Node {
     ) -> Result<Plan, AllocError>
         ensures planned { IfOk result (λ plan. step_by self.now plan ≡ missing self.now letter.now range) }
         ensures fits { IfOk result (λ plan. Fits plan.change self.now) }
-        ensures members { OnErr result (length (missing self.now letter.now range).letters ≡ answer_count self.now (Missing_letter range)) }
+        ensures members { OnErr result (length (missing self.now letter.now range).letters ≡ answer_count self.now letter.now (Missing_letter range)) }
     {
         if !self.awaits(letter.version(), range, letter.from()) {
             return Ok(Plan::idle(alloc, Effect::Ignored));

@@ -141,25 +141,25 @@ backed_install m w x snapshot may p b =
 
 -- ---- the reports of all members
 
-module _ (m : Setting) (w : World) (x : Settling) (told : Silo → Report) (may : MayRecover m w x told) (p : Placed m w) (k : Asked m w)
+module _ (m : Setting) (w : World) (x : Settling) (told : Silo → Grain → Report) (may : MayRecover m w x told) (p : Placed m w) (k : Asked m w)
     (b : Backed m w) where
   -- a report's version is above the levels of the part
-  above : (g : Grain) (r : Silo) → x.part (m.hash g) ≡ true → m.member (w.seen x.silo) r ≡ true → w.level (m.hash g) < (told r).version
+  above : (g : Grain) (r : Silo) → x.part (m.hash g) ≡ true → m.member (w.seen x.silo) r ≡ true → w.level (m.hash g) < (told r g).version
   above g r u i =
       let l : w.level (m.hash g) < w.seen x.silo = recover_below m w x told may p (m.hash g) u in
-      let e : (told r).version ≡ w.seen x.silo = may.same_version r i in
+      let e : (told r g).version ≡ w.seen x.silo = may.same_version r g i in
       omega arith
 
   recovered_within : (g : Grain) (a : ActivationId) → x.part (m.hash g) ≡ true → x.entries g ≡ Some a → w.authority g ≡ Some a
   recovered_within g a u e =
       let i : m.member (w.seen x.silo) a.silo ≡ true = may.from_member g a u e in
-      b.reported.right (told a.silo) g a.count (may.sent a.silo i) (above g a.silo u i) (may.from_report g a u e)
-      ∙ ap (λ s. Some (activation_on s a.count)) (may.own_report a.silo i)
+      b.reported.right (told a.silo g) g a.count (may.sent a.silo g i) (above g a.silo u i) (may.from_report g a u e)
+      ∙ ap (λ s. Some (activation_on s a.count)) (may.own_report a.silo g i)
 
   -- what a member reported is entered
   told_enters :
       (g : Grain) (r : Silo) (c : ℕ) → x.part (m.hash g) ≡ true → m.member (w.seen x.silo) r ≡ true
-      → w.authority g ≡ Some (activation_on r c) → (told r).firm g ≡ Some c → x.entries g ≡ Some (activation_on r c)
+      → w.authority g ≡ Some (activation_on r c) → (told r g).firm g ≡ Some c → x.entries g ≡ Some (activation_on r c)
   told_enters g r c u i e f =
       let entered = may.complete g r c u i f in
       entered.1 ∙ sym (recovered_within g entered.0 u entered.1) ∙ e
@@ -182,7 +182,7 @@ module _ (m : Setting) (w : World) (x : Settling) (told : Silo → Report) (may 
             let is : w.authority g ≡ Some (activation_on s c) = b.confirmed.firm s g c a e in
             let i : m.member (w.seen x.silo) s ≡ true = member_then g (activation_on s c) u is (m.dead_stays_dead (w.seen x.silo) w.now s (p.structure.known x.silo) a) in
             told_enters g s c u i is
-            (b.reported.all_firm (told s) g c (may.sent s i) (above g s u i) (ap (λ s. w.held s g) (may.own_report s i) ∙ e));
+            (b.reported.all_firm (told s g) g c (may.sent s g i) (above g s u i) (ap (λ s. w.held s g) (may.own_report s g i) ∙ e));
         has_registered = λ y g z u q e a c.
             let is : w.authority g ≡ Some (activation_on y.receiver (count_of z)) = b.confirmed.registered y g z q e a c in
             let i : m.member (w.seen x.silo) y.receiver ≡ true = member_then g (activation_on y.receiver (count_of z)) u is (m.dead_stays_dead (w.seen x.silo) w.now y.receiver (p.structure.known x.silo) a) in
@@ -197,8 +197,8 @@ module _ (m : Setting) (w : World) (x : Settling) (told : Silo → Report) (may 
             let lives : m.alive (w.seen x.silo) y.sender ≡ true = m.dead_stays_dead (w.seen x.silo) y.version y.sender (omega arith) (m.member_is_alive y.version y.sender member) in
             let i : m.member (w.seen x.silo) y.sender ≡ true = member_then g (activation_on y.sender c) u is lives in
             told_enters g y.sender c u i is
-            (b.reported.shrinking (told y.sender) y g c (may.sent y.sender i) q (sym (may.own_report y.sender i))
-            (let at : (told y.sender).version ≡ w.seen x.silo = may.same_version y.sender i in
+            (b.reported.shrinking (told y.sender g) y g c (may.sent y.sender g i) q (sym (may.own_report y.sender g i))
+            (let at : (told y.sender g).version ≡ w.seen x.silo = may.same_version y.sender g i in
             omega arith) (above g y.sender u i) e);
       }
 

@@ -24,5 +24,6 @@ pub mod StoryRecovery
 pub mod StoryTwo
 pub mod StoryBroken
 pub mod StoryReports
+pub mod StoryPages
 pub mod StoryEntries
 pub mod StoryGivenUp

@@ -1,7 +1,8 @@
 -- A silo settles part of what it owns: by a snapshot, or by the reports of all members.
-use Rattle.std.proofs.Common.{◌≡◌, ◌≢◌, ◌⊎◌, ◌<◌, ◌≤◌, ℕ, Bool, true, cond, Some, inl, inr, sym, refl, ap, ◌∙◌, subst, arith}
+use Rattle.std.proofs.Common.{◌≡◌, ◌≢◌, ◌⊎◌, ◌<◌, ◌≤◌, ℕ, Bool, true, cond, Some, [], inl, inr, sym, refl, ap, ◌∙◌, subst, arith}
 use Rattle.std.proofs.lemmas.Bool.{cases_order}
 use Rattle.silo_address.specs.Silo.{Silo}
+use Rattle.silo_address.specs.Grain.{Grain}
 use Rattle.directory_protocol.specs.Change.{put, where_true}
 use Rattle.directory_protocol.specs.Setting.{Setting}
 use Rattle.directory_protocol.specs.Letters.{Snapshot, Report}
@@ -120,14 +121,18 @@ module _ (m : Setting) (w : World) (x : Settling) (snapshot : Snapshot) (may : M
       let same : snapshot.sealed_at ≡ k = omega (arith, may.same_version) in
       subst (λ k. IsLeft m w.now w.seen h k) same (p.levels.sealed_left snapshot h may.sent (may.covered h u)))
 
-module _ (m : Setting) (w : World) (x : Settling) (told : Silo → Report) (may : MayRecover m w x told) (p : Placed m w) where
+-- some grain: what a member reported of any shows that it has seen the version
+some_grain : Grain
+some_grain = record { kind = []; key = [] }
+
+module _ (m : Setting) (w : World) (x : Settling) (told : Silo → Grain → Report) (may : MayRecover m w x told) (p : Placed m w) where
   pub recover_below : (h : ℕ) → x.part h ≡ true → w.level h < w.seen x.silo
   recover_below h u = from_order (cases_order (w.level h) (w.seen x.silo))
     where
       barred : IsBarred m w.now w.seen w.snapshots w.reports h (w.seen x.silo) → w.level h < w.seen x.silo
       barred b =
-          absurd (b.none_told (told b.silent) (may.sent b.silent b.was_member) (may.own_report b.silent b.was_member)
-          (may.same_version b.silent b.was_member))
+          absurd (b.none_told (told b.silent some_grain) (may.sent b.silent some_grain b.was_member)
+          (may.own_report b.silent some_grain b.was_member) (may.same_version b.silent some_grain b.was_member))
 
       left : IsLeft m w.now w.seen h (w.seen x.silo) → w.level h < w.seen x.silo
       left l =
@@ -142,9 +147,10 @@ module _ (m : Setting) (w : World) (x : Settling) (told : Silo → Report) (may 
   -- each live member has seen the version at which it reported
   pub member_saw : (r : Silo) → m.member (w.seen x.silo) r ≡ true → w.seen x.silo ≤ w.seen r
   member_saw r i =
-      let told_seen : (told r).version ≤ w.seen (told r).sender = p.levels.told_seen (told r) (may.sent r i) in
-      let at : (told r).version ≡ w.seen x.silo = may.same_version r i in
-      let by : w.seen (told r).sender ≡ w.seen r = ap w.seen (may.own_report r i) in
+      let its : Report = told r some_grain in
+      let told_seen : its.version ≤ w.seen its.sender = p.levels.told_seen its (may.sent r some_grain i) in
+      let at : its.version ≡ w.seen x.silo = may.same_version r some_grain i in
+      let by : w.seen its.sender ≡ w.seen r = ap w.seen (may.own_report r some_grain i) in
       omega arith
 
   pub placed_recover : Placed m (after_settling m w x)

@@ -124,7 +124,7 @@ abbrev pub opening : List Action
 opening =
     New_view ∷ See (record { silo = first; version = 1; kept = no_hash; sealed = no_hash })
     ∷ Tell first
-    ∷ Recover (record { silo = first; part = all; entries = λ g. None }) (λ r. reported seen_first first)
+    ∷ Recover (record { silo = first; part = all; entries = λ g. None }) (λ r g. reported seen_first first)
     ∷ []
 
 pub opening_allowed : AllAllowed cluster opening start
@@ -147,9 +147,9 @@ opening_allowed = (
       (
         record {
           settles = record { alive = refl; owned = λ h e. refl; unsettled = λ h e. refl };
-          sent = λ r e. inl refl;
-          same_version = λ r e. refl;
-          own_report = λ r e. sym (only_first r e);
+          sent = λ r g e. inl refl;
+          same_version = λ r g e. refl;
+          own_report = λ r g e. sym (only_first r e);
           from_member = λ g a e f. absurd cc;
           from_report = λ g a e f. absurd cc;
           complete = λ g r c e f i. absurd cc;

@@ -1,6 +1,7 @@
 -- Wrong protocols of several silos, each with one action that its guard should have refused.
 use Rattle.std.proofs.Common.{◌≡◌, ◌≢◌, true, Some, None, List, [], ◌∷◌, ◌++◌, option_map, inl, inr, refl, ap, arith}
 use Rattle.silo_address.specs.Silo.{Silo, silo_eq}
+use Rattle.silo_address.specs.Grain.{Grain}
 use Rattle.silo_address.specs.declared.activation.ActivationId.{ActivationId}
 use Rattle.directory_protocol.specs.Change.{put, put_grain, put_at}
 use Rattle.directory_protocol.specs.Letters.{activation_on, Registered, Report, Snapshot}
@@ -88,7 +89,7 @@ skipped = after_sight cluster (run cluster opened_three start) skipping
 abbrev telling : List Action
 telling = sees second 3 ∷ sees third 3 ∷ Tell first ∷ Tell second ∷ Tell third ∷ []
 
-abbrev told_nothing : Silo → Report
+abbrev told_nothing : Silo → Grain → Report
 told_nothing =
     of_three (reported (run cluster telling skipped) first) (reported (run cluster telling skipped) second)
     (reported (run cluster telling skipped) third)
@@ -289,7 +290,7 @@ replaced_allowed = (
 abbrev old_report : Report
 old_report = reported (run cluster (early ++ (New_view ∷ sees second 3 ∷ [])) start) second
 
-abbrev told : Silo → Report
+abbrev told : Silo → Grain → Report
 told = of_three (reported (run cluster replaced lagging) first) old_report (reported (run cluster replaced lagging) third)
 
 recovery_allowed : MayRecover cluster (run cluster replaced lagging) (settles_all (only two)) told

@@ -74,7 +74,7 @@ then_firm_allowed = (
 abbrev after_firm : World
 after_firm = run cluster then_firm told_early
 
-abbrev told_then : Silo → Report
+abbrev told_then : Silo → Grain → Report
 told_then = of_three (reported after_firm first) too_early (reported after_firm third)
 
 recovery_too_early : MayRecover cluster after_firm (settles_all no_entry) told_then
@@ -150,7 +150,7 @@ too_late = record { version = 3; sender = first; firm = (reported (run cluster s
 abbrev told_late : World
 told_late = record (run cluster skipping start) { reports = too_late ∷ (run cluster skipping start).reports }
 
-abbrev told_skipped : Silo → Report
+abbrev told_skipped : Silo → Grain → Report
 told_skipped = of_three too_late (reported (run cluster skipping start) second) (reported (run cluster skipping start) third)
 
 recovery_too_late : MayRecover cluster told_late (settles_all no_entry) told_skipped
@@ -207,7 +207,7 @@ with_asking = record { version = 3; sender = first; firm = λ g. option_map coun
 abbrev told_asking : World
 told_asking = record (run cluster asking start) { reports = with_asking ∷ (run cluster asking start).reports }
 
-abbrev told_both : Silo → Report
+abbrev told_both : Silo → Grain → Report
 told_both = of_three with_asking (reported told_asking second) (reported told_asking third)
 
 -- what it held of ann, which asked, is all that it names
@@ -268,7 +268,7 @@ dropped =
       reports = reported (run cluster looking start) second ∷ (run cluster looking start).reports;
     }
 
-abbrev told_dropped : Silo → Report
+abbrev told_dropped : Silo → Grain → Report
 told_dropped = of_three (reported dropped first) (reported (run cluster looking start) second) (reported dropped third)
 
 recovery_of_dropped : MayRecover cluster (run cluster (Tell first ∷ Tell third ∷ []) dropped) (settles_all (only two)) told_dropped

@@ -2,6 +2,7 @@
 -- a recovery; or the activation migrates.
 use Rattle.std.proofs.Common.{◌≡◌, ◌≢◌, true, Some, None, List, [], ◌∷◌, ◌++◌, inl, inr, refl, ap, arith}
 use Rattle.silo_address.specs.Silo.{Silo, silo_eq}
+use Rattle.silo_address.specs.Grain.{Grain}
 use Rattle.silo_address.specs.declared.activation.ActivationId.{ActivationId}
 use Rattle.directory_protocol.specs.Change.{put, put_grain, put_at}
 use Rattle.directory_protocol.specs.Letters.{activation_on, Registered, Taken, Report, Snapshot}
@@ -137,7 +138,7 @@ looking = New_view ∷ sees first 3 ∷ sees second 3 ∷ sees third 3 ∷ []
 abbrev looked : World
 looked = run cluster (early ++ looking) start
 
-abbrev told : Silo → Report
+abbrev told : Silo → Grain → Report
 told = of_three (reported looked first) (reported looked second) (reported looked third)
 
 looking_allowed : AllAllowed cluster (looking ++ (Tell first ∷ Tell second ∷ Tell third ∷ [])) (run cluster early start)

@@ -53,8 +53,8 @@ pub data Action : Type 0 where
   Tell : (silo : Silo) → Action
   -- a silo settles part of a snapshot
   Install : Settling → Snapshot → Action
-  -- a silo settles what every member reported
-  Recover : Settling → (told : Silo → Report) → Action
+  -- a silo settles what every member reported of each grain, be it in one report or in several
+  Recover : Settling → (told : Silo → Grain → Report) → Action
 
 pub record MaySee (m : Setting) (w : World) (x : Sight) : Type 0 where
   pub alive : m.alive w.now x.silo ≡ true
@@ -150,17 +150,17 @@ pub record MayInstall (m : Setting) (w : World) (x : Settling) (snapshot : Snaps
   pub covered : (h : ℕ) → x.part h ≡ true → snapshot.covers h ≡ true
   pub entries : (g : Grain) → x.part (m.hash g) ≡ true → x.entries g ≡ snapshot.entries g
 
--- each member of the seen view reported there; the entries are theirs, and each grain that was reported has one
-pub record MayRecover (m : Setting) (w : World) (x : Settling) (told : Silo → Report) : Type 0 where
+-- of each grain each member of the seen view reported there; the entries are theirs, and each grain that was reported has one
+pub record MayRecover (m : Setting) (w : World) (x : Settling) (told : Silo → Grain → Report) : Type 0 where
   pub settles : MaySettle m w x
-  pub sent : (r : Silo) → m.member (w.seen x.silo) r ≡ true → Sent (told r) w.reports
-  pub same_version : (r : Silo) → m.member (w.seen x.silo) r ≡ true → (told r).version ≡ w.seen x.silo
-  pub own_report : (r : Silo) → m.member (w.seen x.silo) r ≡ true → (told r).sender ≡ r
+  pub sent : (r : Silo) (g : Grain) → m.member (w.seen x.silo) r ≡ true → Sent (told r g) w.reports
+  pub same_version : (r : Silo) (g : Grain) → m.member (w.seen x.silo) r ≡ true → (told r g).version ≡ w.seen x.silo
+  pub own_report : (r : Silo) (g : Grain) → m.member (w.seen x.silo) r ≡ true → (told r g).sender ≡ r
   pub from_member :
       (g : Grain) (a : ActivationId) → x.part (m.hash g) ≡ true → x.entries g ≡ Some a → m.member (w.seen x.silo) a.silo ≡ true
-  pub from_report : (g : Grain) (a : ActivationId) → x.part (m.hash g) ≡ true → x.entries g ≡ Some a → (told a.silo).firm g ≡ Some a.count
+  pub from_report : (g : Grain) (a : ActivationId) → x.part (m.hash g) ≡ true → x.entries g ≡ Some a → (told a.silo g).firm g ≡ Some a.count
   pub complete :
-      (g : Grain) (r : Silo) (c : ℕ) → x.part (m.hash g) ≡ true → m.member (w.seen x.silo) r ≡ true → (told r).firm g ≡ Some c
+      (g : Grain) (r : Silo) (c : ℕ) → x.part (m.hash g) ≡ true → m.member (w.seen x.silo) r ≡ true → (told r g).firm g ≡ Some c
       → (a : ActivationId) × (x.entries g ≡ Some a)
 
 -- the action may be taken in that world

@@ -1,5 +1,6 @@
 -- Wrong protocols, first kind: a guard lacks one of its conditions. And what it means that one wrong step breaks a promise.
-use Rattle.std.specs.Prelude.{◌≡◌, ◌<◌, ◌≤◌, ℕ, suc, true, Some, None, List, option_map}
+use Rattle.std.specs.Prelude.{◌≡◌, ◌≢◌, ◌<◌, ◌≤◌, ℕ, suc, Bool, true, is_some, Option, Some, None, List, Contains, filter, option_map}
+use Rattle.std.specs.List.{slice_get}
 use Rattle.silo_address.specs.Silo.{Silo}
 use Rattle.silo_address.specs.Grain.{Grain}
 use Rattle.silo_address.specs.declared.activation.ActivationId.{ActivationId}
@@ -87,6 +88,57 @@ pub record MayRecoverEarly (m : Setting) (w : World) (x : Settling) (report : Re
 
 abbrev pub RecoveryCompletesAtFirstReport : Setting → World → World → Type 0
 RecoveryCompletesAtFirstReport m w after = (x : Settling) × (report : Report) × MayRecoverEarly m w x report × (after ≡ after_settling m w x)
+
+-- a recovery ends with the first page of each member's report: of grains that aren't on it nothing is known. A report that has
+-- something has something on its first page
+pub record MayRecoverByFirstPages (m : Setting) (w : World) (x : Settling) (told : Silo → Report) (page : Silo → Grain → Bool) : Type 0 where
+  pub settles : MaySettle m w x
+  pub sent : (r : Silo) → m.member (w.seen x.silo) r ≡ true → Sent (told r) w.reports
+  pub same_version : (r : Silo) → m.member (w.seen x.silo) r ≡ true → (told r).version ≡ w.seen x.silo
+  pub own_report : (r : Silo) → m.member (w.seen x.silo) r ≡ true → (told r).sender ≡ r
+  pub some :
+      (r : Silo) (g : Grain) → m.member (w.seen x.silo) r ≡ true → (told r).firm g ≢ None
+      → (first : Grain) × (page r first ≡ true) × ((told r).firm first ≢ None)
+  pub from_member :
+      (g : Grain) (a : ActivationId) → x.part (m.hash g) ≡ true → x.entries g ≡ Some a → m.member (w.seen x.silo) a.silo ≡ true
+  pub from_page :
+      (g : Grain) (a : ActivationId) → x.part (m.hash g) ≡ true → x.entries g ≡ Some a
+      → (page a.silo g ≡ true) × ((told a.silo).firm g ≡ Some a.count)
+  pub complete :
+      (g : Grain) (r : Silo) (c : ℕ) → x.part (m.hash g) ≡ true → m.member (w.seen x.silo) r ≡ true → page r g ≡ true
+      → (told r).firm g ≡ Some c → (a : ActivationId) × (x.entries g ≡ Some a)
+
+abbrev pub FirstPageCompletes : Setting → World → World → Type 0
+FirstPageCompletes m w after =
+    (x : Settling) × (told : Silo → Report) × (page : Silo → Grain → Bool) × MayRecoverByFirstPages m w x told page × (after ≡ after_settling m w x)
+
+-- of these grains, in their order, the one of that number which a report has
+abbrev pub firm_numbered : List Grain → ℕ → Report → Option Grain
+firm_numbered grains number report = slice_get (filter (λ g. is_some (report.firm g)) grains) number
+
+-- a recovery asks for pages of one grain by their numbers: a member reports anew for each page, and has told all where there is none of
+-- the number asked for
+pub record MayRecoverByNumbers
+    (m : Setting) (w : World) (x : Settling) (grains : List Grain) (told : Silo → (number : ℕ) → Report) (pages : Silo → ℕ) : Type 0 where
+  pub settles : MaySettle m w x
+  pub sent : (r : Silo) (n : ℕ) → m.member (w.seen x.silo) r ≡ true → n ≤ pages r → Sent (told r n) w.reports
+  pub same_version : (r : Silo) (n : ℕ) → m.member (w.seen x.silo) r ≡ true → n ≤ pages r → (told r n).version ≡ w.seen x.silo
+  pub own_report : (r : Silo) (n : ℕ) → m.member (w.seen x.silo) r ≡ true → n ≤ pages r → (told r n).sender ≡ r
+  pub all_grains :
+      (r : Silo) (n : ℕ) (g : Grain) → m.member (w.seen x.silo) r ≡ true → n ≤ pages r → (told r n).firm g ≢ None → Contains grains g
+  pub ends : (r : Silo) → m.member (w.seen x.silo) r ≡ true → firm_numbered grains (pages r) (told r (pages r)) ≡ None
+  pub from_member :
+      (g : Grain) (a : ActivationId) → x.part (m.hash g) ≡ true → x.entries g ≡ Some a → m.member (w.seen x.silo) a.silo ≡ true
+  pub from_page :
+      (g : Grain) (a : ActivationId) → x.part (m.hash g) ≡ true → x.entries g ≡ Some a
+      → (n : ℕ) × (n < pages a.silo) × (firm_numbered grains n (told a.silo n) ≡ Some g) × ((told a.silo n).firm g ≡ Some a.count)
+  pub complete :
+      (g : Grain) (r : Silo) (n : ℕ) → x.part (m.hash g) ≡ true → m.member (w.seen x.silo) r ≡ true → n < pages r
+      → firm_numbered grains n (told r n) ≡ Some g → (a : ActivationId) × (x.entries g ≡ Some a)
+
+abbrev pub PagesByNumber : Setting → World → World → Type 0
+PagesByNumber m w after =
+    (x : Settling) × (grains : List Grain) × (told : Silo → ℕ → Report) × (pages : Silo → ℕ) × MayRecoverByNumbers m w x grains told pages × (after ≡ after_settling m w x)
 
 -- an activation starts in the place of one that was offered at a version which its silo hasn't seen
 pub record MayStartEarly (m : Setting) (w : World) (s : Silo) (g : Grain) (p : ActivationId) : Type 0 where

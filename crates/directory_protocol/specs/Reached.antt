@@ -26,7 +26,7 @@ TransfersEntry m w a =
 -- a recovery ends with an entry
 abbrev pub RecoversEntry : Setting → World → Action → Type 0
 RecoversEntry m w a =
-    (x : Settling) × (told : Silo → Report) × (g : Grain) × (e : ActivationId) × (a ≡ Recover x told) × (x.part (m.hash g) ≡ true) × (x.entries g ≡ Some e)
+    (x : Settling) × (told : Silo → Grain → Report) × (g : Grain) × (e : ActivationId) × (a ≡ Recover x told) × (x.part (m.hash g) ≡ true) × (x.entries g ≡ Some e)
 
 -- a silo skips a version, and keeps an entry that it still owns
 abbrev pub KeepsOverSkip : Setting → World → Action → Type 0

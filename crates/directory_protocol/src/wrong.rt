@@ -2,7 +2,7 @@
 //! promise is broken. Each law is shown by a run of allowed actions with that one step among them.
 
 ghost use Rattle.directory_protocol.specs.Safety.{OneSettles, SettledIsRight, OneFirm};
-ghost use Rattle.directory_protocol.specs.Loosened.{Breaks, SealedPieceStillServes, SkipKeepsPiecesNotOwned, RequestNumbersNotCompared, RegisterOverwrites, PreviousReplacesAnyEntry, DeregisterIgnoresTheActivation, StaleReplyAccepted, RecoveryCompletesAtFirstReport, OfferStartsAtALaggingSilo};
+ghost use Rattle.directory_protocol.specs.Loosened.{Breaks, SealedPieceStillServes, SkipKeepsPiecesNotOwned, RequestNumbersNotCompared, RegisterOverwrites, PreviousReplacesAnyEntry, DeregisterIgnoresTheActivation, StaleReplyAccepted, RecoveryCompletesAtFirstReport, FirstPageCompletes, PagesByNumber, OfferStartsAtALaggingSilo};
 ghost use Rattle.directory_protocol.specs.WrongSteps.{QueryAnsweredAtAnotherVersion, SkippedVersionStillReports, ReportHasAskingActivations, RecoveryDropsFirmActivations, SnapshotKeepsDeadSilos, OfferLeavesFirm, CancelForgetsTheActivation, CancelHasAnOlderNumber};
 
 /// A silo keeps settled what it seals for the next owner: the hash is settled at two silos.
@@ -28,6 +28,17 @@ pub fn query_answered_at_another_version()
 /// A recovery ends with the report of one member: another's firm activation isn't in the table.
 pub fn recovery_completes_at_first_report()
     ensures { Breaks RecoveryCompletesAtFirstReport SettledIsRight }
+{}
+
+/// A recovery ends with the first page of each report: a firm activation that stands on a later one isn't in the table.
+pub fn first_page_completes()
+    ensures { Breaks FirstPageCompletes SettledIsRight }
+{}
+
+/// Pages are asked for by number, not behind what was told: an activation closes between two pages, and the next one, which
+/// moves up by one, isn't in the table.
+pub fn pages_by_number()
+    ensures { Breaks PagesByNumber SettledIsRight }
 {}
 
 /// A report names an activation that asks, too: the table has it in place of the firm one.

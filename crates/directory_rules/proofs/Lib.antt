@@ -10,6 +10,8 @@ pub mod Pieces
 pub mod Sights
 pub mod PlacesRun
 pub mod Ranges
+pub mod ReportCounts
+pub mod Standings
 pub mod Owned
 pub mod Reached
 pub mod Removed

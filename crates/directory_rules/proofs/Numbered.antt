@@ -24,9 +24,9 @@ use Rattle.directory_rules.specs.declared.effect.Effect.TheVariants as effect
 use Rattle.directory_rules.specs.Sight.{is_next}
 use Rattle.directory_rules.specs.Snapshot.{ShelfAnswer, Hands_page, Has_none, Is_behind, has_snapshot, shelf_without}
 use Rattle.directory_rules.specs.Gatherings.{Gathered, Wants_page, Has_all, Refuses, gathered}
-use Rattle.directory_rules.specs.Recovery.{Recovered, Awaits_more, Has_union, Rejects, recovered}
+use Rattle.directory_rules.specs.Recovery.{Recovered, Has_more, Awaits_more, Has_union, Rejects, recovered}
 use Rattle.directory_rules.specs.Answer.{answered}
-use Rattle.directory_rules.specs.State.{Body, Request_letter, Reply_letter, Ask_letter, Page_letter, Missing_letter, Done_letter, Query_letter, Report_letter, Behind_letter, Ahead_letter, Offer_letter, Letter, Node, Host}
+use Rattle.directory_rules.specs.State.{Report, Body, Request_letter, Reply_letter, Ask_letter, Page_letter, Missing_letter, Done_letter, Query_letter, Report_letter, Behind_letter, Ahead_letter, Offer_letter, Letter, Node, Host}
 use Rattle.directory_rules.specs.Step as at
 use Rattle.directory_rules.specs.Reply as re
 use Rattle.directory_rules.specs.Transfer as tr
@@ -232,10 +232,11 @@ gathered_by (Wants_page gathering) letter range node is = is
 gathered_by (Has_all entries) letter range node is = is
 gathered_by (Refuses number gathering) letter range node is = either (number == 701) _ _ is is
 
-recovered_by : (result : Recovered) (range : Range) (node : Node) → Numbered node.host → Kept (tr.recovered_by result range node)
-recovered_by (Awaits_more recovery) range node is = is
-recovered_by (Has_union table) range node is = is
-recovered_by (Rejects number) range node is = is
+recovered_by : (result : Recovered) (report : Report) (node : Node) → Numbered node.host → Kept (tr.recovered_by result report node)
+recovered_by (Has_more recovery) report node is = is
+recovered_by (Awaits_more recovery) report node is = is
+recovered_by (Has_union table) report node is = is
+recovered_by (Rejects number) report node is = is
 
 queried : (a b : Bool) (x y z : at.Stepped) → Kept x → Kept y → Kept z → Kept (cond a x (cond b y z))
 queried true b x y z k l m = k
@@ -256,13 +257,13 @@ received (Done_letter range) node letter is =
     either (has_snapshot node.shelf letter.version range letter.from)
     (at.silently (record node { shelf = shelf_without node.shelf letter.version range letter.from }) effect.Deleted)
     (at.silently node Ignored) is is
-received (Query_letter range) node letter is =
+received (Query_letter range after) node letter is =
     queried (nat_lt node.view.version letter.version) (nat_lt letter.version node.view.version)
     (tr.answering letter node (Behind_letter range) effect.Behind) (tr.answering letter node (Ahead_letter range) effect.Ahead)
-    (tr.answering letter node (Report_letter (tr.report_of node range)) effect.Report) is is is
+    (tr.answering letter node (Report_letter (tr.report_of node range after)) effect.Report) is is is
 received (Report_letter report) node letter is =
     either (tr.is_report_awaited node letter report) _ _
-    (recovered_by (recovered (recovery_of node report.range) report) report.range node is) is
+    (recovered_by (recovered (recovery_of node report.range) report) report node is) is
 received (Behind_letter range) node letter is = is
 received (Ahead_letter range) node letter is = is
 received (Offer_letter entry) node letter is =

@@ -1,7 +1,6 @@
 -- Every step leaves a node's pieces what its silo owns by its ring, each hash in one of them.
 use Rattle.std.proofs.Common.{◌≡◌, refl, sym, ap, subst, ◌∙◌, ℕ, ◌<◌, List, []}
 use Rattle.std.specs.Prelude.{length, nat_lt, ◌||◌, Bool, true, false, cond, not, ◌==◌, ◌&&◌, ◌++◌, is_some, filter, All, Option, Some, None, Result, Ok, Err, IfOk}
-use Rattle.std.specs.List.{list_all}
 use Rattle.std.specs.Ordering.{nat_cmp}
 use Rattle.std.specs.Map.{lookup}
 use Rattle.std.specs.BTreeMap.{is_at}
@@ -38,7 +37,7 @@ use Rattle.directory_rules.specs.State.{Piece, Holding, Table, Page, Report, Bod
 use Rattle.directory_rules.specs.Table.{rise_by_grain, lie_in}
 use Rattle.directory_rules.specs.Snapshot.{ShelfAnswer, Hands_page, Has_none, Is_behind, has_snapshot, shelf_without}
 use Rattle.directory_rules.specs.Gatherings.{Gathered, Wants_page, Has_all, Refuses, gathered}
-use Rattle.directory_rules.specs.Recovery.{Recovered, Awaits_more, Has_union, Rejects, recovered}
+use Rattle.directory_rules.specs.Recovery.{Recovered, Has_more, Awaits_more, Has_union, Rejects, recovered}
 use Rattle.directory_rules.specs.Answer.{piece_with, is_numbered, last_served, with_piece, serving_by_state, serving_by_piece, serving_piece, served_by, answered_from, answered}
 use Rattle.directory_rules.specs.Step as at
 use Rattle.directory_rules.specs.Reply as re
@@ -48,6 +47,7 @@ use Rattle.directory_rules.specs.Sent.{gathering_of, recovery_of}
 use Rattle.directory_rules.specs.Host.{renewed, renewed_about, outstanding, requests_about, is_firm, is_asking, has_numbers, has_count, is_full_of_activations, is_full_of_finds, held_of, asking_under, closing_under, is_finding, is_outstanding}
 use Rattle.directory_rules.specs.Cache.{hint_of}
 use Rattle.directory_rules.specs.Input.{Input, Sees, Does, Receives, step}
+use Rattle.directory_rules.proofs.ReportCounts.{report_counts}
 use Rattle.directory_rules.proofs.Sights.{on_circle, compared, sight_owned}
 use Rattle.directory_rules.proofs.Ranges.{ranges, Rising, holding_in, held_by_ranges, changed_ranges, stands_at, rising_arcs}
 use Rattle.directory_rules.specs.declared.own_step.OwnStep.TheVariants.{Wake, Close, Cancel, Find, Forget, Nudge, NudgeGrain, NudgeRanges, Offer}
@@ -222,13 +222,14 @@ gathered_by (Has_all entries) letter range node is waits =
     (both (letter.version == node.view.version) (tr.has_range (tr.is_awaiting_from letter.from) range (tr.piece_at node range)) waits).1
 gathered_by (Refuses number gathering) letter range node is waits = either (number == 701) _ _ is is
 
-recovered_by : (result : Recovered) (range : Range) (node : Node) (version : ℕ) → Owned node → tr.recovers node version range ≡ true
-    → Kept (tr.recovered_by result range node)
-recovered_by (Awaits_more recovery) range node version is waits = is
-recovered_by (Has_union table) range node version is waits =
-    settled_own tr.is_recovering node range state.Settled table is
-    (both (version == node.view.version) (tr.has_range tr.is_recovering range (tr.piece_at node range)) waits).1
-recovered_by (Rejects number) range node version is waits = is
+recovered_by : (result : Recovered) (report : Report) (node : Node) (version : ℕ) → Owned node
+    → tr.recovers node version report.range ≡ true → Kept (tr.recovered_by result report node)
+recovered_by (Has_more recovery) report node version is waits = is
+recovered_by (Awaits_more recovery) report node version is waits = is
+recovered_by (Has_union table) report node version is waits =
+    settled_own tr.is_recovering node report.range state.Settled table is
+    (both (version == node.view.version) (tr.has_range tr.is_recovering report.range (tr.piece_at node report.range)) waits).1
+recovered_by (Rejects number) report node version is waits = is
 
 -- a step that is taken where a test answers yes
 where_so : (b : Bool) (one other : at.Stepped) → (b ≡ true → Kept one) → Kept other → Kept (cond b one other)
@@ -255,16 +256,9 @@ missing node letter range is =
 
 reported : (node : Node) (letter : Letter) (report : Report) → Owned node → Kept (tr.reported node letter report)
 reported node letter report is =
-    let version = report.version == letter.version in
-    let sender = silo_eq report.silo letter.from in
-    let waits = tr.recovers node letter.version report.range in
-    let rise = rise_by_grain report.entries in
-    let lie = lie_in node.settings.hashing report.range report.entries in
-    let own = list_all (λ e. silo_eq e.activation.silo letter.from) report.entries in
     where_so (tr.is_report_awaited node letter report) _ _
-    (λ counts. recovered_by (recovered (recovery_of node report.range) report) report.range node letter.version is
-    (both (version && sender) waits (both (version && sender && waits) rise
-    (both (version && sender && waits && rise) lie (both (version && sender && waits && rise && lie) own counts).0).0).0).1)
+    (λ counts. recovered_by (recovered (recovery_of node report.range) report) report node letter.version is
+    (report_counts node letter report counts).waits)
     is
 
 queried : (a b : Bool) (x y z : at.Stepped) → Kept x → Kept y → Kept z → Kept (cond a x (cond b y z))
@@ -282,10 +276,10 @@ received (Done_letter range) node letter is =
     either (has_snapshot node.shelf letter.version range letter.from)
     (at.silently (record node { shelf = shelf_without node.shelf letter.version range letter.from }) effect.Deleted)
     (at.silently node Ignored) is is
-received (Query_letter range) node letter is =
+received (Query_letter range after) node letter is =
     queried (nat_lt node.view.version letter.version) (nat_lt letter.version node.view.version)
     (tr.answering letter node (Behind_letter range) effect.Behind) (tr.answering letter node (Ahead_letter range) effect.Ahead)
-    (tr.answering letter node (Report_letter (tr.report_of node range)) effect.Report) is is is
+    (tr.answering letter node (Report_letter (tr.report_of node range after)) effect.Report) is is is
 received (Report_letter report) node letter is = reported node letter report is
 received (Behind_letter range) node letter is = is
 received (Ahead_letter range) node letter is = is

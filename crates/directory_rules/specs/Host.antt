@@ -17,7 +17,7 @@ use Rattle.directory_rules.specs.declared.held.Held.{Held}
 use Rattle.directory_rules.specs.declared.held.Phase.{Phase}
 use Rattle.directory_rules.specs.declared.held.Phase.TheVariants.{Asking, Firm, Closing}
 use Rattle.directory_rules.specs.Settings.{Settings}
-use Rattle.directory_rules.specs.Table.{with_entry, entries_of}
+use Rattle.directory_rules.specs.Standing.{as_they_stand, stands_behind}
 use Rattle.directory_rules.specs.State.{Host}
 
 -- a host that has nothing yet
@@ -62,10 +62,15 @@ is_closing (Asking number) = false
 is_closing Firm = false
 is_closing (Closing number) = true
 
--- the entries of the firm activations that are hashed into the range, in the order of their grains
+-- the entries of the firm activations that are hashed into the range, as they stand there
 abbrev pub firm_entries : Hashing → Host → Range → List Entry
 firm_entries hashing host range =
-    entries_of (fold with_entry [] (map (λ e. entry_of host e.0 e.1) (filter (λ e. is_firm e.1.phase && holds range (hash_grain hashing e.0)) host.held)))
+    as_they_stand (hash_grain hashing) (range ∷ []) (map (λ e. entry_of host e.0 e.1) (filter (λ e. is_firm e.1.phase && holds range (hash_grain hashing e.0)) host.held))
+
+-- those of them that stand behind a grain
+abbrev pub firm_behind : Hashing → Host → Range → (after : Option Grain) → List Entry
+firm_behind hashing host range after =
+    filter (λ e. stands_behind (hash_grain hashing) (range ∷ []) after e.grain) (firm_entries hashing host range)
 
 -- What is outstanding: a request for each activation that asks or closes, and each find.
 

@@ -3,7 +3,9 @@ pub mod SettingsFields
 pub mod State
 pub mod Members
 pub mod Membership
+pub mod ListedModel
 pub mod Table
+pub mod Standing
 pub mod Snapshot
 pub mod Gatherings
 pub mod Recovery

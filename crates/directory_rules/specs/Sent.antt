@@ -15,7 +15,7 @@ use Rattle.directory_rules.specs.declared.piece_state.PieceState.{PieceState}
 use Rattle.directory_rules.specs.declared.piece_state.PieceState.TheVariants.{Settled, Awaiting, Recovering}
 use Rattle.directory_rules.specs.State.{Gathering, Recovery, Body, Request_letter, Ask_letter, Query_letter, Letter, Node}
 use Rattle.directory_rules.specs.Gatherings.{new_gathering}
-use Rattle.directory_rules.specs.Recovery.{new_recovery}
+use Rattle.directory_rules.specs.Recovery.{new_recovery, told_by}
 use Rattle.directory_rules.specs.Host.{outstanding, requests_about, grain_of}
 
 -- a letter of the node, of the version that it has seen
@@ -71,9 +71,13 @@ recovery_of node range =
 abbrev pub ask_letters : Node → Range → (from : Silo) → List Letter
 ask_letters node range from = letter_to from node (Ask_letter range (gathering_of node range).next) ∷ []
 
--- a query to each silo whose report for the piece is missing, by address
+-- the query to a silo, behind what it has told of the piece
+abbrev pub query_to : Node → Range → Silo → Letter
+query_to node range silo = letter_to silo node (Query_letter range (told_by silo (recovery_of node range)))
+
+-- one to each silo that is awaited for the piece, by address
 abbrev pub query_letters : Node → Range → List Letter
-query_letters node range = map (λ silo. letter_to silo node (Query_letter range)) (recovery_of node range).awaiting
+query_letters node range = map (query_to node range) (recovery_of node range).awaiting
 
 -- by the piece's state: a settled one wants nothing
 abbrev pub wants_by : PieceState → Node → Range → List Letter

@@ -1,6 +1,7 @@
 -- The settings of a directory: how hashes are made, and the limits. A directory's own limits are the greatest; smaller
 -- ones serve examples.
-use Rattle.std.specs.Prelude.{ℕ, ◌≤◌}
+use Rattle.std.specs.Prelude.{ℕ, ◌<◌, ◌≤◌}
+use Rattle.membership_view.specs.Views.{most_known}
 use Rattle.hash_ring.specs.declared.Hashing.{Hashing}
 
 -- what a directory is set up with
@@ -10,7 +11,7 @@ pub record Settings : Type 0 where
   pub points : ℕ
   -- how many entries a cache keeps
   pub cache : ℕ
-  -- how many silos may ever join, and how many places a join may name
+  -- how many silos may be known, and how many places a join may name
   pub silos : ℕ
   pub places : ℕ
   -- how many events may ever be accepted, and how many letters sent
@@ -19,8 +20,14 @@ pub record Settings : Type 0 where
   -- how many activations a silo may hold, and how many finds it may have outstanding
   pub activations : ℕ
   pub finds : ℕ
+  -- how many entries a silo tells in one report
+  pub report_size : ℕ
   -- the last request number and the last count of a silo
   pub last_number : ℕ
+
+-- how many entries a page has, unless it is the last one of its snapshot; no report has more
+abbrev pub page_size : ℕ
+page_size = 64
 
 -- a directory's own settings: three are chosen, and the limits are the greatest
 abbrev pub directory_settings : Hashing → (points cache : ℕ) → Settings
@@ -32,8 +39,9 @@ directory_settings hashing points cache = record {
   places = 128;
   events = 1000000;
   letters = 1000000;
-  activations = 65536;
+  activations = 1000000;
   finds = 65536;
+  report_size = page_size;
   last_number = 1152921504606846976;
 }
 
@@ -43,18 +51,16 @@ pub record AreSettings (settings : Settings) : Type 0 where
   pub points_within : settings.points ≤ 128
   pub cache_within : settings.cache ≤ 65536
   pub silos_above : 1 ≤ settings.silos
-  pub silos_within : settings.silos ≤ 65536
+  pub silos_within : settings.silos < most_known
   pub places_above : 1 ≤ settings.places
   pub places_within : settings.places ≤ 128
   pub events_above : 1 ≤ settings.events
   pub letters_above : 1 ≤ settings.letters
   pub activations_above : 1 ≤ settings.activations
-  pub activations_within : settings.activations ≤ 65536
+  pub activations_within : settings.activations ≤ 16777216
   pub finds_above : 1 ≤ settings.finds
   pub finds_within : settings.finds ≤ 65536
+  pub report_above : 1 ≤ settings.report_size
+  pub report_within : settings.report_size ≤ page_size
   pub last_above : 1 ≤ settings.last_number
   pub last_within : settings.last_number ≤ 1152921504606846976
-
--- how many entries a page has, unless it is the last one of its snapshot
-abbrev pub page_size : ℕ
-page_size = 64

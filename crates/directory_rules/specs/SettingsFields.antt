@@ -14,6 +14,7 @@ settings_of s = record {
   letters = s.letters;
   activations = s.activations;
   finds = s.finds;
+  report_size = s.report_size;
   last_number = s.last_number;
 }
 
@@ -29,5 +30,6 @@ fields_of s = record {
   letters = s.letters;
   activations = s.activations;
   finds = s.finds;
+  report_size = s.report_size;
   last_number = s.last_number;
 }

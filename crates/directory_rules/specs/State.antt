@@ -70,21 +70,27 @@ pub record Gathering : Type 0 where
   -- the entries of the pages had so far
   pub entries : List Entry
 
--- a silo's firm activations with their hashes in a range, when it had seen a version
+-- some of a silo's firm activations with their hashes in a range, when it had seen a version
 pub record Report : Type 0 where
   pub version : ℕ
   pub range : Range
   pub silo : Silo
-  -- in the order of their grains
+  -- the grain behind which they stand; none from the start of the range on
+  pub after : Option Grain
+  -- as they stand in the range
   pub entries : List Entry
+  -- whether no others stand behind them
+  pub last : Bool
 
 -- what an owner has been reported so far
 pub record Recovery : Type 0 where
   pub version : ℕ
   pub range : Range
-  -- the silos that haven't reported yet, and those that have, by address
+  -- the silos whose last report is missing, and those that have told all, by address
   pub awaiting : List Silo
   pub reported : List Silo
+  -- up to which grain those that are awaited have told, if they have told of any, by address
+  pub told : List (Silo × Grain)
   pub gathered : Table
 
 -- what a host has
@@ -130,8 +136,8 @@ pub data Body : Type 0 where
   Missing_letter : Range → Body
   -- the new owner has the whole snapshot
   Done_letter : Range → Body
-  -- an owner to any silo, for what it has firm, and the answer
-  Query_letter : Range → Body
+  -- an owner to any silo, for what it has firm behind a grain, or from the start of the range on; and the answer
+  Query_letter : Range → (after : Option Grain) → Body
   Report_letter : Report → Body
   -- the asked silo has not seen the version yet, or has passed it
   Behind_letter : Range → Body

@@ -1,11 +1,14 @@
 -- What silos do with the letters of transfers and recoveries.
-use Rattle.std.specs.Prelude.{ℕ, ◌==◌, ◌&&◌, nat_lt, Bool, true, false, if◌then◌else◌, [], ◌∷◌, ◌++◌, Option, Some, None}
+use Rattle.std.specs.Prelude.{ℕ, ◌==◌, ◌&&◌, ◌||◌, nat_lt, nat_le, Bool, true, false, if◌then◌else◌, List, [], ◌∷◌, ◌++◌, length, take, Option, Some, None}
 use Rattle.std.specs.Ordering.{nat_cmp}
 use Rattle.std.specs.List.{list_all}
 use Rattle.std.specs.Map.{lookup, remove_entry}
 use Rattle.std.specs.BTreeMap.{is_at, insert_entry}
 use Rattle.silo_address.specs.Silo.{Silo, silo_eq}
+use Rattle.silo_address.specs.Grain.{Grain}
+use Rattle.silo_address.specs.declared.Entry.{Entry}
 use Rattle.ring_range.specs.Range.{Range, range_eq}
+use Rattle.hash_ring.specs.Hash.{hash_grain}
 use Rattle.directory_rules.specs.declared.piece_state.PieceState.{PieceState}
 use Rattle.directory_rules.specs.declared.piece_state.PieceState.TheVariants as state
 use Rattle.directory_rules.specs.declared.effect.Effect.{Effect}
@@ -14,10 +17,11 @@ use Rattle.directory_rules.specs.State.{Table, Piece, Page, Gathering, Report, R
 use Rattle.directory_rules.specs.Table.{table_of, rise_by_grain, lie_in}
 use Rattle.directory_rules.specs.Snapshot.{ShelfAnswer, Hands_page, Has_none, Is_behind, shelf_answer, has_snapshot, shelf_without}
 use Rattle.directory_rules.specs.Gatherings.{Gathered, Wants_page, Has_all, Refuses, gathered}
-use Rattle.directory_rules.specs.Recovery.{Recovered, Awaits_more, Has_union, Rejects, new_recovery, recovered}
-use Rattle.directory_rules.specs.Host.{firm_entries}
+use Rattle.directory_rules.specs.Standing.{rise_behind}
+use Rattle.directory_rules.specs.Recovery.{Recovered, Has_more, Awaits_more, Has_union, Rejects, new_recovery, recovered}
+use Rattle.directory_rules.specs.Host.{firm_behind}
 use Rattle.directory_rules.specs.Answer.{with_piece}
-use Rattle.directory_rules.specs.Sent.{gathering_of, recovery_of, ask_letters, query_letters}
+use Rattle.directory_rules.specs.Sent.{gathering_of, recovery_of, ask_letters, query_to, query_letters}
 use Rattle.directory_rules.specs.Step.{Stepped, silently}
 
 -- a letter back to the sender, of the letter's version
@@ -144,38 +148,51 @@ missing node letter range =
 
 -- Recovery.
 
--- the report of what is firm, for a range
-abbrev pub report_of : Node → Range → Report
-report_of node range = record {
+-- the report on a range, behind a grain: the first of these entries, as many as the silo tells in one
+abbrev pub report_with : Node → Range → (after : Option Grain) → List Entry → Report
+report_with node range after entries = record {
   version = node.view.version;
   range = range;
   silo = node.host.silo;
-  entries = firm_entries node.settings.hashing node.host range;
+  after = after;
+  entries = take node.settings.report_size entries;
+  last = nat_le (length entries) node.settings.report_size;
 }
 
--- a query is answered by a report where the node has seen just its version
-abbrev pub queried : Node → Letter → Range → Stepped
-queried node letter range =
+-- of what is firm there
+abbrev pub report_of : Node → Range → (after : Option Grain) → Report
+report_of node range after = report_with node range after (firm_behind node.settings.hashing node.host range after)
+
+-- a query is answered by a report where the node has seen just its version; the node keeps nothing of it
+abbrev pub queried : Node → Letter → Range → (after : Option Grain) → Stepped
+queried node letter range after =
     if nat_lt node.view.version letter.version then answering letter node (Behind_letter range) effect.Behind
     else (if nat_lt letter.version node.view.version then answering letter node (Ahead_letter range) effect.Ahead
-    else answering letter node (Report_letter (report_of node range)) effect.Report)
+    else answering letter node (Report_letter (report_of node range after)) effect.Report)
+
+-- the silo is asked on, behind what it has told
+abbrev pub querying_on : Range → Silo → Node → Stepped
+querying_on range silo node = record { node = node; letters = query_to node range silo ∷ []; effect = effect.More }
 
 -- by what came of the report
-abbrev pub recovered_by : Recovered → Range → Node → Stepped
-recovered_by (Awaits_more recovery) range node = silently (with_recovery node recovery) effect.More
-recovered_by (Has_union table) range node = silently (with_settled node range table) effect.Complete
-recovered_by (Rejects number) range node = silently node effect.Ignored
+abbrev pub recovered_by : Recovered → Report → Node → Stepped
+recovered_by (Has_more recovery) report node = querying_on report.range report.silo (with_recovery node recovery)
+recovered_by (Awaits_more recovery) report node = silently (with_recovery node recovery) effect.More
+recovered_by (Has_union table) report node = silently (with_settled node report.range table) effect.Complete
+recovered_by (Rejects number) report node = silently node effect.Ignored
 
--- whether the report counts: it is the sender's, of the letter's version, the piece recovers, and its entries are the
--- sender's, are hashed into the range and stand in the order of the grains
+-- whether the report counts: it is the sender's, of the letter's version, and the piece recovers; its entries are the sender's, are
+-- hashed into the range, stand behind its grain and one behind the other; and it has one at least, unless it is the last
 abbrev pub is_report_awaited : Node → Letter → Report → Bool
 is_report_awaited node letter report =
     (report.version == letter.version) && silo_eq report.silo letter.from && recovers node letter.version report.range
-    && rise_by_grain report.entries && lie_in node.settings.hashing report.range report.entries
+    && rise_behind (hash_grain node.settings.hashing) (report.range ∷ []) report.after report.entries
+    && lie_in node.settings.hashing report.range report.entries
     && list_all (λ e. silo_eq e.activation.silo letter.from) report.entries
+    && (report.last || nat_lt 0 (length report.entries))
 
 -- a report comes
 abbrev pub reported : Node → Letter → Report → Stepped
 reported node letter report =
-    if is_report_awaited node letter report then recovered_by (recovered (recovery_of node report.range) report) report.range node
+    if is_report_awaited node letter report then recovered_by (recovered (recovery_of node report.range) report) report node
     else silently node effect.Ignored

@@ -74,7 +74,7 @@ pub enum Effect {
     Deleted,
     /// A query was answered by a report.
     Report,
-    /// A report, and more are awaited.
+    /// A report, and more are awaited, of its silo or of others.
     More,
     /// The last report: the piece is settled.
     Complete,

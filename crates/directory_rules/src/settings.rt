@@ -1,4 +1,5 @@
 ghost use Rattle.std.specs.Prelude.{◌≡◌, ◌↔◌, ◌<◌, ◌≤◌, ◌^◌, IsTrue, IsSome, IfSome};
+ghost use Rattle.membership_view.specs.Views.{most_known};
 ghost use Rattle.directory_rules.specs.Settings.{AreSettings, directory_settings};
 
 use hash_ring::Hashing;
@@ -7,11 +8,17 @@ use std::marker::Model;
 /// The greatest number of entries in a cache.
 const MOST_CACHED: usize = 65_536;
 
-/// The greatest number of silos that may ever join.
-const MOST_SILOS: usize = 65_536;
+/// The greatest number of silos that may be known: 2^62 - 1.
+const MOST_SILOS: usize = (1 << 62) - 1;
 
 /// The greatest number of letters ever sent in a played cluster.
 const MOST_LETTERS: u64 = 1_000_000;
+
+/// The greatest number of activations that a silo may hold.
+const MOST_ACTIVATIONS: usize = 1 << 24;
+
+/// The greatest number of entries in a report, and how many it has unless another number is chosen.
+const MOST_REPORTED: usize = 64;
 
 /// The greatest last number of a silo.
 const LAST_NUMBER: u64 = 1 << 60;
@@ -28,6 +35,7 @@ pub struct Settings {
     letters: u64,
     activations: usize,
     finds: usize,
+    report_size: usize,
     last_number: u64,
 }
 
@@ -64,16 +72,17 @@ impl Settings {
             places: 128,
             events: 1_000_000,
             letters: MOST_LETTERS,
-            activations: 65_536,
+            activations: 1_000_000,
             finds: 65_536,
+            report_size: MOST_REPORTED,
             last_number: LAST_NUMBER,
         })
     }
 
-    /// The same settings, but for at most so many silos ever, 1 to 65536. `None` where the number is out of its range.
+    /// The same settings, but for at most so many silos that a world or a silo may know, 1 to 2^62 - 1. `None` where the number is out of its range.
     pub fn with_silos(self, silos: usize) -> Option<Settings>
         ensures exact { IfSome result (λ settings. settings ≡ record self { silos = silos }) }
-        ensures in_range { IsSome result ↔ ((1 ≤ silos) × (silos ≤ 65536)) }
+        ensures in_range { IsSome result ↔ ((1 ≤ silos) × (silos < most_known)) }
     {
         if silos == 0 || silos > MOST_SILOS {
             return None;
@@ -90,6 +99,35 @@ impl Settings {
             return None;
         }
         Some(Settings { letters, ..self })
+    }
+
+    /// The same settings, but for at most so many activations that a silo may hold, 1 to 2^24. `None` where the number is out of its
+    /// range.
+    pub fn with_activations(self, activations: usize) -> Option<Settings>
+        ensures exact { IfSome result (λ settings. settings ≡ record self { activations = activations }) }
+        ensures in_range { IsSome result ↔ ((1 ≤ activations) × (activations ≤ 16777216)) }
+    {
+        if activations == 0 || activations > MOST_ACTIVATIONS {
+            return None;
+        }
+        Some(Settings {
+            activations,
+            ..self
+        })
+    }
+
+    /// The same settings, but for at most so many entries in a report, 1 to 64. `None` where the number is out of its range.
+    pub fn with_report_size(self, report_size: usize) -> Option<Settings>
+        ensures exact { IfSome result (λ settings. settings ≡ record self { report_size = report_size }) }
+        ensures in_range { IsSome result ↔ ((1 ≤ report_size) × (report_size ≤ 64)) }
+    {
+        if report_size == 0 || report_size > MOST_REPORTED {
+            return None;
+        }
+        Some(Settings {
+            report_size,
+            ..self
+        })
     }
 
     /// The same settings, but for this last request number and last count of a silo, 1 to 2^60. `None` where the number is out of
@@ -128,7 +166,7 @@ impl Settings {
         self.cache
     }
 
-    /// How many silos may ever join, 1 to 65536.
+    /// How many silos may be known, 1 to 2^62 - 1.
     pub fn silos(&self) -> usize
         ensures { result ≡ self.now.silos }
     {
@@ -156,7 +194,7 @@ impl Settings {
         self.letters
     }
 
-    /// How many activations a silo may hold, 1 to 65536.
+    /// How many activations a silo may hold, 1 to 2^24.
     pub fn activations(&self) -> usize
         ensures { result ≡ self.now.activations }
     {
@@ -168,6 +206,13 @@ impl Settings {
         ensures { result ≡ self.now.finds }
     {
         self.finds
+    }
+
+    /// How many entries a silo tells in one report, 1 to 64.
+    pub fn report_size(&self) -> usize
+        ensures { result ≡ self.now.report_size }
+    {
+        self.report_size
     }
 
     /// The last request number and the last count of a silo, 1 to 2^60.

@@ -4,9 +4,9 @@ use Rattle.std.specs.Prelude.{true}
 use Rattle.membership_view.specs.View.{ViewValue}
 use Rattle.membership_view.specs.Views.{view_at}
 use Rattle.hash_ring.specs.Ring.{are_added}
-use Rattle.directory_facts.proofs.Places.{added_view}
 use Rattle.silo_rules.specs.SiloValue.{SiloValue}
 use Rattle.silo_rules.specs.Whole.{IsWhole}
+use Rattle.silo_rules.proofs.Placed.{placed_view}
 use Rattle.directory_node.specs.Placed.{ArePlaced}
 
 -- a sight has the places that it asks for, and the node's ring is its view's by them
@@ -20,4 +20,5 @@ sight_placed s version before view is before_is view_is = record {
   where
     at : (v : ℕ) (seen : ViewValue) → seen ≡ view_at s.membership.views v → are_added seen s.membership.places ≡ true
     at v seen seen_is =
-        ap (λ w. are_added w s.membership.places) seen_is ∙ added_view s.membership.views s.membership.places v is.membership.added
+        ap (λ w. are_added w s.membership.places) seen_is
+        ∙ placed_view s.membership.views s.membership.places is.membership.whole is.membership.added v

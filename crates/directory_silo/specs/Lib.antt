@@ -1,3 +1,4 @@
 pub mod Numbers
 pub mod SiloModel
 pub mod AnswerModel
+pub mod Later

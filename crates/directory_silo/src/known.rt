@@ -2,13 +2,21 @@
 ghost use Rattle.std.specs.Prelude.{◌≡◌, ◌==◌, List, ℕ};
 ghost use Rattle.std.specs.List.{list_any};
 ghost use Rattle.hash_ring.specs.Places.{places_of};
-ghost use Rattle.silo_rules.specs.Known.{are_these, is_known, is_made_in, is_of_join, were_stated};
+ghost use Rattle.membership_view.specs.Row.{is_made_in};
+ghost use Rattle.silo_rules.specs.Known.{are_these, is_before, is_known, is_of_join, were_stated};
 ghost use Rattle.directory_rules.specs.Membership.{Join, Leave, Die};
 
 use directory_node::Membership;
 use hash_ring::{Hashing, Places};
 use membership_view::Views;
 use silo_address::SiloAddress;
+
+/// Whether the version was told by the view with which the silo began, so that it isn't known what made it.
+pub(crate) fn is_before(membership: &Membership, version: u64) -> bool
+    ensures { result ≡ is_before membership.now version }
+{
+    version > 0 && version <= membership.views().first()
+}
 
 /// Whether the silo joined in that version, with these places.
 pub(crate) fn is_known_join(

@@ -17,6 +17,12 @@ pub enum SiloRefusal {
     /// The version was made by another change.
     #[error("this version was made by another change")]
     SaysOtherwise,
+    /// It was told a change, or a view, before, and can't begin with this view.
+    #[error("the silo has been told something before")]
+    ToldBefore,
+    /// The version was told by the view with which the silo began, and it isn't known what made it.
+    #[error("the version is from before the silo's history begins")]
+    BeforeHistory,
     /// The silo was not told of its own join.
     #[error("the silo has not been told that it joined")]
     NotJoined,
@@ -48,6 +54,8 @@ impl SiloRefusal {
         match self {
             SiloRefusal::Gap => Some(206),
             SiloRefusal::SaysOtherwise => Some(207),
+            SiloRefusal::ToldBefore => Some(211),
+            SiloRefusal::BeforeHistory => Some(212),
             SiloRefusal::NotJoined => Some(901),
             SiloRefusal::Dead => Some(902),
             SiloRefusal::NoSuchVersion => Some(904),

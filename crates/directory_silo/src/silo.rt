@@ -61,7 +61,7 @@ impl Silo {
         self.membership.views()
     }
 
-    /// The places of each silo that it was told has joined.
+    /// The places of each silo that it was told has joined, but for those that were Dead in the view with which its history begins.
     pub fn places(&self) -> &Places
         ensures { result.now ≡ self.now.membership.places }
     {

@@ -229,7 +229,7 @@ fn take_foreign(rt: &impl Abort, alloc: Global, node: &mut Node, letter: &Letter
     takes(rt, alloc, node, &stray, Effect::Ignored);
 }
 
-// The first silo's report with this entry alone.
+// The first silo's last report, with this entry alone.
 fn reported(
     rt: &impl Abort,
     alloc: Global,
@@ -239,9 +239,56 @@ fn reported(
 ) -> Box<Letter> {
     let activation = ActivationId { silo, count: 1 };
     let entries = list_of(rt, alloc, &Entry { grain, activation });
-    let report = Report::new(2, range(rt), letter.from(), entries);
+    let report = Report::new(2, range(rt), letter.from(), None, entries, true);
     let reported = Letter::new(letter.from(), letter.to(), 2, Body::Report(report));
     posted(rt, alloc, reported)
+}
+
+// What the first silo tells the second one behind a grain, and whether that is all.
+fn told(
+    rt: &impl Abort,
+    alloc: Global,
+    after: Option<GrainId>,
+    entries: Vec<Entry>,
+    last: bool,
+) -> Box<Letter> {
+    let report = Report::new(2, range(rt), first(rt), after, entries, last);
+    let letter = Letter::new(first(rt), second(rt), 2, Body::Report(report));
+    posted(rt, alloc, letter)
+}
+
+// The grain behind which a query asks.
+fn asked_behind(query: &Letter) -> Option<GrainId> {
+    match query.body() {
+        Body::Query { after, .. } => *after,
+        _ => None,
+    }
+}
+
+// A silo that has more to tell is asked on behind what it told. What it told before doesn't count again.
+#[test]
+fn a_silo_that_has_more_to_tell_is_asked_on(rt: HostRuntime) {
+    let mut node = joining(&rt, rt.alloc());
+    let queries = recovers(&rt, rt.alloc(), &mut node);
+    take_parts(&rt, rt.alloc(), &mut node);
+    take_own(
+        &rt,
+        rt.alloc(),
+        &mut node,
+        queries.last().expect(&rt, "a query"),
+    );
+}
+
+// The first silo's report comes in two parts, each of them twice.
+fn take_parts(rt: &impl Abort, alloc: Global, node: &mut Node) {
+    let entry = entry_on(rt, first(rt));
+    let part = told(rt, alloc, None, list_of(rt, alloc, &entry), false);
+    let query = sends(rt, alloc, node, &part, Effect::More);
+    assert!(rt; query.to() == first(rt) && asked_behind(&query) == Some(entry.grain));
+    takes(rt, alloc, node, &part, Effect::Ignored);
+    let rest = told(rt, alloc, Some(entry.grain), Vec::new(alloc), true);
+    takes(rt, alloc, node, &rest, Effect::More);
+    takes(rt, alloc, node, &rest, Effect::Ignored);
 }
 
 // The second silo offers its activation at version 2.

@@ -1,4 +1,5 @@
-//! The limits of a directory, each met: what comes next is refused, and changes nothing.
+//! The limits of a directory, each met: what comes next is refused, and changes nothing. Of activations, of which there may be more than
+//! a world has events, a smaller limit is met.
 use directory_core::{EventRefusal, World};
 use directory_node::StepRefusal;
 use directory_rules::{Event, OwnStep, Settings};
@@ -23,6 +24,9 @@ const PLACES: usize = 128;
 // The world of a directory without caches, before the first event.
 fn empty(rt: &impl Abort, alloc: Global) -> Box<World> {
     let settings = Settings::of_directory(Hashing::Stated, 30, 0).expect(rt, "30 points");
+    let settings = settings
+        .with_activations(ACTIVATIONS as usize)
+        .expect(rt, "activations");
     boxed(rt, alloc, settings)
 }
 

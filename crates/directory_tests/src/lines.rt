@@ -24,6 +24,8 @@ fn name_of(asked: &Asked<'_>) -> &'static str {
         Asked::Joined { .. } => "joined with another",
         Asked::Leaving { .. } => "leaving",
         Asked::Dead { .. } => "dead",
+        Asked::Begin { rows, .. } if rows.is_empty() => "view of none",
+        Asked::Begin { .. } => "view",
         Asked::See { .. } => "see",
         Asked::Do(step) => step_name(step),
         Asked::Receive(_) => "letter",
@@ -64,7 +66,7 @@ fn unended_number(line: &[u8]) -> Option<u16> {
     }
 }
 
-const LINES: [(&str, &str); 32] = [
+const LINES: [(&str, &str); 36] = [
     ("joined 1 10.0.0.1:1000@1", "joined"),
     (
         "joined 18446744073709551615 10.0.0.1:1000@1 0 7 4294967295",
@@ -75,6 +77,13 @@ const LINES: [(&str, &str); 32] = [
     ("joined 1 10.0.0.1:1000@1 token=", "joined with another"),
     ("leaving 3 10.0.0.2:1000@1", "leaving"),
     ("dead 4 10.0.0.2:1000@1", "dead"),
+    ("view 5", "view of none"),
+    ("view 5 10.0.0.1:1000@1:active", "view"),
+    (
+        "view 18446744073709551615 10.0.0.1:1000@1:leaving:0,4294967295  10.0.0.1:1000@1:dead",
+        "view",
+    ),
+    ("view 1 10.0.0.1:1000@1:dead:7", "view"),
     ("see 2", "see"),
     ("wake user/ann#7", "wake"),
     ("close user/ann#7", "close"),
@@ -91,7 +100,7 @@ const LINES: [(&str, &str); 32] = [
         "letter",
     ),
     (
-        "letter 10.0.0.1:1000@1 10.0.0.1:1000@1 1 report 0+4294967296 user/ann#7 10.0.0.1:1000@1!1",
+        "letter 10.0.0.1:1000@1 10.0.0.1:1000@1 1 report 0+4294967296 last user/ann#7 10.0.0.1:1000@1!1",
         "letter",
     ),
     ("ping joined", "ping"),
@@ -116,7 +125,7 @@ fn commands(rt: HostRuntime) {
     }
 }
 
-const FAULTS: [(&str, u16); 46] = [
+const FAULTS: [(&str, u16); 60] = [
     ("see\t1", 925),
     ("hello\u{7f}", 925),
     ("ping caf\u{e9}", 925),
@@ -128,6 +137,20 @@ const FAULTS: [(&str, u16); 46] = [
     ("leaving 1", 922),
     ("leaving x here 0", 922),
     ("dead 1 10.0.0.1:1000@1 0", 922),
+    ("view", 922),
+    ("view x 10.0.0.1:1000@1", 923),
+    ("view 1 10.0.0.1:1000@1", 933),
+    ("view 1 active", 933),
+    ("view 1 10.0.0.1:1000@1:gone", 933),
+    ("view 1 10.0.0.1:1000@1:Active", 933),
+    ("view 1 here:there:gone:x", 933),
+    ("view 1 10.0.0.1:1000@1:active:0:1", 933),
+    ("view 1 here:there:dead:x", 101),
+    ("view 1 10.0.0.1:1000@1:active:", 923),
+    ("view 1 10.0.0.1:1000@1:active:0,,1", 923),
+    ("view 1 10.0.0.1:1000@1:active:4294967296", 923),
+    ("view 1 10.0.0.1:1000@1:dead 10.0.0.1:1000@0:dead", 103),
+    ("view 1 10.0.0.1:1000@1:dead x", 933),
     ("see", 922),
     ("wake", 922),
     ("close user/ann user/ann", 922),

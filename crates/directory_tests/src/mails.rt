@@ -18,7 +18,8 @@ fn silo(rt: &impl Abort, text: &str) -> SiloAddress {
 // A letter to the silo is sent.
 fn post(rt: &impl Abort, alloc: Global, mail: &mut Mail, to: &str) {
     let range = RingRange::new(0, 10).expect(rt, "a range");
-    let letter = Letter::new(silo(rt, A), silo(rt, to), 1, Body::Query(range));
+    let body = Body::Query { range, after: None };
+    let letter = Letter::new(silo(rt, A), silo(rt, to), 1, body);
     let mut letters = Vec::new(alloc);
     letters.push(letter).expect(rt, "memory");
     mail.post(letters).expect(rt, "memory");

@@ -140,7 +140,10 @@ fn is_body_copied(body: &Body) -> bool {
 
 #[test]
 fn a_letter(rt: HostRuntime) {
-    let body = Body::Query(circle(&rt));
+    let body = Body::Query {
+        range: circle(&rt),
+        after: None,
+    };
     let letter = Letter::new(silo(&rt), silo(&rt), 1, body);
     assert!(rt; is_copied(&letter) && is_body_copied(letter.body()));
 }

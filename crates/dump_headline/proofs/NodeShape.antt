@@ -27,7 +27,7 @@ use Rattle.dump_rules.specs.DumpShape.{activation_silos}
 use Rattle.dump_rules.specs.RightShape as right
 use Rattle.dump_headline.proofs.Orders.{all_found}
 use Rattle.dump_headline.proofs.Shape.{pieces_in_order, are_pieces, are_ranges, grains_once, holds_its_own, rows_of, rows_once, nodes_once, rows_in_order, nodes_in_order}
-use Rattle.dump_headline.proofs.RowShape.{few_versions, small, rows_numbers, rows_are}
+use Rattle.dump_headline.proofs.RowShape.{few_versions, rows_numbers, rows_are}
 
 -- what the dump needs besides the facts of the world: the activations that the node names are of silos that ever joined, and
 -- those that it holds differ
@@ -71,8 +71,8 @@ module _ (hash : Grain → ℕ) (f : World) (facts : WorldFacts hash f) where
       let sees = is.sees in
       record {
         seen =
-            small node.view.version (let few = few_versions f.views facts.peopled.whole in let within = sees.within in
-            omega (arith, few, within));
+            let few = few_versions f.views facts.peopled.whole in let within = sees.within in
+            omega (arith, few, within);
         ring =
             subst (λ (points : List Point). All right.HasPointNumbers points)
             (sym (ap (λ ring. ring.points) (sees.ring_is ∙ ap (λ view. ring_of view f.places) sees.view_is)))
@@ -83,7 +83,7 @@ module _ (hash : Grain → ℕ) (f : World) (facts : WorldFacts hash f) where
   numbers : right.HasNumbers (dump_of f)
   unfolding dump_of
   numbers = record {
-    current = small f.views.version (few_versions f.views facts.peopled.whole);
+    current = few_versions f.views facts.peopled.whole;
     points_above = facts.settings.points_above;
     points_within = facts.settings.points_within;
     rows = rows_numbers hash f facts;

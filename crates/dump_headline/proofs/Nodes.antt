@@ -8,7 +8,9 @@ use Rattle.std.proofs.lemmas.Map.Views.{Contains-from_lookup}
 use Rattle.silo_address.specs.Silo.{Silo, silo_cmp}
 use Rattle.silo_address.specs.Grain.{Grain}
 use Rattle.silo_address.proofs.Order.{silo_cmp_total, silo_cmp_exact}
-use Rattle.membership_view.specs.Views.{status_at}
+use Rattle.membership_view.specs.View.{status_of}
+use Rattle.membership_view.specs.Views.{view_at}
+use Rattle.directory_rules.proofs.People.{live_said}
 use Rattle.directory_rules.specs.Members.{is_dead_in}
 use Rattle.directory_rules.specs.Laws.{is_live}
 use Rattle.directory_rules.specs.State.{Node, World}
@@ -54,9 +56,10 @@ module _ (hash : Grain → ℕ) (f : World) (facts : WorldFacts hash f) where
       → not (is_dead_in (dump_view (dump_of f) (dump_of f).current) silo) ≡ true
   unfolding dump_of
   not_dead silo node there =
-      let live : is_live (status_at f.views f.views.version silo) ≡ true = sym (facts.peopled.live silo) ∙ ap is_some there in
+      let live : is_live (status_of (view_at f.views f.views.version) silo) ≡ true =
+      live_said f.views facts.peopled.whole f.views.version (omega arith) silo ∙ sym (facts.peopled.live silo) ∙ ap is_some there in
       ap (λ view. not (is_dead_in view silo)) (dumped_view f facts.peopled.whole f.views.version (omega arith))
-      ∙ ap not (live_not_dead (status_at f.views f.views.version silo) live)
+      ∙ ap not (live_not_dead (status_of (view_at f.views f.views.version) silo) live)
 
   among_nodes : (silo : Silo) (node : Node) → node_of f silo ≡ Some node → Contains (dump_of f).nodes (dump_node silo node)
   unfolding dump_of

@@ -9,10 +9,10 @@ use Rattle.silo_address.proofs.Order.{silo_cmp_exact}
 use Rattle.membership_view.specs.declared.row.Row.{Row}
 use Rattle.hash_ring.specs.declared.hashing.Hashing.{Hashing}
 use Rattle.hash_ring.specs.declared.hashing.Hashing.TheVariants.{Sha256, Stated}
-use Rattle.hash_ring.specs.Places.{PlacesValue, IsPlaces, places_of, places_for}
+use Rattle.hash_ring.specs.Places.{PlacesValue, IsPlaces, places_of, places_for, named_places}
 use Rattle.directory_rules.proofs.Cases.{on_bool}
 use Rattle.directory_facts.proofs.Entries.{same_key}
-use Rattle.dump_rules.specs.Dump.{dump_row, named_places}
+use Rattle.dump_rules.specs.Dump.{dump_row}
 
 -- those that were named at a join, or are hashed, are the silo's
 pub told_places : (hashing : Hashing) (places : PlacesValue) (silo : Silo) (list : List ℕ) → IsPlaces places → places.hashing ≡ hashing

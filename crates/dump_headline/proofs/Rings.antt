@@ -1,6 +1,6 @@
 -- The ring of each node in a world's dump is that of the view that its silo has seen, sorted anew from the dump.
 use Rattle.std.proofs.Common.{◌≡◌, ℕ, List, [], ◌∷◌, ◌++◌, IsSome, refl, sym, ap, subst, ◌∙◌}
-use Rattle.std.specs.Prelude.{true, nat_le, is_some, cond, filter, flat_map, All, Option, Some, None}
+use Rattle.std.specs.Prelude.{true, not, nat_le, is_some, cond, filter, flat_map, All, Option, Some, None}
 use Rattle.std.specs.List.{cons_option}
 use Rattle.std.specs.Option.{option_map}
 use Rattle.std.specs.Map.{keys_of}
@@ -11,16 +11,16 @@ use Rattle.silo_address.proofs.Order.{silo_cmp_total, silo_cmp_exact}
 use Rattle.membership_view.specs.declared.row.Row.{Row}
 use Rattle.membership_view.specs.declared.status.Status.{Status}
 use Rattle.membership_view.specs.Row.{is_active, status_in}
-use Rattle.membership_view.specs.View.{active_silos}
+use Rattle.membership_view.specs.View.{active_silos, is_spare, listed_rows}
 use Rattle.membership_view.specs.Views.{rows_in, row_of, view_at}
-use Rattle.hash_ring.specs.Places.{PlacesValue, places_of, places_for}
+use Rattle.hash_ring.specs.Places.{PlacesValue, places_of, places_for, named_places}
 use Rattle.hash_ring.specs.Ring.{points_if, silo_points, sorted_points, sorted_ring}
 use Rattle.directory_rules.specs.State.{Node, World}
 use Rattle.directory_rules.specs.Happens.{node_of}
 use Rattle.directory_rules.proofs.Cases.{on_bool}
 use Rattle.directory_facts.proofs.Places.{added_row}
 use Rattle.directory_headline.proofs.Facts.{WorldFacts}
-use Rattle.dump_rules.specs.Dump.{named_places, dump_node, dump_of}
+use Rattle.dump_rules.specs.Dump.{dump_node, dump_of}
 use Rattle.dump_rules.specs.Verdict.{dump_places}
 use Rattle.dump_rules.specs.RightDump.{HasItsRing}
 use Rattle.dump_headline.proofs.Orders.{all_found}
@@ -81,10 +81,13 @@ module _ (hash : Grain → ℕ) (f : World) (facts : WorldFacts hash f) where
   agree : (version : ℕ) → All (Agree (dump_places (dump_of f)) f.places) (active_silos (view_at f.views version))
   agree version =
       let P = Agree (dump_places (dump_of f)) f.places in
-      on_bool (λ b. All P (keys_of (filter (λ row. is_active row.1) (cond b (rows_in version f.views.rows) []))))
+      on_bool (λ b. All P (keys_of (filter (λ row. is_active row.1) (cond b (listed_rows (rows_in version f.views.rows)) []))))
       (nat_le version f.views.version)
-      (λ t. active_so P (rows_in version f.views.rows) (rows_so P version f.views.rows
-      (all_found silo_cmp silo_cmp_total silo_cmp_exact (λ (e : Silo × Row). P e.0) f.views.rows facts.peopled.whole.in_order told)))
+      (λ t. active_so P (listed_rows (rows_in version f.views.rows))
+      (All-filter (λ (row : Silo × Status). not (is_spare (rows_in version f.views.rows) row.0 row.1)) (λ (e : Silo × Status). P e.0)
+      (rows_in version f.views.rows)
+      (rows_so P version f.views.rows
+      (all_found silo_cmp silo_cmp_total silo_cmp_exact (λ (e : Silo × Row). P e.0) f.views.rows facts.peopled.whole.in_order told))))
       (λ f. All-nil P)
 
   pub has_its_ring : (silo : Silo) (node : Node) → node_of f silo ≡ Some node → HasItsRing (dump_of f) (dump_node silo node)

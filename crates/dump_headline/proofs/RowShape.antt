@@ -1,55 +1,33 @@
 -- The rows of a world's dump have the shape that they must have.
-use Rattle.std.proofs.Common.{arith, ◌≡◌, ℕ, suc, ◌+◌, ◌<◌, ◌≤◌, List, [], ◌∷◌, IsSome, refl, sym, ap, subst}
-use Rattle.std.specs.Prelude.{◌^◌, true, if◌then◌else◌, is_some, length, All, Option, Some, None}
+use Rattle.std.proofs.Common.{arith, ◌≡◌, ℕ, ◌<◌, ◌≤◌, List, [], IsSome, refl, sym, subst}
+use Rattle.std.specs.Prelude.{◌^◌, true, is_some, length, All, Option, Some, None}
 use Rattle.std.specs.Option.{unwrap_or}
-use Rattle.std.specs.List.{slice_index_or}
-use Rattle.std.specs.Map.{values_of}
 use Rattle.std.proofs.lemmas.List.Elements.{All-nil, All-map}
-use Rattle.std.proofs.lemmas.List.Sums.{sum_by-le}
 use Rattle.silo_address.specs.Silo.{Silo, silo_cmp}
 use Rattle.silo_address.specs.Grain.{Grain}
 use Rattle.silo_address.proofs.Order.{silo_cmp_total, silo_cmp_exact}
 use Rattle.membership_view.specs.declared.row.Row.{Row}
 use Rattle.membership_view.specs.Views.{ViewsValue, row_of}
-use Rattle.membership_view.specs.Whole.{IsViews, IsInTime, changes_of}
+use Rattle.membership_view.specs.Whole.{IsViews, IsInTime}
+use Rattle.membership_view.proofs.Kept.{versions_fit}
 use Rattle.ring_range.specs.Range.{circle}
 use Rattle.hash_ring.specs.declared.hashing.Hashing.{Hashing}
 use Rattle.hash_ring.specs.declared.hashing.Hashing.TheVariants.{Sha256, Stated}
-use Rattle.hash_ring.specs.Places.{PlacesValue, IsPlaces, places_of, is_added}
+use Rattle.hash_ring.specs.Places.{PlacesValue, IsPlaces, places_of, is_added, named_places}
 use Rattle.directory_rules.specs.State.{World}
-use Rattle.directory_rules.proofs.Cases.{on_bool}
 use Rattle.directory_facts.proofs.Places.{added_row}
 use Rattle.directory_headline.proofs.Facts.{WorldFacts}
-use Rattle.dump_rules.specs.Dump.{dump_row, dump_of, named_places}
+use Rattle.dump_rules.specs.Dump.{dump_row, dump_of}
 use Rattle.dump_rules.specs.RightShape as right
 use Rattle.dump_headline.proofs.Orders.{all_found}
 
--- ---- versions: there are no more than three changes a row
-few_changes : (row : Row) → changes_of row ≤ 3
-few_changes row =
-    on_bool (λ b. 1 + (if b then 1 else 0) + (if is_some row.dead then 1 else 0) ≤ 3) (is_some row.left)
-    (λ t. on_bool (λ b. 1 + 1 + (if b then 1 else 0) ≤ 3) (is_some row.dead) (λ t. omega arith) (λ f. omega arith))
-    (λ f. on_bool (λ b. 1 + 0 + (if b then 1 else 0) ≤ 3) (is_some row.dead) (λ t. omega arith) (λ f. omega arith))
+-- ---- versions
+pub few_versions : (views : ViewsValue) → IsViews views → views.version < 2 ^ 64
+few_versions views is = let fits = versions_fit views is in omega (arith, fits)
 
-as_many : (rows : List (Silo × Row)) → length (values_of rows) ≡ length rows
-as_many [] = refl
-as_many (e ∷ es) = ap suc (as_many es)
-
-pub few_versions : (views : ViewsValue) → IsViews views → views.version ≤ 196608
-few_versions views is =
-    let sum = sum_by-le changes_of 3 (values_of views.rows) (λ k d below. few_changes (slice_index_or (values_of views.rows) k d)) in
-    let many = as_many views.rows in
-    let counted = is.counted in
-    let within = is.within_limit in
-    let limit = is.limit_below in
-    omega (arith, sum, many, counted, within, limit)
-
-pub small : (version : ℕ) → version ≤ 196608 → version < 2 ^ 64
-small version few = omega (arith, few)
-
-made_or_never : (made : Option ℕ) (version : ℕ) → version ≤ 196608 → ((m : ℕ) → made ≡ Some m → m ≤ version) → unwrap_or made 0 < 2 ^ 64
-made_or_never None version few by = small 0 (omega arith)
-made_or_never (Some m) version few by = small m (let upto = by m refl in omega (arith, upto, few))
+made_or_never : (made : Option ℕ) (version : ℕ) → version < 2 ^ 64 → ((m : ℕ) → made ≡ Some m → m ≤ version) → unwrap_or made 0 < 2 ^ 64
+made_or_never None version few by = omega (arith, few)
+made_or_never (Some m) version few by = let upto = by m refl in omega (arith, upto, few)
 
 -- ---- places
 named_many : (hashing : Hashing) (places : PlacesValue) (silo : Silo) → IsPlaces places → is_added places silo ≡ true
@@ -73,15 +51,15 @@ named_hashes Stated places silo is = by (places_of places silo) refl
 
 -- ---- rows
 module _ (hash : Grain → ℕ) (f : World) (facts : WorldFacts hash f) where
-  few : f.views.version ≤ 196608
+  few : f.views.version < 2 ^ 64
   few = few_versions f.views facts.peopled.whole
 
   row_numbers : (silo : Silo) (row : Row) → row_of f.views silo ≡ Some row → right.HasRowNumbers (dump_row f.places silo row)
   row_numbers silo row found =
-      let is : IsInTime f.views.version row = facts.peopled.whole.in_time silo row found in
+      let is : IsInTime f.views.first f.views.version row = facts.peopled.whole.in_time silo row found in
       record {
         dead = made_or_never row.dead f.views.version few (λ m at. (is.dead_after m at).1);
-        joined = small row.joined (let upto = is.joined_by in let most = few in omega (arith, upto, most));
+        joined = let upto = is.joined_by in let most = few in omega (arith, upto, most);
         left = made_or_never row.left f.views.version few (λ m at. (is.left_after m at).1);
         places = named_hashes f.places.hashing f.places silo facts.places;
       }
@@ -96,7 +74,7 @@ module _ (hash : Grain → ℕ) (f : World) (facts : WorldFacts hash f) where
   row_is : (silo : Silo) (row : Row) → row_of f.views silo ≡ Some row → right.IsRowOf (dump_of f) (dump_row f.places silo row)
   unfolding dump_of
   row_is silo row found =
-      let is : IsInTime f.views.version row = facts.peopled.whole.in_time silo row found in
+      let is : IsInTime f.views.first f.views.version row = facts.peopled.whole.in_time silo row found in
       record {
         joined = is.joined_above;
         made = is.joined_by;

@@ -15,7 +15,7 @@ use Rattle.ring_range.specs.Text.{range_text}
 use Rattle.hash_ring.specs.declared.hashing.Hashing.{Hashing}
 use Rattle.hash_ring.specs.declared.hashing.Hashing.TheVariants.{Sha256, Stated}
 use Rattle.hash_ring.specs.declared.point.Point.{Point}
-use Rattle.hash_ring.specs.Places.{PlacesValue, places_of}
+use Rattle.hash_ring.specs.Places.{PlacesValue, named_places}
 use Rattle.directory_rules.specs.declared.held.Held.{Held}
 use Rattle.directory_rules.specs.declared.held.Phase.{Phase}
 use Rattle.directory_rules.specs.declared.held.Phase.TheVariants as phase
@@ -122,11 +122,6 @@ dump_node silo node = record {
   seen = node.view.version;
   silo = silo;
 }
-
--- the places named at a silo's join: where places are hashed none is named
-abbrev pub named_places : Hashing → PlacesValue → Silo → List ℕ
-named_places Sha256 places silo = []
-named_places Stated places silo = unwrap_or (places_of places silo) []
 
 -- a silo's row
 abbrev pub dump_row : PlacesValue → Silo → Row → DumpRow

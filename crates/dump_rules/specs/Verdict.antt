@@ -12,7 +12,7 @@ use Rattle.silo_address.specs.Grain.{Grain, grain_cmp, grain_eq, grain_text}
 use Rattle.silo_address.specs.declared.Entry.{Entry}
 use Rattle.silo_address.specs.Activation.{entry_eq}
 use Rattle.membership_view.specs.declared.row.Row.{Row}
-use Rattle.membership_view.specs.View.{ViewValue}
+use Rattle.membership_view.specs.View.{ViewValue, listed_rows}
 use Rattle.membership_view.specs.Views.{rows_in}
 use Rattle.ring_range.specs.Range.{IsRange, EachHash, holds, ahead}
 use Rattle.hash_ring.specs.Hash.{hash_grain}
@@ -47,7 +47,7 @@ row_in_dump row = (row.silo, record { joined = row.joined; left = unless_never r
 
 -- the view of a version
 abbrev pub dump_view : DumpValue → ℕ → ViewValue
-dump_view dump version = record { version = version; rows = rows_in version (map row_in_dump dump.rows) }
+dump_view dump version = record { version = version; rows = listed_rows (rows_in version (map row_in_dump dump.rows)) }
 
 -- each silo's places
 abbrev pub dump_places : DumpValue → PlacesValue

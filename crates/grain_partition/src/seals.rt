@@ -7,6 +7,7 @@ use crate::Piece;
 use crate::kept_pieces::are_tidy;
 use crate::listed::listed;
 use crate::settled::are_settled;
+use grain_table::short_entries;
 use hash_ring::Hashing;
 use membership_view::View;
 use range_moves::RingArc;
@@ -16,7 +17,8 @@ use std::alloc::{AllocError, Global};
 use std::collections::BTreeMap;
 
 /// The snapshots of the arcs that are handed over at the sight of the view, in the order of the arcs. Where each piece has just
-/// entries of its own range, costs the pieces that these arcs meet. Fails only when memory runs out.
+/// entries of its own range, costs the pieces that these arcs meet. Each arc's entries are listed whole to be sorted, one arc after the
+/// other, and then kept short. Fails only when memory runs out.
 pub(crate) fn sealed(
     alloc: Global,
     pieces: &BTreeMap<u32, Piece>,
@@ -35,6 +37,7 @@ pub(crate) fn sealed(
             continue;
         };
         let entries = listed(alloc, pieces, tidy, hashing, view, &arc.range)?;
+        let entries = short_entries(alloc, &entries)?;
         snapshots.push(Snapshot::seal(view.version(), arc.range, *silo, to, entries))?;
     }
     Ok(snapshots)

@@ -46,7 +46,7 @@ module _ {K X : Type 0} (p : K × X → Bool) where
       by true rest = (all.0, rest)
       by false rest = rest
 
-  sorted_passed : (R : K → K → Ordering) (es : List (K × X)) → IsStrictlySortedBy R (keys_of es)
+  pub sorted_passed : (R : K → K → Ordering) (es : List (K × X)) → IsStrictlySortedBy R (keys_of es)
       → IsStrictlySortedBy R (keys_of (filter p es))
   unfolding IsStrictlySortedBy
   sorted_passed R [] s = tt

@@ -1,19 +1,13 @@
--- Two maps have the same under the same keys just where their keys' bytes and their values agree; and two tables that hash in one way
--- have the same entries just where they keep the same.
-use Rattle.std.proofs.Common.{◌≡◌, ◌==◌, ◌&&◌, refl, sym, ap, ◌∙◌, subst, ℕ, List, [], ◌∷◌}
+-- Two tables that hash in one way have the same entries just where they keep the same.
+use Rattle.std.proofs.Common.{◌≡◌, ◌==◌, refl, sym, ap, ◌∙◌, subst, [], ◌∷◌}
 use Rattle.std.specs.Prelude.{Bool, true, false, cond, Option, Some, None}
 use Rattle.std.specs.Bool.{Decides}
 use Rattle.std.specs.BTreeMap.{is_at}
-use Rattle.std.specs.Cmp.Lexicographic.{pointwise}
 use Rattle.std.specs.List.{AllByRecursion}
 use Rattle.std.specs.Map.{keys_of, lookup}
 use Rattle.std.specs.Option.{option_map}
-use Rattle.std.specs.Str.{bytes_eq}
-use Rattle.std.proofs.lemmas.Bool.Decides.{Decides-and, Decides-eqb, Decides-like}
-use Rattle.std.proofs.lemmas.Cmp.{tied_itself}
-use Rattle.std.proofs.lemmas.Map.Lookups.{exact_bytes}
+use Rattle.std.proofs.lemmas.Bool.Decides.{Decides-eqb}
 use Rattle.std.proofs.lemmas.Option.{same_Some}
-use Rattle.std.proofs.lemmas.Slice.Eq.{bytes_eq-Decides}
 use Rattle.texts.proofs.Orderings.{Equal-from}
 use Rattle.silo_address.specs.Grain.{Grain}
 use Rattle.silo_address.specs.declared.ActivationId.{ActivationId}
@@ -24,38 +18,8 @@ use Rattle.membership_view.proofs.Found.{same_entries}
 use Rattle.directory_rules.specs.Table.{entry_at}
 use Rattle.grain_table.specs.declared.hashed_grain.HashedGrain.{HashedGrain}
 use Rattle.grain_table.specs.Hashed.{AreHashed, Hashed, IsKeyOf, by_grain, hashed_cmp, key_of}
-use Rattle.grain_table.specs.KeyBytes.{AreKeyBytes, IsKeyBytes, hashed_in, key_in}
 use Rattle.grain_table.proofs.ByGrain.{entry_of, found_by_grain}
-use Rattle.grain_table.proofs.KeyOrder.{keys_order}
 use Rattle.grain_table.proofs.Order.{hashed_cmp_exact, hashed_cmp_total}
-
--- no two bytes of keys are read as one key
-told_apart : (x y : List ℕ) → IsKeyBytes x → IsKeyBytes y → key_in x ≡ key_in y → x ≡ y
-told_apart x y is its same =
-    exact_bytes x y (keys_order x y is its ∙ ap (λ k. hashed_cmp (key_in x) k) (sym same) ∙ tied_itself hashed_cmp_total (key_in x))
-
-module _ {K V : Type 0} (bytes : K → List ℕ) (E : V → V → Bool) (decides : (a b : V) → Decides (E a b) (a ≡ b)) where
-  -- whether two entries agree
-  abbrev agree : K × V → K × V → Bool
-  agree p q = bytes_eq (bytes p.0) (bytes q.0) && E p.1 q.1
-
-  abbrev read : K × V → HashedGrain × V
-  read p = (key_in (bytes p.0), p.1)
-
-  Decides-read : (p q : K × V) → IsKeyBytes (bytes p.0) → IsKeyBytes (bytes q.0) → Decides (agree p q) (read p ≡ read q)
-  Decides-read p q is its =
-      Decides-like _ (λ both i. (key_in (both.0 i), both.1 i))
-      (λ same. (told_apart (bytes p.0) (bytes q.0) is its (ap (λ (r : HashedGrain × V). r.0) same), ap (λ (r : HashedGrain × V). r.1) same))
-      (Decides-and _ _ (bytes_eq-Decides (bytes p.0) (bytes q.0)) (decides p.1 q.1))
-
-  pub Decides-maps : (es fs : List (K × V)) → AreKeyBytes bytes es → AreKeyBytes bytes fs
-      → Decides (pointwise agree es fs) (hashed_in bytes es ≡ hashed_in bytes fs)
-  Decides-maps [] [] are also = (λ h. refl, λ h. refl)
-  Decides-maps [] (f ∷ fs) are also = (λ h. cc, λ h. cc)
-  Decides-maps (e ∷ es) [] are also = (λ h. cc, λ h. cc)
-  Decides-maps (e ∷ es) (f ∷ fs) are also =
-      Decides-like _ (λ both i. both.0 i ∷ both.1 i) (λ same. (cc, cc))
-      (Decides-and _ _ (Decides-read e f are.0 also.0) (Decides-maps es fs are.1 also.1))
 
 module _ (hashing : Hashing) where
   -- under another hash than its own no grain is found

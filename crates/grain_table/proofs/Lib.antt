@@ -6,7 +6,6 @@ pub mod Counted
 pub mod Registers
 pub mod Put
 pub mod Filters
-pub mod Stretches
 pub mod Ranges
 pub mod Same
 pub mod Within
@@ -15,8 +14,14 @@ pub mod Ends
 pub mod OnSilos
 pub mod Sorted
 pub mod Listed
-pub mod Joined
-pub mod KeyOrder
-pub mod KeysRead
-pub mod KeyEnds
 pub mod KeysSame
+pub mod Slots
+pub mod InOrder
+pub mod Cuts
+pub mod Joined
+pub mod AcrossBuckets
+pub mod StillCut
+pub mod PutIn
+pub mod TakenOut
+pub mod Stretches
+pub mod Searched

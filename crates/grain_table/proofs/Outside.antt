@@ -9,7 +9,6 @@ use Rattle.std.specs.Ordering.{is_eq, match_ordering}
 use Rattle.std.specs.declared.cmp.Ordering.{Ordering}
 use Rattle.std.specs.declared.cmp.Ordering.TheVariants.{Less, Equal, Greater}
 use Rattle.silo_address.specs.Grain.{Grain, grain_cmp}
-use Rattle.silo_address.specs.declared.ActivationId.{ActivationId}
 use Rattle.silo_address.specs.declared.Entry.{Entry}
 use Rattle.texts.proofs.Decided.{both}
 use Rattle.ring_range.specs.Range.{Range, IsRange, circle, holds}
@@ -17,12 +16,10 @@ use Rattle.hash_ring.specs.declared.Hashing.{Hashing}
 use Rattle.hash_ring.specs.Hash.{hash_grain}
 use Rattle.directory_rules.specs.State.{Table}
 use Rattle.directory_rules.specs.Table.{entries_of, entry_at, lie_in}
-use Rattle.grain_table.specs.declared.hashed_grain.HashedGrain.{HashedGrain}
 use Rattle.grain_table.specs.Hashed.{AreHashed, Hashed, by_grain, entry_under}
 use Rattle.grain_table.specs.Stretch.{is_between}
 use Rattle.grain_table.proofs.Count.{are_behind, none_behind}
 use Rattle.hash_ring.proofs.HashesBelow.{grain_below}
-use Rattle.grain_table.proofs.Ranges.{passed}
 
 -- ---- What all entries pass.
 swap : (a b c : Bool) → (a && (b && c)) ≡ (b && (a && c))
@@ -91,12 +88,6 @@ module _ {X : Type 0} (p : X → Bool) where
           → (not b && list_all (λ x. not (p x)) xs) ≡ false
       by true some rest = refl
       by false some rest = rest some
-
-pub none_there : (hashing : Hashing) (first end : ℕ) (es : Hashed) → AreHashed hashing es → passed (is_between first end) es ≡ []
-    → list_all (λ e. not (is_between first end (hash_grain hashing e.grain))) (entries_of (by_grain es)) ≡ true
-none_there hashing first end es are none =
-    each_by_grain hashing (λ h. not (is_between first end h)) es are
-    ∙ none_passes (λ (e : HashedGrain × ActivationId). is_between first end e.0.hash) es none
 
 -- ---- What stands outside a range.
 all_true : (p : Entry → Bool) → ((e : Entry) → p e ≡ true) → (entries : List Entry) → list_all p entries ≡ true

@@ -1,4 +1,4 @@
 pub mod Table
 pub mod Hashed
-pub mod KeyBytes
+pub mod Buckets
 pub mod Stretch

@@ -1,4 +1,4 @@
-ghost use Rattle.std.specs.Prelude.{◌≡◌};
+ghost use Rattle.std.specs.Prelude.{◌≡◌, ◌↔◌, IsTrue};
 ghost use Rattle.grain_table.specs.Hashed.{IsKeyOf, key_of};
 
 use hash_ring::Hashing;
@@ -20,5 +20,17 @@ pub(crate) fn key_of(hashing: Hashing, grain: &GrainId) -> HashedGrain
     HashedGrain {
         hash: hashing.hash_grain(grain),
         grain: *grain,
+    }
+}
+
+impl HashedGrain {
+    /// Whether both are the same grain, with the same hash.
+    pub(crate) fn same(&self, other: &HashedGrain) -> bool
+        ensures { IsTrue result ↔ (self.now ≡ other.now) }
+    {
+        if self.hash != other.hash {
+            return false;
+        }
+        self.grain.same(&other.grain)
     }
 }

@@ -23,7 +23,7 @@ use std::alloc::{AllocError, Global};
 use std::collections::BTreeSet;
 use std::marker::Model;
 
-/// Entries, one a grain. They are kept in order of their grains' hashes, so that a search mostly compares these and a range of
+/// Entries, one a grain. They are kept in buckets by their grains' hashes, so that a search mostly compares these and a range of
 /// hashes stands together, and each grain is there once, as short as its name is: an `Entry` is put together where it is handed
 /// out. Beside them stand the silos that they may be on, few of them, so that who asks for the entries of a dead silo mostly
 /// looks at no entry (`docs/RULES.md#pieces`).

@@ -13,7 +13,7 @@ use Rattle.silo_address.specs.Silo.{Silo, silo_cmp}
 use Rattle.silo_address.proofs.Order.{silo_cmp_total, silo_cmp_exact}
 use Rattle.membership_view.specs.declared.Status.{Status}
 use Rattle.membership_view.specs.Row.{is_active}
-use Rattle.membership_view.specs.View.{ViewValue, IsByAddress, active_silos}
+use Rattle.membership_view.specs.View.{ViewValue, IsByAddress, active_silos, is_outlived, or_outlived}
 use Rattle.hash_ring.specs.declared.point.Point.{Point}
 use Rattle.hash_ring.specs.Point.{point_cmp}
 use Rattle.hash_ring.specs.Places.{PlacesValue, is_added, places_of}
@@ -70,11 +70,21 @@ by_look_up (e ∷ es) silo active = by (is_active e.1) refl (is_eq (silo_cmp sil
     by false is true at again active = let no : false ≡ true = sym is ∙ active in cc
     by false is false at again active = again active
 
+-- who isn't listed isn't Active, whether a newer silo of its endpoint is or not
+active_listed : (o : Option Status) (outlived : Bool)
+    → option_map_or (λ status. is_active status) (or_outlived o outlived) false ≡ option_map_or (λ status. is_active status) o false
+active_listed None true = refl
+active_listed None false = refl
+active_listed (Some status) outlived = refl
+
 pub active_in : (view : ViewValue) → IsByAddress view → (silo : Silo) → In silo (active_silos view) → is_active_in view silo ≡ true
-active_in view by_address silo there = looked_up view.rows (Rising-from_sorted silo_cmp (keys_of view.rows) by_address) silo there
+active_in view by_address silo there =
+    active_listed (lookup (is_at (silo_cmp silo)) view.rows) (is_outlived silo view.rows)
+    ∙ looked_up view.rows (Rising-from_sorted silo_cmp (keys_of view.rows) by_address) silo there
 
 pub In-active : (view : ViewValue) (silo : Silo) → is_active_in view silo ≡ true → In silo (active_silos view)
-In-active view silo active = by_look_up view.rows silo active
+In-active view silo active =
+    by_look_up view.rows silo (sym (active_listed (lookup (is_at (silo_cmp silo)) view.rows) (is_outlived silo view.rows)) ∙ active)
 
 -- ---- the change
 abbrev pub changed_points : RingValue → ViewValue → PlacesValue → List Point

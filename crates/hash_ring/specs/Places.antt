@@ -1,5 +1,6 @@
--- The places of every silo's points, which a silo gets when it joins and keeps for good.
-use Rattle.std.specs.Prelude.{◌≡◌, ℕ, ◌<◌, ◌≤◌, ◌==◌, not, nat_lt, nat_le, if◌then◌else◌, Bool, true, List, length, All, Option, Some, is_some, Result, Ok, Err}
+-- The places of the silos' points, which a silo gets when it is added and keeps.
+use Rattle.std.specs.Prelude.{◌≡◌, ℕ, ◌<◌, ◌≤◌, ◌==◌, not, nat_lt, nat_le, if◌then◌else◌, Bool, true, List, [], length, All, Option, Some, is_some, Result, Ok, Err}
+use Rattle.std.specs.Option.{unwrap_or}
 use Rattle.std.specs.List.Sorted.{IsStrictlySortedBy}
 use Rattle.std.specs.Map.{lookup, keys_of}
 use Rattle.std.specs.BTreeMap.{is_at, insert_entry}
@@ -26,6 +27,11 @@ places_of places silo = lookup (is_at (silo_cmp silo)) places.entries
 -- whether a silo was added
 abbrev pub is_added : PlacesValue → Silo → Bool
 is_added places silo = is_some (places_of places silo)
+
+-- the places named when a silo was added: where places are hashed none is named
+abbrev pub named_places : Hashing → PlacesValue → Silo → List ℕ
+named_places Sha256 places silo = []
+named_places Stated places silo = unwrap_or (places_of places silo) []
 
 -- whether a silo may be given so many places: under Sha256 none, since they are hashed
 abbrev pub is_point_count : Hashing → ℕ → Bool

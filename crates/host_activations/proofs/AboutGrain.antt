@@ -1,5 +1,5 @@
 -- The requests about a grain: its finds stand together, and the one of its activation comes among them.
-use Rattle.std.proofs.Common.{◌≡◌, refl, sym, ap, subst, ◌∙◌, ℕ, suc, ◌+◌, ◌<◌, ◌≤◌, ◌^◌, List, [], ◌∷◌, length, map, filter, slice_get, cond, Bool, true, false, not, ◌&&◌, Option, Some, None, is_some, option_and_then, arith}
+use Rattle.std.proofs.Common.{◌≡◌, refl, sym, ap, subst, ◌∙◌, ℕ, suc, ◌+◌, ◌<◌, ◌^◌, List, [], ◌∷◌, length, map, filter, slice_get, cond, Bool, true, false, not, ◌&&◌, Option, Some, None, is_some, option_and_then, arith}
 use Rattle.std.specs.List.{AllByRecursion, cons_option, filter_map}
 use Rattle.std.specs.List.Sorted.{IsStrictlySortedBy}
 use Rattle.std.specs.Map.{keys_of, lookup}

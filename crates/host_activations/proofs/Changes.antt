@@ -22,7 +22,7 @@ use Rattle.host_activations.specs.Activations.{ActivationsValue}
 use Rattle.host_activations.specs.Begun.{AreApart, AreBegun}
 use Rattle.host_activations.specs.InOrder.{in_order, placed}
 use Rattle.host_activations.proofs.Grains.{IsFoundIn, all_map, by_order, each_found, either, either_none, grain_at_itself, lookup_append, not_at, not_equal, on_grain, other_grain, same_test, tests_alike}
-use Rattle.host_activations.proofs.FirmCounts.{gone_behind}
+use Rattle.host_activations.proofs.Passing.{gone_behind}
 use Rattle.host_activations.proofs.Rows.{HasCount, IsRow, all_spread, placed_last, row_removed, row_set}
 use Rattle.host_activations.proofs.Unique.{row_distinct, unique}
 use Rattle.host_activations.proofs.Ordered.{lookup_in_order, row_in_order}

@@ -1,7 +1,6 @@
 -- The finds stand under their grains again where a request comes or goes.
-use Rattle.std.proofs.Common.{◌≡◌, refl, sym, ap, subst, ◌∙◌, ℕ, ◌+◌, ◌<◌, ◌^◌, List, [], length, cond, Bool, true, false, Option, Some, None, is_some, option_and_then, arith}
+use Rattle.std.proofs.Common.{◌≡◌, refl, sym, ap, subst, ◌∙◌, ℕ, ◌<◌, ◌^◌, List, [], length, cond, Bool, true, false, Option, Some, None, is_some, option_and_then, arith}
 use Rattle.std.specs.Prelude.{MatchOption}
-use Rattle.std.specs.List.Sorted.{IsStrictlySortedBy}
 use Rattle.std.specs.Map.{keys_of, lookup, remove_entry}
 use Rattle.std.specs.BTreeMap.{is_at, insert_entry}
 use Rattle.std.specs.Cmp.{IsTotalOrder}
@@ -18,12 +17,12 @@ use Rattle.silo_address.proofs.Same.{Decides-grain}
 use Rattle.host_activations.specs.declared.asked.OutstandingRequest.{OutstandingRequest}
 use Rattle.host_activations.specs.declared.asked.OutstandingRequest.TheVariants.{Activation, Find}
 use Rattle.host_activations.specs.declared.outstanding.by_grain.FindKey.{FindKey}
-use Rattle.host_activations.specs.Asked.{asked_under, find_in, finds_in}
+use Rattle.host_activations.specs.Asked.{asked_under, find_in}
 use Rattle.host_activations.specs.Outstanding.{AreIndexed, find_key_cmp, is_find_of}
 use Rattle.host_activations.proofs.Agreement.{asked_put, asked_taken}
 use Rattle.host_activations.proofs.Entries.{length-remove_entry}
 use Rattle.host_activations.proofs.Finds.{find_less, find_more, finds_kept, finds_stay}
-use Rattle.host_activations.proofs.Grains.{on_test, same_test}
+use Rattle.host_activations.proofs.Grains.{on_test}
 use Rattle.host_activations.proofs.Numbers.{on_number}
 
 -- ---- The order of finds.

@@ -33,7 +33,12 @@ pub mod ByCount
 pub mod Indexed
 pub mod Hashes
 pub mod SameHeld
+pub mod Passing
 pub mod Tables
-pub mod FirmCounts
-pub mod ByGrain
+pub mod AsTheyStand
+pub mod Pages
+pub mod Behind
+pub mod Circles
 pub mod Listed
+pub mod FirstByHash
+pub mod Stretches

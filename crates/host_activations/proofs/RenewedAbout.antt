@@ -1,22 +1,19 @@
 -- After a renewal about one grain the new fields keep what every host keeps, and mean the rule's host.
-use Rattle.std.proofs.Common.{arith, ◌≡◌, refl, sym, ap, subst, ◌∙◌, ℕ, List, [], ◌∷◌, ◌++◌, ◌+◌, ◌^◌, ◌≤◌, ◌<◌, cond, Bool, true, false, not, filter, length, map, Option, Some, None, is_some, option_and_then}
+use Rattle.std.proofs.Common.{arith, ◌≡◌, refl, sym, ap, subst, ◌∙◌, ℕ, List, [], ◌∷◌, ◌++◌, ◌+◌, ◌^◌, ◌≤◌, cond, Bool, true, false, not, filter, length, map, Option, Some, None, is_some, option_and_then}
 use Rattle.std.specs.Prelude.{count_by, nat_lt}
 use Rattle.std.specs.List.{AllByRecursion, IsDistinct, cons_option, enumerate_from, filter_map}
 use Rattle.std.specs.List.Sorted.{IsStrictlySortedBy}
 use Rattle.std.specs.Option.{option_map}
 use Rattle.std.specs.Ordering.{nat_cmp}
-use Rattle.std.specs.declared.cmp.Ordering.TheVariants.{Less}
 use Rattle.std.specs.Map.{lookup, keys_of, values_of}
 use Rattle.std.specs.BTreeMap.{is_at}
 use Rattle.std.proofs.lemmas.Cmp.{nat_cmp_total}
 use Rattle.std.proofs.lemmas.List.Elements.{filter_map-append}
 use Rattle.std.proofs.lemmas.Map.Entries.{length-keys_of}
-use Rattle.std.proofs.lemmas.Map.Lookups.{exact_unsigned}
 use Rattle.std.proofs.lemmas.Option.{same_Some}
-use Rattle.membership_view.proofs.Found.{all_from_found, same_entries}
+use Rattle.membership_view.proofs.Found.{all_from_found}
 use Rattle.silo_address.specs.Silo.{Silo}
 use Rattle.silo_address.specs.Grain.{Grain, grain_cmp, grain_eq}
-use Rattle.silo_address.proofs.Order.{grain_cmp_exact}
 use Rattle.silo_address.proofs.Same.{Decides-grain}
 use Rattle.directory_rules.specs.declared.Act.{Act}
 use Rattle.directory_rules.specs.declared.Act.TheVariants as act
@@ -25,7 +22,6 @@ use Rattle.directory_rules.specs.declared.Phase.{Phase}
 use Rattle.directory_rules.specs.declared.Phase.TheVariants.{Asking, Firm, Closing}
 use Rattle.directory_rules.specs.State.{Host}
 use Rattle.directory_rules.specs.Host.{act_in, grain_of, held_renewed_about, new_host, new_number_about, outstanding, phase_renewed_about, renewed_about, requests_about}
-use Rattle.texts.proofs.Orderings.{Equal-from}
 use Rattle.host_activations.specs.declared.asked.OutstandingRequest.{OutstandingRequest}
 use Rattle.host_activations.specs.declared.asked.OutstandingRequest.TheVariants.{Activation, Find}
 use Rattle.host_activations.specs.declared.host.Host.TheInside.{Inside}
@@ -43,11 +39,11 @@ use Rattle.host_activations.proofs.Agreement.{nothing}
 use Rattle.host_activations.proofs.AskedAgain.{each_asked}
 use Rattle.host_activations.proofs.Fields.{made, meant}
 use Rattle.host_activations.proofs.Found.{IsFoundIn, all_map, each_found}
-use Rattle.host_activations.proofs.Grains.{either, lookup_append, on_grain, on_test}
+use Rattle.host_activations.proofs.Grains.{either, on_grain, on_test}
 use Rattle.host_activations.proofs.NewNumbers.{after, after_asking, after_resting, each_after, untouched}
 use Rattle.host_activations.proofs.OutstandingActs.{acts_are, some_act}
 use Rattle.host_activations.proofs.PutAll.{keys-picked}
-use Rattle.host_activations.proofs.Ranks.{Ranks, all_from, below, finds-enumerate_from, rank_back, rank_found, ranks_from, sorted-enumerate_from}
+use Rattle.host_activations.proofs.Ranks.{Ranks, below, finds-enumerate_from, rank_back, rank_found, ranks_from}
 use Rattle.host_activations.proofs.Renewals.{all_high, below_keys, map_same, of_grain}
 
 -- ---- Acts about a grain.

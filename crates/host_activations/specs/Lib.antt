@@ -14,3 +14,5 @@ pub mod Kept
 pub mod KeptFields
 pub mod Stretch
 pub mod Firm
+pub mod Listing
+pub mod Page

@@ -12,17 +12,17 @@ ghost use Rattle.hash_ring.specs.Hash.{hash_grain};
 ghost use Rattle.host_activations.specs.ByHash.{AreByHash, hashed_count_cmp, hashes_of, key_of};
 ghost use Rattle.host_activations.specs.UnderWay.{in_phase, one_if_some};
 
-mod firm;
 mod order;
+mod page;
 mod same;
 
 use crate::by_hash::{ByHash, HashedCount};
 use crate::kept::{Kept, held_at, held_of};
 use crate::under_way::UnderWay;
 use directory_rules::{Held, Phase, Settings};
-pub use firm::entry_on;
 use grain_names::GrainMap;
 use hash_ring::Hashing;
+pub use page::{FirmPage, PageAsked, entry_on};
 use silo_address::{ActivationId, GrainId};
 use std::alloc::{AllocError, Global};
 use std::collections::BTreeMap;

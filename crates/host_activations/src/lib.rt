@@ -8,7 +8,9 @@ mod by_hash;
 mod host;
 mod kept;
 mod outstanding;
+mod standing;
 mod under_way;
 
-pub use activations::{Activations, entry_on};
+pub use activations::{Activations, FirmPage, PageAsked, entry_on};
 pub use host::{Host, Renewal};
+pub use standing::stands_behind;

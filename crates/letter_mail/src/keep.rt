@@ -104,7 +104,7 @@ fn tells(body: &Body) -> Option<Says>
         }
         Body::Missing(range) => Some(Says::Missing(span(range)?)),
         Body::Done(range) => Some(Says::Done(span(range)?)),
-        Body::Query(range) => Some(Says::Query(span(range)?)),
+        Body::Query { range, after: None } => Some(Says::Query(span(range)?)),
         Body::Behind(range) => Some(Says::Behind(span(range)?)),
         Body::Ahead(range) => Some(Says::Ahead(span(range)?)),
         _ => None,

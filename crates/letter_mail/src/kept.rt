@@ -1,6 +1,6 @@
 ghost use Rattle.std.specs.Prelude.{◌≡◌, ◌<◌, None, length};
 ghost use Rattle.std.specs.Map.{keys_of};
-ghost use Rattle.directory_rules.specs.State.{Ask_letter, Offer_letter, Reply_letter};
+ghost use Rattle.directory_rules.specs.State.{Ask_letter, Offer_letter, Query_letter, Reply_letter};
 ghost use Rattle.directory_letters.specs.LetterModel.{body_of};
 ghost use Rattle.letter_mail.specs.Kept.{IsNumbered, entry_by, grain_at, letter_by, range_by, request_by, said_by};
 
@@ -88,6 +88,7 @@ pub(crate) enum Says {
     },
     Missing(Span),
     Done(Span),
+    // From the start of the range on; one behind a grain is kept whole.
     Query(Span),
     Behind(Span),
     Ahead(Span),
@@ -146,10 +147,20 @@ fn body_by(grains: &GrainMap<()>, brief: &Brief) -> Body
         Says::Ask { span, page } => ask(span, page),
         Says::Missing(span) => Body::Missing(range_by(span)),
         Says::Done(span) => Body::Done(range_by(span)),
-        Says::Query(span) => Body::Query(range_by(span)),
+        Says::Query(span) => query(span),
         Says::Behind(span) => Body::Behind(range_by(span)),
         Says::Ahead(span) => Body::Ahead(range_by(span)),
         Says::Offer(entry) => offer(grains, entry),
+    }
+}
+
+// A query from the start of the range on.
+fn query(span: Span) -> Body
+    ensures { body_of result ≡ Query_letter (range_by span) None }
+{
+    Body::Query {
+        range: range_by(span),
+        after: None,
     }
 }
 

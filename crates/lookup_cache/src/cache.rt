@@ -4,7 +4,7 @@ ghost use Rattle.lookup_cache.specs.Capacity.{IsCache, IsCapacity};
 ghost use Rattle.lookup_cache.specs.Used.{used};
 
 use crate::CacheError;
-use crate::hints::{copy_of, drop_dead, has_dead, same_hints, use_hint};
+use crate::hints::{copy_of, drop_dead, same_hints, use_hint};
 use lru::LruCache;
 use membership_view::View;
 use silo_address::{ActivationId, Entry, GrainId};
@@ -113,13 +113,10 @@ impl Cache {
         }
     }
 
-    /// Drops the hints at silos that are Dead in the view, in one pass, and in none where no silo is.
+    /// Drops the hints at silos that are Dead in the view, in one pass.
     pub fn see(&mut self, view: &View)
         ensures { self.new ≡ cache_seeing view.now self.old }
     {
-        if !has_dead(view) {
-            return;
-        }
         drop_dead(&mut self.hints, view);
     }
 

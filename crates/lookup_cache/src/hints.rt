@@ -1,4 +1,3 @@
-ghost use Rattle.std.specs.List.{list_any};
 ghost use Rattle.std.specs.Map.{lookup};
 ghost use Rattle.std.specs.Prelude.{◌≡◌, ◌↔◌, IsTrue, IfOk, is_some};
 ghost use Rattle.directory_rules.specs.Members.{is_dead_in, is_dead_status};
@@ -70,18 +69,6 @@ fn is_dead_in(view: &View, silo: &SiloAddress) -> bool
         Some(status) => is_dead(status),
         None => false,
     }
-}
-
-/// Whether a silo is Dead in the view.
-pub(crate) fn has_dead(view: &View) -> bool
-    ensures { result ≡ list_any (λ row. is_dead_status row.1) view.now.rows }
-{
-    for row in view.rows() {
-        if is_dead(row.1) {
-            return true;
-        }
-    }
-    false
 }
 
 fn is_dead(status: Status) -> bool

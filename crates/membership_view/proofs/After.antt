@@ -11,6 +11,7 @@ use Rattle.membership_view.specs.declared.row.Row.{Row}
 use Rattle.membership_view.specs.declared.status.Status.{Status}
 use Rattle.membership_view.specs.declared.status.Status.TheVariants.{Active}
 use Rattle.membership_view.specs.Row.{has_come, status_in, joining, dying}
+use Rattle.membership_view.specs.View.{listed_rows}
 use Rattle.membership_view.specs.Views.{ViewsValue, view_at, rows_in}
 use Rattle.membership_view.specs.Changes.{is_newest, occupant, changed, without, next_views, joined_rows}
 use Rattle.texts.proofs.Entries.{lookup-changed, lookup-insert_entry, lookup-picked, sorted-picked}
@@ -127,4 +128,5 @@ view_at-same views after version h same =
     let now : nat_le version (views.version + 1) ≡ true = le-leb version (views.version + 1) (omega arith) in
     let before : nat_le version views.version ≡ true = le-leb version views.version h in
     ap (λ rows. record { version = version; rows = rows })
-    (ap (λ b. if b then rows_in version after else []) now ∙ same ∙ sym (ap (λ b. if b then rows_in version views.rows else []) before))
+    (ap (λ b. if b then listed_rows (rows_in version after) else []) now ∙ ap (λ r. listed_rows r) same
+    ∙ sym (ap (λ b. if b then listed_rows (rows_in version views.rows) else []) before))

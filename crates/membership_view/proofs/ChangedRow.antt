@@ -43,20 +43,23 @@ found_changed change silo rows other after found =
     }
 
 -- a row that was in time is so later
-pub in_time_later : (m n : ℕ) (row : Row) → m ≤ n → IsInTime m row → IsInTime n row
+pub in_time_later : {first : ℕ} (m n : ℕ) (row : Row) → m ≤ n → IsInTime first m row → IsInTime first n row
 in_time_later m n row h in' = record {
   joined_above = in'.joined_above;
+  joined_from = in'.joined_from;
   joined_by = let k : row.joined ≤ m = in'.joined_by in omega arith;
   left_after = λ made is. let k = in'.left_after made is in (k.0, later made k.1);
   dead_after = λ made is. let k = in'.dead_after made is in (k.0, later made k.1);
+  left_later = in'.left_later;
+  dead_later = in'.dead_later;
 }
   where
     later : (made : ℕ) → made ≤ m → made ≤ n
     later made k = omega arith
 
 -- the change of one row keeps what all views keep, where it adds one change, and no more, in the next version
-pub record IsChange (version : ℕ) (change : Row → Row) (row : Row) : Type 0 where
-  pub in_time : IsInTime version (change row)
+pub record IsChange (first version : ℕ) (change : Row → Row) (row : Row) : Type 0 where
+  pub in_time : IsInTime first version (change row)
   pub joined : (change row).joined ≡ row.joined
   pub dead : (made : ℕ) → has_come row.dead made ≡ true → has_come (change row).dead made ≡ true
   pub counted : changes_of (change row) ≡ changes_of row + 1
@@ -78,10 +81,12 @@ sum-changed change silo rows row s found more =
     sum a b c d h k = omega arith
 
 pub whole-changed : (views : ViewsValue) → IsViews views → (silo : Silo) (row : Row) → row_of views silo ≡ Some row → (change : Row → Row)
-    → IsChange (views.version + 1) change row → IsViews (next_views views (changed change silo views.rows))
+    → IsChange views.first (views.version + 1) change row → IsViews (next_views views (changed change silo views.rows))
 whole-changed views whole silo row found change ok = record {
   limit_above = whole.limit_above;
   limit_below = whole.limit_below;
+  first_below = whole.first_below;
+  first_upto = let k : views.first ≤ views.version = whole.first_upto in omega arith;
   within_limit = subst (λ n. n ≤ views.limit) (sym (length-changed silo_cmp_total change silo views.rows)) whole.within_limit;
   in_order = subst (λ ks. IsStrictlySortedBy silo_cmp ks) (sym (keys-changed silo_cmp_total change silo views.rows)) whole.in_order;
   in_time = λ q after at. timely q after (found_changed change silo views.rows q after at);
@@ -90,17 +95,17 @@ whole-changed views whole silo row found change ok = record {
       (found_changed change silo views.rows b rb at_b);
   counted =
       let e = sum-changed change silo views.rows row whole.in_order found ok.counted in
-      let k : views.version ≤ sum_by changes_of (values_of views.rows) = whole.counted in
+      let k : views.version ≤ views.first + sum_by changes_of (values_of views.rows) = whole.counted in
       omega arith;
 }
   where
     its_row : (q : Silo) (x : Row) → silo ≡ q → found_row views.rows q ≡ Some x → x ≡ row
     its_row q x same at = same_Some x row (sym at ∙ ap (λ k. found_row views.rows k) (sym same) ∙ found)
 
-    timely : (q : Silo) (after : Row) → IsFoundChanged change silo views.rows q after → IsInTime (views.version + 1) after
+    timely : (q : Silo) (after : Row) → IsFoundChanged change silo views.rows q after → IsInTime views.first (views.version + 1) after
     timely q after f = elim f.is [
-      | inl e ↦ subst (λ x. IsInTime (views.version + 1) x) (sym (e.1 ∙ ap change (its_row q f.row e.0 f.found))) ok.in_time
-      | inr e ↦ subst (λ x. IsInTime (views.version + 1) x) (sym e.1)
+      | inl e ↦ subst (λ x. IsInTime views.first (views.version + 1) x) (sym (e.1 ∙ ap change (its_row q f.row e.0 f.found))) ok.in_time
+      | inr e ↦ subst (λ x. IsInTime views.first (views.version + 1) x) (sym e.1)
           (in_time_later views.version (views.version + 1) f.row (omega arith) (whole.in_time q f.row f.found))
     ]
 

@@ -1,7 +1,7 @@
 -- Entries in the order of their keys, where the order tells all keys apart: what a test of each entry, and a search among them, say
 -- of what is found.
-use Rattle.std.proofs.Common.{◌≡◌, List, [], ◌∷◌, cond, Bool, true, false, refl, sym, ◌∙◌, ap, find, Some, None}
-use Rattle.std.proofs.lemmas.Bool.{and_parts, and_from}
+use Rattle.std.proofs.Common.{◌≡◌, List, [], ◌∷◌, cond, Bool, true, false, ◌||◌, refl, sym, ◌∙◌, ap, find, Some, None}
+use Rattle.std.proofs.lemmas.Bool.{and_parts, and_from, or_left, or_right}
 use Rattle.std.proofs.lemmas.Cmp.{alike_right, tied_itself, eq_by_cmp_equiv}
 use Rattle.std.proofs.lemmas.Map.Keys.{sorted_head, sorted_tail, IsDistinct-from_sorted}
 use Rattle.std.proofs.lemmas.Map.{lookup-none}
@@ -9,7 +9,7 @@ use Rattle.std.proofs.lemmas.Map.Entries.{none_past_head, none_below_head, looku
 use Rattle.std.proofs.lemmas.Map.Lookups.{CmpEqualImpliesEq}
 use Rattle.std.proofs.lemmas.Option.{same_Some}
 use Rattle.std.specs.Cmp.{IsTotalOrder}
-use Rattle.std.specs.List.{AllByRecursion, list_all}
+use Rattle.std.specs.List.{AllByRecursion, list_all, list_any}
 use Rattle.std.specs.List.Sorted.{IsStrictlySortedBy}
 use Rattle.std.specs.Map.{lookup, keys_of}
 use Rattle.std.specs.BTreeMap.{is_at}
@@ -22,7 +22,7 @@ none_where x h = cc
 
 module _ {K X : Type 0} {R : K → K → Ordering} (o : IsTotalOrder R) where
   -- a key that is found among keys above another is above it
-  found_above : (j q : K) (x : X) (es : List (K × X)) → AllByRecursion (λ y. R j y ≡ Less) (keys_of es) → lookup (is_at (R q)) es ≡ Some x
+  pub found_above : (j q : K) (x : X) (es : List (K × X)) → AllByRecursion (λ y. R j y ≡ Less) (keys_of es) → lookup (is_at (R q)) es ≡ Some x
       → R j q ≡ Less
   found_above j q x [] above found = cc
   found_above j q x (e ∷ es) above found = by (R q e.0) refl found (found_above j q x es above.1)
@@ -34,14 +34,14 @@ module _ {K X : Type 0} {R : K → K → Ordering} (o : IsTotalOrder R) where
       by Greater h found later = later found
 
   -- what is found behind the first entry is found
-  found_behind : (e : K × X) (es : List (K × X)) → IsStrictlySortedBy R (keys_of (e ∷ es)) → (q : K) (x : X)
+  pub found_behind : (e : K × X) (es : List (K × X)) → IsStrictlySortedBy R (keys_of (e ∷ es)) → (q : K) (x : X)
       → lookup (is_at (R q)) es ≡ Some x
       → lookup (is_at (R q)) (e ∷ es) ≡ Some x
   found_behind e es s q x found =
       let above : R e.0 q ≡ Less = found_above e.0 q x es (sorted_head R e.0 (keys_of es) s) found in
       ap (λ r. cond (is_eq r) (Some e.1) (lookup (is_at (R q)) es)) (o.antisymm q e.0 ∙ ap ordering_reverse above) ∙ found
 
-  found_first : (e : K × X) (es : List (K × X)) → lookup (is_at (R e.0)) (e ∷ es) ≡ Some e.1
+  pub found_first : (e : K × X) (es : List (K × X)) → lookup (is_at (R e.0)) (e ∷ es) ≡ Some e.1
   found_first e es = ap (λ r. cond (is_eq r) (Some e.1) (lookup (is_at (R e.0)) es)) (tied_itself o e.0)
 
   module _ (p : K → X → Bool) where
@@ -99,6 +99,21 @@ module _ {K X : Type 0} {R : K → K → Ordering} (o : IsTotalOrder R) where
         by false h none Less at found later = later none found
         by false h none Equal at found later = ap (λ k. p k x) (exact q e.0 at) ∙ ap (λ y. p e.0 y) (sym (same_Some e.1 x found)) ∙ h
         by false h none Greater at found later = later none found
+
+    -- where what is found passes, some entry does
+    pub any_from_found : CmpEqualImpliesEq R → (es : List (K × X)) → (q : K) (x : X) → lookup (is_at (R q)) es ≡ Some x → p q x ≡ true
+        → list_any (λ e. p e.0 e.1) es ≡ true
+    any_from_found exact [] q x found is = absurd (cc (found))
+    any_from_found exact (e ∷ es) q x found is = by (R q e.0) refl found (λ later. any_from_found exact es q x later is)
+      where
+        by : (r : Ordering) → R q e.0 ≡ r → cond (is_eq r) (Some e.1) (lookup (is_at (R q)) es) ≡ Some x
+            → (lookup (is_at (R q)) es ≡ Some x → list_any (λ e. p e.0 e.1) es ≡ true)
+            → (p e.0 e.1 || list_any (λ e. p e.0 e.1) es) ≡ true
+        by Less h found later = or_right (p e.0 e.1) (list_any (λ e. p e.0 e.1) es) (later found)
+        by Greater h found later = or_right (p e.0 e.1) (list_any (λ e. p e.0 e.1) es) (later found)
+        by Equal h found later =
+            or_left (p e.0 e.1) (list_any (λ e. p e.0 e.1) es)
+            (ap (λ k. p k e.1) (sym (exact q e.0 h)) ∙ ap (λ y. p q y) (same_Some e.1 x found) ∙ is)
 
   -- a key below all others is not found
   below_all : (q : K) (e : K × X) (es : List (K × X)) → IsStrictlySortedBy R (keys_of (e ∷ es)) → R q e.0 ≡ Less

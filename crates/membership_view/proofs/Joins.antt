@@ -14,7 +14,8 @@ use Rattle.silo_address.specs.Silo.{Silo, silo_cmp, IsSameEndpoint}
 use Rattle.membership_view.specs.declared.row.Row.{Row}
 use Rattle.membership_view.specs.Row.{has_come, joining, dying}
 use Rattle.membership_view.specs.Views.{ViewsValue}
-use Rattle.membership_view.specs.Changes.{shares_endpoint, is_newest, occupant, without, next_views, joined_rows}
+use Rattle.membership_view.specs.View.{shares_endpoint}
+use Rattle.membership_view.specs.Changes.{is_newest, occupant, without, next_views, joined_rows}
 use Rattle.membership_view.specs.Whole.{IsInTime, IsViews, changes_of}
 use Rattle.texts.proofs.Entries.{lookup-insert_entry, length-insert_entry, sorted-insert_entry, length-changed, keys-changed}
 use Rattle.membership_view.proofs.Order.{shares_itself, shares_back, Decides-shares}
@@ -116,23 +117,36 @@ found_after silo version rows s newest q after found = by (occupant silo rows) r
     by (Some old) h found = old_case old h (found_changed (dying version) old (put_in silo version rows) q after found)
 
 -- a row that joins in a version, in time
-in_time_joining : (version : ℕ) → 0 < version → IsInTime version (joining version)
-in_time_joining version above =
-    record { joined_above = above; joined_by = omega arith; left_after = λ made is. cc; dead_after = λ made is. cc }
+in_time_joining : (first version : ℕ) → 0 < version → first ≤ version → IsInTime first version (joining version)
+in_time_joining first version above from = record {
+  joined_above = above;
+  joined_from = from;
+  joined_by = omega arith;
+  left_after = λ made is. absurd (cc (is));
+  dead_after = λ made is. absurd (cc (is));
+  left_later = λ made is at_once. absurd (cc (is));
+  dead_later = λ made is at_once. absurd (cc (is));
+}
 
 -- and one that dies
-pub in_time_dying : (version : ℕ) (row : Row) → IsInTime version row → IsInTime (version + 1) (dying (version + 1) row)
-in_time_dying version row in' =
-    let later : IsInTime (version + 1) row = in_time_later version (version + 1) row (omega arith) in' in
+pub in_time_dying : {first : ℕ} (version : ℕ) (row : Row) → IsInTime first version row → IsInTime first (version + 1) (dying (version + 1) row)
+in_time_dying {first} version row in' =
+    let later : IsInTime first (version + 1) row = in_time_later version (version + 1) row (omega arith) in' in
     record {
       joined_above = later.joined_above;
+      joined_from = later.joined_from;
       joined_by = later.joined_by;
       left_after = later.left_after;
       dead_after = λ made is. made_now made (same_Some (version + 1) made is);
+      left_later = later.left_later;
+      dead_later = λ made is at_once. absurd (not_at_once made (same_Some (version + 1) made is) at_once);
     }
   where
-    made_now : (made : ℕ) → version + 1 ≡ made → (row.joined < made) × (made ≤ version + 1)
+    made_now : (made : ℕ) → version + 1 ≡ made → (row.joined ≤ made) × (made ≤ version + 1)
     made_now made is = let k : row.joined ≤ version = in'.joined_by in (omega arith, omega arith)
+
+    not_at_once : (made : ℕ) → version + 1 ≡ made → made ≡ row.joined → ⊥
+    not_at_once made is at_once = let k : row.joined ≤ version = in'.joined_by in omega arith
 
 -- one row more
 length-joined : (silo : Silo) (version : ℕ) (rows : List (Silo × Row)) → is_newest silo rows ≡ true → (o : Option Silo)
@@ -183,12 +197,12 @@ counted-joined silo version rows s newest (Some old) is =
 -- after a join every row is in time
 in_time-joined : (views : ViewsValue) → IsViews views → (silo q : Silo) (after : Row)
     → IsAfterJoin silo (views.version + 1) views.rows q after
-    → IsInTime (views.version + 1) after
+    → IsInTime views.first (views.version + 1) after
 in_time-joined views whole silo q after is = elim is [
-  | inl e ↦ subst (λ x. IsInTime (views.version + 1) x) (sym e.1) (in_time_joining (views.version + 1) (omega arith))
+  | inl e ↦ subst (λ x. IsInTime views.first (views.version + 1) x) (sym e.1) (in_time_joining views.first (views.version + 1) (omega arith) (let k : views.first ≤ views.version = whole.first_upto in omega arith))
   | inr f ↦ elim f.is [
-    | inl e ↦ subst (λ x. IsInTime (views.version + 1) x) (sym e.2) (in_time_dying views.version f.row (whole.in_time q f.row f.found))
-    | inr e ↦ subst (λ x. IsInTime (views.version + 1) x) (sym e.1)
+    | inl e ↦ subst (λ x. IsInTime views.first (views.version + 1) x) (sym e.2) (in_time_dying views.version f.row (whole.in_time q f.row f.found))
+    | inr e ↦ subst (λ x. IsInTime views.first (views.version + 1) x) (sym e.1)
         (in_time_later views.version (views.version + 1) f.row (omega arith) (whole.in_time q f.row f.found))
   ]
 ]
@@ -252,6 +266,8 @@ pub whole-joined : (views : ViewsValue) → IsViews views → (silo : Silo) → 
 whole-joined views whole silo newest room = record {
   limit_above = whole.limit_above;
   limit_below = whole.limit_below;
+  first_below = whole.first_below;
+  first_upto = let k : views.first ≤ views.version = whole.first_upto in omega arith;
   within_limit =
       let k : length (joined_rows silo (views.version + 1) views.rows) ≡ length views.rows + 1 = length-joined silo (views.version + 1) views.rows newest (occupant silo views.rows) in
       omega arith;
@@ -264,6 +280,6 @@ whole-joined views whole silo newest room = record {
       (found_after silo (views.version + 1) views.rows whole.in_order newest b rb at_b);
   counted =
       let more = counted-joined silo (views.version + 1) views.rows whole.in_order newest (occupant silo views.rows) refl in
-      let k : views.version ≤ sum_by changes_of (values_of views.rows) = whole.counted in
+      let k : views.version ≤ views.first + sum_by changes_of (values_of views.rows) = whole.counted in
       omega (arith, more, k);
 }

@@ -12,6 +12,7 @@ use Rattle.membership_view.specs.Row.{has_come, status_in, leaving, dying}
 use Rattle.membership_view.specs.Views.{ViewsValue, row_of, status_at}
 use Rattle.membership_view.specs.Changes.{Change, Join, Leave, Die, is_newest, changed, next_views, after, after_join, leave_from, die_from, with_leave, with_death, joined_rows}
 use Rattle.membership_view.specs.Whole.{IsInTime, IsViews, changes_of}
+use Rattle.membership_view.specs.Laws.{VersionsFit}
 use Rattle.membership_view.proofs.Statuses.{not_made, active_is, not_dead_is, changes_leaving, changes_dying}
 use Rattle.membership_view.proofs.Known.{status_at-made}
 use Rattle.membership_view.proofs.ChangedRow.{IsChange, whole-changed, in_time_later}
@@ -78,7 +79,7 @@ has_row views whole silo status is =
     (λ row found says. record { row = row; found = found; says = says })
 
 -- the row of an Active silo is not left and not dead
-pub active_row : (version : ℕ) (row : Row) → IsInTime version row → status_in version row ≡ Some Active
+pub active_row : {first : ℕ} (version : ℕ) (row : Row) → IsInTime first version row → status_in version row ≡ Some Active
     → (row.dead ≡ None) × (row.left ≡ None)
 active_row version row in' says =
     let parts = active_is (has_come row.dead version) (has_come row.left version) _ says in (
@@ -88,28 +89,34 @@ active_row version row in' says =
     )
 
 -- the row of a silo that isn't Dead is not dead
-pub occupant_row : (version : ℕ) (row : Row) → IsInTime version row → status_in version row ≢ Some Dead → row.dead ≡ None
+pub occupant_row : {first : ℕ} (version : ℕ) (row : Row) → IsInTime first version row → status_in version row ≢ Some Dead → row.dead ≡ None
 occupant_row version row in' says =
     not_made row.dead version (λ made is. (in'.dead_after made is).1)
     (not_dead_is (has_come row.dead version) (has_come row.left version) _ says)
 
-leaving_ok : (version : ℕ) (row : Row) → IsInTime version row → row.left ≡ None → IsChange (version + 1) (leaving (version + 1)) row
+leaving_ok : {first : ℕ} (version : ℕ) (row : Row) → IsInTime first version row → row.left ≡ None → IsChange first (version + 1) (leaving (version + 1)) row
 leaving_ok version row in' none = record {
   in_time = record {
     joined_above = in'.joined_above;
+    joined_from = in'.joined_from;
     joined_by = let k : row.joined ≤ version = in'.joined_by in omega arith;
     left_after = λ made is. made_now made (same_Some (version + 1) made is);
     dead_after = (in_time_later version (version + 1) row (omega arith) in').dead_after;
+    left_later = λ made is at_once. absurd (not_at_once made (same_Some (version + 1) made is) at_once);
+    dead_later = in'.dead_later;
   };
   joined = refl;
   dead = λ made come. come;
   counted = changes_leaving (version + 1) row none;
 }
   where
-    made_now : (made : ℕ) → version + 1 ≡ made → (row.joined < made) × (made ≤ version + 1)
+    made_now : (made : ℕ) → version + 1 ≡ made → (row.joined ≤ made) × (made ≤ version + 1)
     made_now made is = let k : row.joined ≤ version = in'.joined_by in (omega arith, omega arith)
 
-dying_ok : (version : ℕ) (row : Row) → IsInTime version row → row.dead ≡ None → IsChange (version + 1) (dying (version + 1)) row
+    not_at_once : (made : ℕ) → version + 1 ≡ made → made ≡ row.joined → ⊥
+    not_at_once made is at_once = let k : row.joined ≤ version = in'.joined_by in omega arith
+
+dying_ok : {first : ℕ} (version : ℕ) (row : Row) → IsInTime first version row → row.dead ≡ None → IsChange first (version + 1) (dying (version + 1)) row
 dying_ok version row in' none = record {
   in_time = in_time_dying version row in';
   joined = refl;
@@ -157,12 +164,13 @@ sum_most (e ∷ es) =
     let k : changes_of e.1 ≤ 3 = grind arith in
     omega (arith, sum_by-cons changes_of e.1 (values_of es), sum_most es)
 
--- so the version stays small
-pub small : (views : ViewsValue) → IsViews views → views.version ≤ 196608
-small views whole =
-    let a : views.version ≤ sum_by changes_of (values_of views.rows) = whole.counted in
+-- so there is always a next version below 2^64
+pub versions_fit : VersionsFit
+versions_fit views whole =
+    let a : views.version ≤ views.first + sum_by changes_of (values_of views.rows) = whole.counted in
     let b : length views.rows ≤ views.limit = whole.within_limit in
-    let c : views.limit ≤ 65536 = whole.limit_below in
+    let c : views.limit < 4611686018427387904 = whole.limit_below in
+    let d : views.first < 4611686018427387904 = whole.first_below in
     omega (arith, sum_most views.rows)
 
 -- what all views keep they keep after an Active silo begins to leave

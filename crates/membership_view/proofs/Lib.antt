@@ -1,5 +1,7 @@
 pub mod Found
 pub mod Order
+pub mod Listed
+pub mod Reading
 pub mod Statuses
 pub mod Known
 pub mod SameEndpoint
@@ -10,8 +12,15 @@ pub mod Search
 pub mod Same
 pub mod Neighbours
 pub mod After
+pub mod NextViews
+pub mod JoinSteps
 pub mod Changes
 pub mod Unchanged
 pub mod WorkedOut
 pub mod Searches
 pub mod Accepted
+pub mod Said
+pub mod DeadViews
+pub mod Absent
+pub mod KnownEndpoint
+pub mod Beginnings

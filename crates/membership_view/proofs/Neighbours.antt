@@ -12,7 +12,8 @@ use Rattle.texts.proofs.Orderings.{upto_nat, less_is}
 use Rattle.silo_address.specs.Silo.{Silo, silo_cmp}
 use Rattle.membership_view.specs.declared.row.Row.{Row}
 use Rattle.membership_view.specs.Row.{has_come}
-use Rattle.membership_view.specs.Changes.{shares_endpoint, is_newest, occupant}
+use Rattle.membership_view.specs.View.{shares_endpoint}
+use Rattle.membership_view.specs.Changes.{is_newest, occupant}
 use Rattle.membership_view.specs.Whole.{OlderAreDead}
 use Rattle.membership_view.proofs.Order.{shares_back, shares_between, same_generation, by_generation, Decides-shares}
 use Rattle.membership_view.proofs.SameEndpoint.{found_row, lower_generation, newest_from, IsOccupant, occupant_is, occupant_none}
@@ -65,7 +66,7 @@ newest_next silo rows s next row found inside first = by (shares_endpoint silo n
     by false apart true newest = refl
     by false apart false newest = let e : is_newest silo rows ≡ true = newest_from silo rows s (lower apart) in cc
 
-upto_from : (r : Ordering) → is_lt r ≡ false → is_gt (ordering_reverse r) ≡ false
+pub upto_from : (r : Ordering) → is_lt r ≡ false → is_gt (ordering_reverse r) ≡ false
 upto_from Less h = cc
 upto_from Equal h = refl
 upto_from Greater h = refl

@@ -12,7 +12,7 @@ use Rattle.std.specs.declared.cmp.Ordering.{Ordering}
 use Rattle.std.specs.declared.cmp.Ordering.TheVariants.{Equal}
 use Rattle.texts.proofs.Orderings.{then_assoc, first_upto, level}
 use Rattle.silo_address.specs.Silo.{Silo, silo_cmp}
-use Rattle.membership_view.specs.Changes.{shares_endpoint}
+use Rattle.membership_view.specs.View.{shares_endpoint}
 use Rattle.silo_address.proofs.Order.{both_tie}
 use Rattle.silo_address.proofs.Same.{same_silo}
 

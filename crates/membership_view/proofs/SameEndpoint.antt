@@ -8,7 +8,8 @@ use Rattle.std.specs.BTreeMap.{is_at}
 use Rattle.silo_address.specs.Silo.{Silo, silo_cmp}
 use Rattle.membership_view.specs.declared.row.Row.{Row}
 use Rattle.membership_view.specs.Row.{has_come}
-use Rattle.membership_view.specs.Changes.{shares_endpoint, is_newest, occupant}
+use Rattle.membership_view.specs.View.{shares_endpoint}
+use Rattle.membership_view.specs.Changes.{is_newest, occupant}
 use Rattle.membership_view.specs.Whole.{OlderAreDead}
 use Rattle.membership_view.proofs.Found.{all_found, all_from_found, find_found, find_none}
 use Rattle.membership_view.proofs.Order.{shares_back, shares_along, same_generation, Decides-shares}

@@ -15,6 +15,10 @@ use Rattle.std.specs.declared.cmp.Ordering.{Ordering}
 use Rattle.std.specs.declared.cmp.Ordering.TheVariants.{Less, Equal, Greater}
 use Rattle.silo_address.specs.Silo.{Silo, silo_cmp}
 use Rattle.silo_address.proofs.Order.{silo_cmp_exact, silo_cmp_total}
+use Rattle.membership_view.specs.declared.status.Status.{Status}
+use Rattle.membership_view.specs.View.{is_outlived, or_outlived}
+use Rattle.membership_view.specs.Listing.{outlived_at}
+use Rattle.membership_view.proofs.Listed.{outlived_at_gap}
 
 -- where the search hits
 pub lookup_hit : {Y : Type 0} (es : List (Silo × Y)) → IsStrictlySortedBy silo_cmp (keys_of es) → (silo : Silo) (index : ℕ) (e : Silo × Y)
@@ -72,3 +76,18 @@ lookup_miss es s silo index parts =
     (λ e at. let inside : index < length es = slice_get_within es index e at in
     turned silo e.0 Greater (ap (λ y. silo_cmp y.0 silo) (sym (get_or_from_slice_get es index e e at))
     ∙ point.1 index e (omega arith) inside))
+
+-- and there the row tells whether the silo is outlived
+pub status_miss : (es : List (Silo × Status)) → IsStrictlySortedBy silo_cmp (keys_of es) → (silo : Silo) (index : ℕ)
+    → (IsNonDecreasingBy (λ y. ordering_index (silo_cmp y.0 silo)) es
+    → IsPartitionPoint (λ y. silo_cmp y.0 silo ≡ Less) (λ y. silo_cmp y.0 silo ≡ Greater) es index)
+    → outlived_at es index silo ≡ or_outlived (lookup (is_at (silo_cmp silo)) es) (is_outlived silo es)
+status_miss es s silo index parts =
+    let point = parts (rises es s silo) in
+    outlived_at_gap silo es index s
+    (λ j e below at. turned silo e.0 Less (ap (λ y. silo_cmp y.0 silo) (sym (get_or_from_slice_get es j e e at))
+    ∙ point.0 j e (let inside : j < length es = slice_get_within es j e at in omega arith) below))
+    (λ e at. let inside : index < length es = slice_get_within es index e at in
+    turned silo e.0 Greater (ap (λ y. silo_cmp y.0 silo) (sym (get_or_from_slice_get es index e e at))
+    ∙ point.1 index e (omega arith) inside))
+    ∙ ap (λ o. or_outlived o (is_outlived silo es)) (sym (lookup_miss es s silo index parts))

@@ -100,14 +100,14 @@ pub changes_dying : (made : ℕ) (row : Row) → row.dead ≡ None → changes_o
 changes_dying made row none = let e : is_some row.dead ≡ false = ap is_some none in grind arith
 
 -- a change that came came after the silo joined
-since : (change : Option ℕ) (joined version : ℕ) → ((made : ℕ) → change ≡ Some made → joined < made) → has_come change version ≡ true
+since : (change : Option ℕ) (joined version : ℕ) → ((made : ℕ) → change ≡ Some made → joined ≤ made) → has_come change version ≡ true
     → joined ≤ version
 since None joined version after come = cc
 since (Some made) joined version after come =
-    let h : made ≤ version = leb-true made version come in let k : joined < made = after made refl in omega arith
+    let h : made ≤ version = leb-true made version come in let k : joined ≤ made = after made refl in omega arith
 
 -- a row says something of a version from the joining of its silo on
-pub joined_since : (now version : ℕ) (row : Row) → IsInTime now row → IsSome (status_in version row) → row.joined ≤ version
+pub joined_since : {first : ℕ} (now version : ℕ) (row : Row) → IsInTime first now row → IsSome (status_in version row) → row.joined ≤ version
 joined_since now version row in' there =
     elim (there_is (has_come row.dead version) (has_come row.left version) (nat_le row.joined version) there) [
       | inl e ↦ since row.dead row.joined version (λ made is. (in'.dead_after made is).0) e
@@ -122,7 +122,7 @@ there_from version row h =
     there_by (has_come row.dead version) (has_come row.left version) (nat_le row.joined version) (inr (inr (le-leb row.joined version h)))
 
 -- and nothing before
-pub nothing_before : (now version : ℕ) (row : Row) → IsInTime now row → version < row.joined → status_in version row ≡ None
+pub nothing_before : {first : ℕ} (now version : ℕ) (row : Row) → IsInTime first now row → version < row.joined → status_in version row ≡ None
 nothing_before now version row in' h =
     ap (λ b. by_come b (has_come row.left version) (nat_le row.joined version))
     (not_come row.dead version (λ made is. let k = (in'.dead_after made is).0 in omega arith))
@@ -137,7 +137,7 @@ come_same (Some made) version by_then =
     let h : made ≤ version = by_then made refl in le-leb made (version + 1) (omega arith) ∙ sym (le-leb made version h)
 
 -- a row that no change touches says the same of the next version
-pub status_next : (version : ℕ) (row : Row) → IsInTime version row → status_in (version + 1) row ≡ status_in version row
+pub status_next : {first : ℕ} (version : ℕ) (row : Row) → IsInTime first version row → status_in (version + 1) row ≡ status_in version row
 status_next version row in' =
     ap (λ b. by_come b (has_come row.left (version + 1)) (nat_le row.joined (version + 1)))
     (come_same row.dead version (λ made is. (in'.dead_after made is).1))
@@ -148,6 +148,10 @@ status_next version row in' =
   where
     here : (made : ℕ) → row.joined ≡ made → made ≤ version
     here made is = let k : row.joined ≤ version = in'.joined_by in omega arith
+
+-- a row whose death has come is Dead
+pub dead_by_come : (version : ℕ) (row : Row) → has_come row.dead version ≡ true → status_in version row ≡ Some Dead
+dead_by_come version row come = ap (λ b. by_come b (has_come row.left version) (nat_le row.joined version)) come
 
 -- a row with a death that came is Dead
 pub dead_by : (version made : ℕ) (row : Row) → row.dead ≡ Some made → made ≤ version → status_in version row ≡ Some Dead

@@ -7,6 +7,7 @@ use Rattle.silo_address.specs.Silo.{Silo, silo_cmp, IsSameEndpoint}
 use Rattle.membership_view.specs.declared.row.Row.{Row}
 use Rattle.membership_view.specs.declared.status.Status.TheVariants.{Active, Leaving, Dead}
 use Rattle.membership_view.specs.Row.{has_come, status_in, leaving, dying}
+use Rattle.membership_view.specs.View.{listed_rows}
 use Rattle.membership_view.specs.Views.{ViewsValue, row_of, view_at, rows_in, status_at}
 use Rattle.membership_view.specs.Changes.{Change, Join, Leave, Die, changed, next_views, joined_rows}
 use Rattle.membership_view.specs.Whole.{IsViews}
@@ -14,14 +15,16 @@ use Rattle.membership_view.specs.Laws.{Accepts, VersionsRise, ViewsStart, ViewsS
 use Rattle.texts.proofs.Entries.{sorted-nil}
 use Rattle.membership_view.proofs.Order.{Decides-shares, same_generation}
 use Rattle.membership_view.proofs.Statuses.{has_come_later, joined_since, there_from, nothing_before, dead_later, there_later, status_before_leaving, status_before_dying}
-use Rattle.membership_view.proofs.Known.{status_at-row, status_at-made}
+use Rattle.membership_view.proofs.Known.{status_at-made}
 use Rattle.membership_view.proofs.Kept.{join_is, leave_is, death_is, has_row, active_row, occupant_row, whole-after}
 use Rattle.membership_view.proofs.After.{SaysSame, same-changed, same-joined, rows_in-same, view_at-same}
 
 pub views_start : ViewsStart
-views_start limit above below = record {
+views_start limit version above below early = record {
   limit_above = above;
   limit_below = below;
+  first_below = early;
+  first_upto = omega arith;
   within_limit = omega arith;
   in_order = sorted-nil silo_cmp;
   in_time = λ silo row found. cc;
@@ -78,6 +81,17 @@ views_stay views change next accepts version h =
     ∙ view_at-same views is.rows version h (rows_in-same version is.rows views.rows kept.in_order accepts.whole.in_order
     (is.same version h))
 
+-- nor does what rows say of a version that was made
+pub statuses_stay : (views : ViewsValue) (change : Change) (next : ViewsValue) → Accepts views change next → (version : ℕ) → version ≤ views.version
+    → (silo : Silo) → status_at next version silo ≡ status_at views version silo
+statuses_stay views change next accepts version h silo =
+    let is = is_next views change next accepts in
+    let kept : IsViews (next_views views is.rows) = subst (λ v. IsViews v) is.is (views_are_kept views change next accepts) in
+    ap (λ v. status_at v version silo) is.is
+    ∙ status_at-made (next_views views is.rows) kept.in_order version silo (omega (h, arith))
+    ∙ is.same version h silo
+    ∙ sym (status_at-made views accepts.whole.in_order version silo h)
+
 -- by the row: what holds of a row's statuses from version to version holds of the views
 by_row : (views : ViewsValue) → IsViews views → (silo : Silo) (version : ℕ) → version ≤ views.version
     → status_at views version silo ≡ option_and_then (status_in version) (row_of views silo)
@@ -111,7 +125,7 @@ record IsThere (views : ViewsValue) (version : ℕ) (silo : Silo) : Type 0 where
 is_there : (views : ViewsValue) → IsViews views → (version : ℕ) (silo : Silo) → IsSome (status_at views version silo)
     → IsThere views version silo
 is_there views whole version silo there =
-    by (nat_le version views.version) refl (subst (λ o. IsSome o) (status_at-row views whole.in_order version silo) there)
+    by (nat_le version views.version) refl there
   where
     row_is : version ≤ views.version → (o : Option Row) → row_of views silo ≡ o → IsSome (option_and_then (status_in version) o)
         → IsThere views version silo
@@ -151,8 +165,9 @@ joined_from views whole silo joined at version made = (λ there. after there, λ
 
 pub first_is_empty : FirstIsEmpty
 first_is_empty views whole =
-    ap (λ b. if b then rows_in 0 views.rows else []) (le-leb 0 views.version (omega arith))
-    ∙ rows_in-same 0 views.rows [] whole.in_order (sorted-nil silo_cmp) (λ q. nothing q (row_of views q) refl)
+    ap (λ b. if b then listed_rows (rows_in 0 views.rows) else []) (le-leb 0 views.version (omega arith))
+    ∙ ap (λ rows. listed_rows rows)
+    (rows_in-same 0 views.rows [] whole.in_order (sorted-nil silo_cmp) (λ q. nothing q (row_of views q) refl))
   where
     nothing : (q : Silo) (o : Option Row) → row_of views q ≡ o → option_and_then (status_in 0) o ≡ None
     nothing q None is = refl

@@ -16,7 +16,16 @@ worked = record {
   already_dead = refl;
   first_view = refl;
   second_view = refl;
+  left_out = refl;
   active = refl;
   leaving = refl;
   not_made = refl;
+  begins = refl;
+  listed_twice = refl;
+  in_no_version = refl;
+  no_room = refl;
+  same_view = refl;
+  dead_stays_dead = refl;
+  goes_on = refl;
+  same_next = refl;
 }

@@ -1,14 +1,14 @@
 -- The changes of membership: what each makes of the views, or the number by which it is refused.
-use Rattle.std.specs.Prelude.{ℕ, ◌+◌, ◌==◌, ◌&&◌, ◌||◌, not, Bool, List, length, map, find, Option, Some, None, is_none, Result, Ok, Err, nat_lt, if◌then◌else◌}
+use Rattle.std.specs.Prelude.{ℕ, ◌+◌, ◌&&◌, ◌||◌, not, Bool, List, length, map, find, Option, Some, None, is_none, Result, Ok, Err, nat_lt, if◌then◌else◌}
 use Rattle.std.specs.Option.{option_map}
 use Rattle.std.specs.List.{list_all}
-use Rattle.std.specs.Cmp.Lexicographic.{pointwise}
 use Rattle.std.specs.BTreeMap.{is_at, insert_entry}
 use Rattle.silo_address.specs.Silo.{Silo, silo_cmp}
 use Rattle.membership_view.specs.declared.row.Row.{Row}
 use Rattle.membership_view.specs.declared.status.Status.{Status}
 use Rattle.membership_view.specs.declared.status.Status.TheVariants.{Active, Leaving, Dead}
 use Rattle.membership_view.specs.Row.{joining, leaving, dying}
+use Rattle.membership_view.specs.View.{shares_endpoint}
 use Rattle.membership_view.specs.Views.{ViewsValue, status_at}
 
 -- a change of membership
@@ -17,11 +17,7 @@ pub data Change : Type 0 where
   Leave : Silo → Change
   Die : Silo → Change
 
--- whether two silos have one endpoint, whatever their generations
-abbrev pub shares_endpoint : Silo → Silo → Bool
-shares_endpoint a b = pointwise ◌==◌ a.ip b.ip && (a.port == b.port)
-
--- whether every silo of this one's endpoint that ever joined has a lower generation
+-- whether every silo of this one's endpoint that is known has a lower generation
 abbrev pub is_newest : Silo → List (Silo × Row) → Bool
 is_newest silo rows = list_all (λ e. not (shares_endpoint silo e.0) || nat_lt e.0.generation silo.generation) rows
 
@@ -58,7 +54,7 @@ with_leave views silo = next_views views (changed (leaving (views.version + 1)) 
 abbrev pub with_death : ViewsValue → Silo → ViewsValue
 with_death views silo = next_views views (changed (dying (views.version + 1)) silo views.rows)
 
--- a silo joins: 201 where it isn't the newest of its endpoint, then 205 where as many silos have joined as ever may
+-- a silo joins: 201 where it isn't the newest of its endpoint, then 205 where as many silos are known as may be
 abbrev pub after_join : ViewsValue → Silo → Result ViewsValue ℕ
 after_join views silo =
     if not (is_newest silo views.rows) then Err 201

@@ -1,9 +1,11 @@
 -- What holds of all views, told by views and statuses alone.
-use Rattle.std.specs.Prelude.{◌≡◌, ◌≢◌, ◌↔◌, ◌⊎◌, ℕ, ◌+◌, ◌<◌, ◌≤◌, [], IsTrue, IsSome, Some, Ok, Err}
+use Rattle.std.specs.Prelude.{None, ◌≡◌, ◌≢◌, ◌↔◌, ◌⊎◌, ℕ, ◌+◌, ◌<◌, ◌≤◌, ◌^◌, [], IsTrue, IsSome, Some, Ok, Err}
 use Rattle.silo_address.specs.Silo.{Silo, IsSameEndpoint}
 use Rattle.membership_view.specs.declared.status.Status.TheVariants.{Dead}
 use Rattle.membership_view.specs.View.{ViewValue, status_of}
-use Rattle.membership_view.specs.Views.{ViewsValue, first_views, view_at, status_at, joining_version}
+use Rattle.membership_view.specs.declared.status.Status.{Status}
+use Rattle.membership_view.specs.Views.{ViewsValue, most_known, views_from, view_at, status_at, joining_version}
+use Rattle.membership_view.specs.Beginning.{after_listing}
 use Rattle.membership_view.specs.Changes.{Change, after, is_newest, occupant}
 use Rattle.membership_view.specs.Whole.{IsViews}
 use Rattle.membership_view.specs.Step.{MembershipStep}
@@ -27,13 +29,21 @@ abbrev pub ViewsStay : Type 0
 ViewsStay = (views : ViewsValue) (change : Change) (next : ViewsValue) → Accepts views change next
     → (version : ℕ) → version ≤ views.version → view_at next version ≡ view_at views version
 
--- what the views so far keep holds before any change
+-- what the views so far keep holds before any change, and of views that begin with a later version
 abbrev pub ViewsStart : Type 0
-ViewsStart = (limit : ℕ) → 0 < limit → limit ≤ 65536 → IsViews (first_views limit)
+ViewsStart = (limit version : ℕ) → 0 < limit → limit < most_known → version < most_known → IsViews (views_from limit version)
+
+-- and once a silo is listed
+abbrev pub ListingsAreKept : Type 0
+ListingsAreKept = (views : ViewsValue) (silo : Silo) (status : Status) (next : ViewsValue) → IsViews views → after_listing views silo status ≡ Ok next → IsViews next
 
 -- what the views so far keep they keep for good
 abbrev pub ViewsAreKept : Type 0
 ViewsAreKept = (views : ViewsValue) (change : Change) (next : ViewsValue) → Accepts views change next → IsViews next
+
+-- a version is below 2^64, and so is the next one
+abbrev pub VersionsFit : Type 0
+VersionsFit = (views : ViewsValue) → IsViews views → views.version + 1 < 2 ^ 64
 
 -- nobody is in the first view
 abbrev pub FirstIsEmpty : Type 0
@@ -63,7 +73,23 @@ abbrev pub OneIsLive : Type 0
 OneIsLive = (views : ViewsValue) → IsViews views → (version : ℕ) (a b : Silo) → IsSameEndpoint a b
     → IsLiveIn views version a → IsLiveIn views version b → a ≡ b
 
--- a silo is the newest of its endpoint where every silo of it that ever joined has a lower generation
+-- a view says of each silo that it lists, and of each that it leaves out, what the silo's row says
+abbrev pub ViewsSayStatuses : Type 0
+ViewsSayStatuses = (views : ViewsValue) → IsViews views → (silo : Silo) (version : ℕ) → version ≤ views.version
+    → IsSome (status_at views version silo) → status_of (view_at views version) silo ≡ status_at views version silo
+
+-- and of any other that it isn't there, or is Dead, by a newer silo of its endpoint that is
+pub record IsOutlivedIn (views : ViewsValue) (version : ℕ) (silo : Silo) : Type 0 where
+  pub newer : Silo
+  pub same : IsSameEndpoint newer silo
+  pub later : silo.generation < newer.generation
+  pub there : IsSome (status_at views version newer)
+
+abbrev pub ViewsSayNoMore : Type 0
+ViewsSayNoMore = (views : ViewsValue) → IsViews views → (silo : Silo) (version : ℕ) → status_at views version silo ≡ None
+    → (status_of (view_at views version) silo ≡ None) ⊎ ((status_of (view_at views version) silo ≡ Some Dead) × IsOutlivedIn views version silo)
+
+-- a silo is the newest of its endpoint where every silo of it that is known has a lower generation
 abbrev pub NewestIs : Type 0
 NewestIs = (views : ViewsValue) → IsViews views → (silo : Silo)
     → IsTrue (is_newest silo views.rows)
@@ -78,4 +104,4 @@ OccupantIs = (views : ViewsValue) → IsViews views → (silo old : Silo)
 abbrev pub StepsAreChanges : Type 0
 StepsAreChanges = (views : ViewsValue) → IsViews views → (change : Change) (view : ViewValue) → MembershipStep (view_at views views.version) change view
     → (after views change ≡ Err 205)
-    ⊎ ((next : ViewsValue) × (after views change ≡ Ok next) × ((silo : Silo) → status_at next next.version silo ≡ status_of view silo))
+    ⊎ ((next : ViewsValue) × (after views change ≡ Ok next) × ((silo : Silo) → status_of (view_at next next.version) silo ≡ status_of view silo))

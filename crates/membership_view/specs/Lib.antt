@@ -2,6 +2,8 @@ pub mod Row
 pub mod View
 pub mod Views
 pub mod Changes
+pub mod Beginning
+pub mod Listing
 pub mod Refusal
 pub mod Whole
 pub mod Step

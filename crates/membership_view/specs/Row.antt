@@ -1,5 +1,5 @@
 -- A silo's row, and what the silo is in the view of a version.
-use Rattle.std.specs.Prelude.{ℕ, Bool, true, false, nat_le, if◌then◌else◌, Option, Some, None}
+use Rattle.std.specs.Prelude.{ℕ, ◌==◌, Bool, true, false, nat_le, if◌then◌else◌, Option, Some, None}
 use Rattle.membership_view.specs.declared.row.Row.{Row}
 use Rattle.membership_view.specs.declared.status.Status.{Status}
 use Rattle.membership_view.specs.declared.status.Status.TheVariants.{Active, Leaving, Dead}
@@ -15,7 +15,16 @@ abbrev pub has_come : Option ℕ → ℕ → Bool
 has_come None version = false
 has_come (Some made) version = nat_le made version
 
--- the status in the view of a version: that of the last change which had been made by then, and none before the silo joined
+-- whether that version is the one in which a change was made, if it was
+abbrev pub is_made_in : ℕ → Option ℕ → Bool
+is_made_in version None = false
+is_made_in version (Some made) = made == version
+
+-- whether the silo was Dead in the version with which the views begin, of which alone a row says that it joined and died there
+abbrev pub was_dead : Row → Bool
+was_dead row = is_made_in row.joined row.dead
+
+-- the status in a version: that of the last change which had been made by then, and none before the silo joined
 abbrev pub status_in : ℕ → Row → Option Status
 status_in version row =
     if has_come row.dead version then Some Dead

@@ -2,9 +2,10 @@
 use Rattle.std.specs.Prelude.{◌≡◌, [], ◌∷◌, Some, None, Ok, Err}
 use Rattle.silo_address.specs.Silo.{Silo}
 use Rattle.membership_view.specs.declared.status.Status.TheVariants.{Active, Leaving, Dead}
-use Rattle.membership_view.specs.View.{active_silos}
-use Rattle.membership_view.specs.Views.{ViewsValue, first_views, view_at, status_at}
+use Rattle.membership_view.specs.View.{active_silos, status_of}
+use Rattle.membership_view.specs.Views.{ViewsValue, views_from, first_views, view_at, status_at}
 use Rattle.membership_view.specs.Changes.{Join, Leave, Die, after, occupant}
+use Rattle.membership_view.specs.Beginning.{after_listing, with_listed}
 
 -- 10.0.0.1:1000@1
 abbrev pub silo_a : Silo
@@ -24,12 +25,13 @@ before_all = first_views 2
 
 -- after the first has joined
 abbrev pub after_first : ViewsValue
-after_first = record { limit = 2; version = 1; rows = (silo_a, record { joined = 1; left = None; dead = None }) ∷ [] }
+after_first = record { limit = 2; first = 0; version = 1; rows = (silo_a, record { joined = 1; left = None; dead = None }) ∷ [] }
 
 -- after its endpoint has started again
 abbrev pub after_restart : ViewsValue
 after_restart = record {
   limit = 2;
+  first = 0;
   version = 2;
   rows = (silo_a, record { joined = 1; left = None; dead = Some 2 }) ∷ (silo_a_again, record { joined = 2; left = None; dead = None }) ∷ [];
 }
@@ -38,6 +40,7 @@ after_restart = record {
 abbrev pub after_leaving : ViewsValue
 after_leaving = record {
   limit = 2;
+  first = 0;
   version = 3;
   rows = (silo_a, record { joined = 1; left = None; dead = Some 2 }) ∷ (silo_a_again, record { joined = 2; left = Some 3; dead = None }) ∷ [];
 }
@@ -46,8 +49,22 @@ after_leaving = record {
 abbrev pub after_death : ViewsValue
 after_death = record {
   limit = 2;
+  first = 0;
   version = 4;
   rows = (silo_a, record { joined = 1; left = None; dead = Some 2 }) ∷ (silo_a_again, record { joined = 2; left = Some 3; dead = Some 4 }) ∷ [];
+}
+
+-- views that begin with version 2: the first silo isn't listed, since the one that replaced it is
+abbrev pub begun_later : ViewsValue
+begun_later = with_listed (views_from 2 2) silo_a_again Active
+
+-- the same change makes the same view of them
+abbrev pub begun_leaving : ViewsValue
+begun_leaving = record {
+  limit = 2;
+  first = 2;
+  version = 3;
+  rows = (silo_a_again, record { joined = 2; left = Some 3; dead = None }) ∷ [];
 }
 
 -- each change, each refusal, and what the views say at the end
@@ -63,7 +80,18 @@ pub record WorkedChanges : Type 0 where
   pub dies : after after_leaving (Die silo_a_again) ≡ Ok after_death
   pub already_dead : after after_death (Die silo_a_again) ≡ Err 204
   pub first_view : view_at after_death 1 ≡ record { version = 1; rows = (silo_a, Active) ∷ [] }
-  pub second_view : view_at after_death 2 ≡ record { version = 2; rows = (silo_a, Dead) ∷ (silo_a_again, Active) ∷ [] }
+  -- the second view doesn't list the first silo, and yet says that it is Dead
+  pub second_view : view_at after_death 2 ≡ record { version = 2; rows = (silo_a_again, Active) ∷ [] }
+  pub left_out : status_of (view_at after_death 2) silo_a ≡ Some Dead
   pub active : active_silos (view_at after_death 2) ≡ silo_a_again ∷ []
   pub leaving : status_at after_death 3 silo_a_again ≡ Some Leaving
   pub not_made : status_at after_death 5 silo_a_again ≡ None
+  -- what begins with the second view goes on alike
+  pub begins : after_listing (views_from 2 2) silo_a_again Active ≡ Ok begun_later
+  pub listed_twice : after_listing begun_later silo_a Dead ≡ Err 210
+  pub in_no_version : after_listing (views_from 2 0) silo_a Active ≡ Err 210
+  pub no_room : after_listing (record begun_later { limit = 1 }) silo_b Active ≡ Err 205
+  pub same_view : view_at begun_later 2 ≡ view_at after_death 2
+  pub dead_stays_dead : after begun_later (Join silo_a) ≡ Err 201
+  pub goes_on : after begun_later (Leave silo_a_again) ≡ Ok begun_leaving
+  pub same_next : view_at begun_leaving 3 ≡ view_at after_leaving 3

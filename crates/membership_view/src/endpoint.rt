@@ -1,4 +1,5 @@
 ghost use Rattle.std.specs.Prelude.{◌≡◌, true};
+ghost use Rattle.membership_view.specs.Beginning.{is_known_endpoint};
 ghost use Rattle.membership_view.specs.Changes.{is_newest, occupant};
 ghost use Rattle.membership_view.specs.Whole.{OlderAreDead};
 
@@ -30,4 +31,17 @@ pub(crate) fn occupant(rows: &BTreeMap<SiloAddress, Row>, silo: &SiloAddress) ->
         return Some(*last);
     }
     None
+}
+
+/// Whether a silo of this one's endpoint has a row.
+pub(crate) fn is_known(rows: &BTreeMap<SiloAddress, Row>, silo: &SiloAddress) -> bool
+    ensures { result ≡ is_known_endpoint silo.now rows.now.entries }
+{
+    if !is_newest(rows, silo) {
+        return true;
+    }
+    match rows.range(..*silo).next_back() {
+        Some((last, _)) => silo.same_endpoint(last),
+        None => false,
+    }
 }

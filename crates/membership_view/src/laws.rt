@@ -1,6 +1,6 @@
 //! What holds of all views. Each function here does nothing: its contract is a law about the definitions that the other contracts
 //! use, for the proofs of crates above.
-ghost use Rattle.membership_view.specs.Laws.{ChangesAreSteps, VersionsRise, ViewsStart, ViewsStay, ViewsAreKept, FirstIsEmpty, DeadStaysDead, RowsStay, JoinedFrom, OneIsLive, NewestIs, OccupantIs, StepsAreChanges};
+ghost use Rattle.membership_view.specs.Laws.{ChangesAreSteps, VersionsRise, VersionsFit, ViewsStart, ListingsAreKept, ViewsStay, ViewsAreKept, FirstIsEmpty, DeadStaysDead, RowsStay, JoinedFrom, OneIsLive, NewestIs, OccupantIs, StepsAreChanges, ViewsSayStatuses, ViewsSayNoMore};
 ghost use Rattle.membership_view.specs.Worked.{WorkedChanges};
 
 /// Each accepted change makes the next version, and is one membership step from the current view to the next one. Every earlier
@@ -11,6 +11,20 @@ pub fn changes_are_steps()
     ensures views_stay { ViewsStay }
     ensures start { ViewsStart }
     ensures kept { ViewsAreKept }
+    ensures fits { VersionsFit }
+{}
+
+/// The invariant of all views holds where they begin with a later version, and as silos are listed there.
+pub fn beginnings_are_whole()
+    ensures start { ViewsStart }
+    ensures kept { ListingsAreKept }
+{}
+
+/// A view says of each silo what its row says, though it leaves out the Dead of whose endpoints it lists newer silos; and of no other silo
+/// that it was there, but that those are Dead which a newer one of their endpoint has outlived.
+pub fn views_say_statuses()
+    ensures says { ViewsSayStatuses }
+    ensures no_more { ViewsSayNoMore }
 {}
 
 /// From view to view a silo's row never goes, and a silo that is Dead stays Dead. It is in the views from the version in which it

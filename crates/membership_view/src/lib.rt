@@ -13,4 +13,4 @@ pub use refusal::ViewsError;
 pub use row::Row;
 pub use status::Status;
 pub use view::View;
-pub use views::{Joined, MAX_SILOS, Views};
+pub use views::{Joined, MAX_FIRST, MAX_SILOS, Views};

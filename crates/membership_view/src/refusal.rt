@@ -3,7 +3,7 @@ ghost use Rattle.membership_view.specs.Refusal.{views_error_number};
 
 use thiserror::Error;
 
-/// Why a change of membership was refused (`docs/RULES.md#membership`).
+/// Why a change of membership, or a view with which all begins, was refused (`docs/RULES.md#membership`).
 #[derive(Clone, Copy, Debug, PartialEq, Eq, Error)]
 pub enum ViewsError {
     /// A silo of the same endpoint with this generation or a higher one has joined before.
@@ -18,9 +18,12 @@ pub enum ViewsError {
     /// The silo that is declared dead is Dead.
     #[error("the silo is dead already")]
     AlreadyDead,
-    /// As many silos have joined as ever may.
-    #[error("as many silos have joined as ever may")]
+    /// As many silos are known as may be.
+    #[error("as many silos are known as may be")]
     RowsFull,
+    /// A view with which all begins is of too high a version, or lists a silo though it is of version 0, or two silos of an endpoint.
+    #[error("a history can't begin with this view")]
+    NotListable,
     /// There was no memory for the change.
     #[error("out of memory")]
     OutOfMemory,
@@ -37,6 +40,7 @@ impl ViewsError {
             ViewsError::NotActive => Some(203),
             ViewsError::AlreadyDead => Some(204),
             ViewsError::RowsFull => Some(205),
+            ViewsError::NotListable => Some(210),
             ViewsError::OutOfMemory => None,
         }
     }

@@ -1,5 +1,6 @@
-ghost use Rattle.std.specs.Prelude.{◌≡◌, ◌↔◌, [], IsTrue, IfOk};
-ghost use Rattle.membership_view.specs.View.{IsByAddress, active_silos, status_of};
+ghost use Rattle.std.specs.Prelude.{◌≡◌, ◌↔◌, ◌++◌, [], IsTrue, IfOk, OnOk};
+ghost use Rattle.membership_view.specs.View.{IsByAddress, active_silos, listed_rows, status_of};
+ghost use Rattle.membership_view.specs.Listing.{before, last_of, outlived_at};
 ghost use Rattle.membership_view.specs.Views.{rows_in};
 
 use crate::{Row, Status};
@@ -8,7 +9,8 @@ use std::alloc::{AllocError, Global};
 use std::collections::BTreeMap;
 use std::marker::Model;
 
-/// A view: one version of the membership, with the status of each silo that has joined by then (`docs/RULES.md#membership`).
+/// A view: one version of the membership, with the status of each silo that has joined by then. Of the Dead it lists those alone that are the
+/// newest of their endpoint (`docs/RULES.md#membership`).
 #[derive(Drop)]
 pub struct View {
     version: u64,
@@ -34,14 +36,17 @@ impl View {
         version: u64,
         rows: &BTreeMap<SiloAddress, Row>,
     ) -> Result<View, AllocError>
-        ensures { IfOk result (λ view. view ≡ record { version = version; rows = rows_in version rows.now.entries }) }
+        ensures { IfOk result (λ view. view ≡ record { version = version; rows = listed_rows (rows_in version rows.now.entries) }) }
     {
         let mut shown = Vec::with_capacity(alloc, rows.len())?;
+        let mut last = None;
         for (silo, row) in rows {
             if let Some(status) = row.status(version) {
-                shown.push((*silo, status))?;
+                show_before(&mut shown, last, silo)?;
+                last = Some((*silo, status));
             }
         }
+        show_last(&mut shown, last)?;
         Ok(View {
             version,
             rows: shown,
@@ -65,20 +70,22 @@ impl View {
         self.version
     }
 
-    /// Each silo that has joined by this version, with its status, in order of address.
+    /// Each silo that the view lists, with its status, in order of address: those that have joined by this version, but for a Dead one of
+    /// whose endpoint a newer one is listed.
     pub fn rows(&self) -> &[(SiloAddress, Status)]
         ensures { result.now ≡ self.now.rows }
     {
         &self.rows
     }
 
-    /// The status of a silo in this view; `None` if it had not joined by this version.
+    /// The status of a silo in this view. One that isn't listed is Dead where a newer silo of its endpoint is; else `None`: it had not
+    /// joined by this version.
     pub fn status(&self, silo: &SiloAddress) -> Option<Status>
         ensures { result ≡ status_of self.now silo.now }
     {
         match self.rows.binary_search_by_key(silo, |row| row.0) {
             Ok(index) => Some(self.rows[index].1),
-            Err(_) => None,
+            Err(index) => outlived_at(&self.rows, index, silo),
         }
     }
 
@@ -117,6 +124,48 @@ impl View {
     {
         self.version == other.version && same_rows(&self.rows, &other.rows)
     }
+}
+
+// A silo's row is shown in front of that of the next one, if there is one, but where it is Dead and the next one is of its endpoint.
+fn show_before(
+    shown: &mut Vec<(SiloAddress, Status)>,
+    row: Option<(SiloAddress, Status)>,
+    next: &SiloAddress,
+) -> Result<(), AllocError>
+    ensures { OnOk result (shown.new.items ≡ shown.old.items ++ before row next.now) }
+{
+    let Some((silo, status)) = row else {
+        return Ok(());
+    };
+    if status == Status::Dead && silo.same_endpoint(next) {
+        return Ok(());
+    }
+    shown.push((silo, status))?;
+    Ok(())
+}
+
+// The last silo's row is shown, if there is one.
+fn show_last(
+    shown: &mut Vec<(SiloAddress, Status)>,
+    row: Option<(SiloAddress, Status)>,
+) -> Result<(), AllocError>
+    ensures { OnOk result (shown.new.items ≡ shown.old.items ++ last_of row) }
+{
+    if let Some(row) = row {
+        shown.push(row)?;
+    }
+    Ok(())
+}
+
+// A silo that isn't listed, but would be at that index, is Dead where the row there is of its endpoint.
+fn outlived_at(rows: &[(SiloAddress, Status)], index: usize, silo: &SiloAddress) -> Option<Status>
+    ensures { result ≡ outlived_at rows.now index silo.now }
+{
+    let (next, _) = rows.get(index)?;
+    if silo.same_endpoint(next) {
+        return Some(Status::Dead);
+    }
+    None
 }
 
 fn same_rows(one: &[(SiloAddress, Status)], other: &[(SiloAddress, Status)]) -> bool

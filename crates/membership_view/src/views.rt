@@ -1,10 +1,12 @@
 ghost use Rattle.std.specs.Map.Iter.{ShowsInOrder, deref_pair};
-ghost use Rattle.std.specs.Prelude.{◌≡◌, ◌≢◌, ◌<◌, ◌≤◌, ◌↔◌, length, IsTrue, IfOk, IfErr, OnOk, OnErr, IfSome, IsSome, true};
+ghost use Rattle.std.specs.Prelude.{◌≡◌, ◌≢◌, ◌<◌, ◌≤◌, ◌↔◌, length, IsTrue, IfOk, IfErr, IsErrOf, IsSomeAnd, OnOk, OnErr, IfSome, IsSome, Ok, Err, true, false};
 ghost use Rattle.silo_address.specs.Silo.{Silo};
 ghost use Rattle.membership_view.specs.Changes.{Join, Leave, Die, after, changed, is_newest, joined_rows, occupant, with_death, with_join, with_leave};
-ghost use Rattle.membership_view.specs.Refusal.{Refuses, RefusesOrLacksMemory};
+ghost use Rattle.membership_view.specs.Beginning.{after_listing, beginning, is_known_endpoint, with_listed};
+ghost use Rattle.membership_view.specs.Refusal.{Refuses, RefusesListing, RefusesOrLacksMemory, views_error_number};
+ghost use Rattle.membership_view.specs.declared.status.Status.{Status as StatusSeen};
 ghost use Rattle.membership_view.specs.Row.{leaving, dying};
-ghost use Rattle.membership_view.specs.Views.{first_views, row_of, view_at, status_at, joining_version, leaving_version, dying_version};
+ghost use Rattle.membership_view.specs.Views.{dying_version, first_views, joining_version, leaving_version, most_known, row_of, status_at, view_at, views_from};
 ghost use Rattle.membership_view.specs.Whole.{IsViews, OlderAreDead};
 ghost use Rattle.membership_view.specs.declared.row.Row.{Row as RowSeen};
 ghost use Rattle.membership_view.specs.declared.status.Status.TheVariants.{Active, Dead};
@@ -16,13 +18,18 @@ use std::collections::BTreeMap;
 use std::collections::btree_map::Iter;
 use std::marker::Model;
 
-/// The greatest number of silos that may ever join.
-pub const MAX_SILOS: usize = 65_536;
+/// The greatest number of silos that may be known: 2^62 - 1.
+pub const MAX_SILOS: usize = (1 << 62) - 1;
 
-/// All views so far. Version 0 is the empty view; each accepted change makes the next version (`docs/RULES.md#membership`).
+/// The greatest version with which views may begin: 2^62 - 1.
+pub const MAX_FIRST: u64 = (1 << 62) - 1;
+
+/// All views from a first version on. That is version 0, the empty view, or a later one, of which only is known what it lists. Each
+/// accepted change makes the next version (`docs/RULES.md#membership`).
 #[derive(Drop)]
 pub struct Views {
     limit: usize,
+    first: u64,
     version: u64,
     rows: BTreeMap<SiloAddress, Row>,
 }
@@ -34,9 +41,9 @@ impl Model for Views {
 
     ghost use Rattle.membership_view.specs.Whole.{IsViews};
 
-    ghost view = { λ v. record { limit = v.limit; version = v.version; rows = v.rows.entries } };
+    ghost view = { λ v. record { limit = v.limit; first = v.first; version = v.version; rows = v.rows.entries } };
 
-    ghost invariant = { λ v. IsViews (record { limit = v.limit; version = v.version; rows = v.rows.entries }) };
+    ghost invariant = { λ v. IsViews (record { limit = v.limit; first = v.first; version = v.version; rows = v.rows.entries }) };
 }
 
 /// The outcome of a join.
@@ -49,7 +56,7 @@ pub struct Joined {
 }
 
 impl Views {
-    /// Version 0 alone, the empty view. At most `limit` silos (1 to 65,536) may ever join.
+    /// Version 0 alone, the empty view. At most `limit` silos (1 to 2^62 - 1) may ever join.
     pub fn new(alloc: Global, limit: usize) -> Views
         requires limit_above { 0 < limit }
         requires limit_below { limit ≤ MAX_SILOS }
@@ -57,9 +64,78 @@ impl Views {
     {
         Views {
             limit,
+            first: 0,
             version: 0,
             rows: BTreeMap::new(alloc),
         }
+    }
+
+    /// A later version alone, which lists nobody yet; `list` adds whom it lists. At most `limit` silos (1 to 2^62 - 1) may be known.
+    /// Refused by 210 where the version is above 2^62 - 1.
+    pub fn beginning(alloc: Global, limit: usize, version: u64) -> Result<Views, ViewsError>
+        requires limit_above { 0 < limit }
+        requires limit_below { limit ≤ MAX_SILOS }
+        ensures begun { IfOk result (λ views. views ≡ views_from limit version) }
+        ensures not_listable { IsErrOf result ViewsError.NotListable ↔ ¬ (version < most_known) }
+        ensures only { IfErr result (λ refusal. refusal ≡ ViewsError.NotListable) }
+    {
+        if version > MAX_FIRST {
+            return Err(ViewsError::NotListable);
+        }
+        Ok(Views {
+            limit,
+            first: version,
+            version,
+            rows: BTreeMap::new(alloc),
+        })
+    }
+
+    /// The first version lists a silo, and what it is there. Refused by 210 where that is version 0, or where a silo of its endpoint is
+    /// known, since one of each endpoint is listed; then by 205 where as many silos are known as may be
+    /// (`docs/RULES.md#membership`).
+    pub fn list(&mut self, silo: SiloAddress, status: Status) -> Result<(), ViewsError>
+        ensures listed { OnOk result (after_listing self.old silo status ≡ Ok self.new) }
+
+        // Memory runs out only at a silo that nothing refuses.
+        ensures refused { IfErr result (RefusesListing self.old silo status) }
+        ensures unchanged { OnErr result (self.new ≡ self.old) }
+    {
+        self.may_list(&silo)?;
+        match self.put_listed(silo, status) {
+            Ok(()) => Ok(()),
+            Err(_) => Err(ViewsError::OutOfMemory),
+        }
+    }
+
+    /// Whether the first version may list a silo: fails as `list` would, whatever the silo is there. Needs no memory.
+    pub fn may_list(&self, silo: &SiloAddress) -> Result<(), ViewsError>
+        ensures lists { OnOk result ((status : StatusSeen) → after_listing self.now silo.now status ≡ Ok (with_listed self.now silo.now status)) }
+        ensures later { OnOk result (0 < self.now.first) }
+        ensures apart { OnOk result (is_known_endpoint silo.now self.now.rows ≡ false) }
+        ensures room { OnOk result (length self.now.rows < self.now.limit) }
+        ensures refused { IfErr result (λ refusal. IsSomeAnd (views_error_number refusal) (λ number. (status : StatusSeen) → after_listing self.now silo.now status ≡ Err number)) }
+    {
+        if self.first == 0 || endpoint::is_known(&self.rows, silo) {
+            return Err(ViewsError::NotListable);
+        }
+        if self.limit <= self.rows.len() {
+            return Err(ViewsError::RowsFull);
+        }
+        Ok(())
+    }
+
+    /// Whether every silo of this one's endpoint that is known has a lower generation.
+    pub fn is_newest(&self, silo: &SiloAddress) -> bool
+        ensures { result ≡ is_newest silo.now self.now.rows }
+    {
+        endpoint::is_newest(&self.rows, silo)
+    }
+
+    /// The version with which these views begin.
+    pub fn first(&self) -> u64
+        ensures { result ≡ self.now.first }
+    {
+        self.first
     }
 
     /// The current version.
@@ -69,21 +145,21 @@ impl Views {
         self.version
     }
 
-    /// How many silos may ever join.
+    /// How many silos may be known.
     pub fn limit(&self) -> usize
         ensures { result ≡ self.now.limit }
     {
         self.limit
     }
 
-    /// How many silos have ever joined.
+    /// How many silos are known.
     pub fn row_count(&self) -> usize
         ensures { result ≡ length self.now.rows }
     {
         self.rows.len()
     }
 
-    /// The row of each silo that has ever joined, by address.
+    /// The row of each silo that is known, by address.
     pub fn rows(&self) -> Iter<'_, SiloAddress, Row>
         ensures rest { result ≡ self.now.rows }
         ensures runs { ShowsInOrder (deref_pair {K = Silo} {X = RowSeen}) }
@@ -91,35 +167,36 @@ impl Views {
         self.rows.iter()
     }
 
-    /// The row of a silo; `None` where it never joined.
+    /// The row of a silo; `None` where it isn't known.
     pub fn row(&self, silo: &SiloAddress) -> Option<Row>
         ensures { result ≡ row_of self.now silo.now }
     {
         self.rows.get(silo).copied()
     }
 
-    /// The version in which a silo joined; `None` where it never did.
+    /// The version in which a silo joined, or the first one where that lists it; `None` where it isn't known.
     pub fn joined_at(&self, silo: &SiloAddress) -> Option<u64>
         ensures { result ≡ joining_version self.now silo.now }
     {
         Some(self.row(silo)?.joined)
     }
 
-    /// The version in which a silo became Leaving; `None` where it never did.
+    /// The version in which a silo became Leaving, or the first one; `None` where it never did.
     pub fn left_at(&self, silo: &SiloAddress) -> Option<u64>
         ensures { result ≡ leaving_version self.now silo.now }
     {
         self.row(silo)?.left
     }
 
-    /// The version in which a silo became Dead; `None` where it never did.
+    /// The version in which a silo became Dead, or the first one; `None` where it never did.
     pub fn dead_at(&self, silo: &SiloAddress) -> Option<u64>
         ensures { result ≡ dying_version self.now silo.now }
     {
         self.row(silo)?.dead
     }
 
-    /// The status of a silo in the view of a version; `None` if it had not joined by then, or that version has not been made.
+    /// The status of a silo in a version, as its row tells it; `None` where it isn't known or had not joined by then, or that version has
+    /// not been made.
     pub fn status(&self, version: u64, silo: &SiloAddress) -> Option<Status>
         ensures { result ≡ status_at self.now version silo.now }
     {
@@ -149,8 +226,8 @@ impl Views {
     }
 
     /// A silo joins; an older one of its endpoint that isn't Dead becomes Dead in the same version. Refused by 201 where a
-    /// silo of its endpoint with this generation or a higher one has ever joined, then by 205 where as many silos have joined
-    /// as ever may (`docs/RULES.md#membership`).
+    /// silo of its endpoint with this generation or a higher one has ever joined, then by 205 where as many silos are known
+    /// as may be (`docs/RULES.md#membership`).
     pub fn join(&mut self, silo: SiloAddress) -> Result<Joined, ViewsError>
         ensures joined { OnOk result (after self.old (Join silo) ≡ Ok self.new) }
         ensures version { IfOk result (λ joined. joined.version ≡ self.new.version) }
@@ -213,6 +290,19 @@ impl Views {
         }
     }
 
+    // A silo that may be listed is.
+    fn put_listed(&mut self, silo: SiloAddress, status: Status) -> Result<(), AllocError>
+        requires later { 0 < self.old.first }
+        requires apart { is_known_endpoint silo self.old.rows ≡ false }
+        requires room { length self.old.rows < self.old.limit }
+        ensures ok { OnOk result (self.new ≡ with_listed self.old silo status) }
+        ensures err { OnErr result (self.new ≡ self.old) }
+    {
+        let row = Row::beginning(self.first, status);
+        self.rows.insert(silo, row)?;
+        Ok(())
+    }
+
     // A silo that may join joins.
     fn admit(&mut self, silo: SiloAddress) -> Result<Joined, AllocError>
         requires newest { is_newest silo self.old.rows ≡ true }
@@ -267,16 +357,18 @@ impl Views {
         let rows = self.rows.clone()?;
         Ok(Views {
             limit: self.limit,
+            first: self.first,
             version: self.version,
             rows,
         })
     }
 
-    /// Whether both have the same limit, version and rows.
+    /// Whether both have the same limit, versions and rows.
     pub fn same(&self, other: &Views) -> bool
         ensures { IsTrue result ↔ (self.now ≡ other.now) }
     {
         self.limit == other.limit
+            && self.first == other.first
             && self.version == other.version
             && same_rows(&self.rows, &other.rows)
     }

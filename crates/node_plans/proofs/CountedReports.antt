@@ -5,7 +5,7 @@ use Rattle.std.specs.Ordering.{nat_cmp}
 use Rattle.std.specs.Map.{keys_of, lookup, remove_entry}
 use Rattle.std.specs.BTreeMap.{is_at, insert_entry}
 use Rattle.directory_rules.specs.State.{Node, Recovery, Report}
-use Rattle.directory_rules.specs.Recovery.{Recovered, Awaits_more, Has_union, Rejects, recovered, with_report, new_recovery}
+use Rattle.directory_rules.specs.Recovery.{Recovered, Has_more, Awaits_more, Has_union, Rejects, recovered, with_report, new_recovery}
 use Rattle.directory_rules.specs.Transfer.{recovered_by, with_settled}
 use Rattle.directory_rules.specs.Sent.{recovery_of}
 use Rattle.directory_rules.specs.Step.{Stepped}
@@ -17,7 +17,7 @@ use Rattle.node_plans.proofs.Values.{insert_entry-there, remove-set_value}
 use Rattle.node_plans.specs.Node.{HaveRecoveries, IsNode}
 use Rattle.range_recovery.specs.declared.RecoveryProgress.TheVariants.{Complete}
 use Rattle.range_recovery.specs.Progress.{progress_of}
-use Rattle.node_plans.proofs.TakenReports.{IsTaken, taken_is, with_taken}
+use Rattle.node_plans.proofs.TakenReports.{IsTaken, same_range, taken_is, with_taken}
 use Rattle.node_plans.proofs.Reports.{RecoversPiece, its_recovery, taken_keeps}
 
 -- what the report does to the recoveries of the node
@@ -38,6 +38,8 @@ still_serve : (node : Node) (report : Report) (r : Recovery) (outcome : Recovere
     → lookup (is_at (nat_cmp report.range.start)) node.recoveries ≡ Some r
     → HaveRecoveries node.holding.pieces node.recoveries → IsTaken outcome r report node.recoveries new complete
     → HaveRecoveries node.holding.pieces new
+still_serve node report r (Has_more more) new complete there have is =
+    subst (λ l. HaveRecoveries node.holding.pieces l) (sym is.1.1) (taken_keeps node.holding.pieces node.recoveries r report there have)
 still_serve node report r (Awaits_more more) new complete there have is =
     subst (λ l. HaveRecoveries node.holding.pieces l) (sym is.1.1) (taken_keeps node.holding.pieces node.recoveries r report there have)
 still_serve node report r (Has_union table) new complete there have is =
@@ -61,24 +63,33 @@ kept_by_taking node report complete new is piece takes =
 
 -- what comes of a report, in the rule's words
 abbrev pub counted : Node → Report → Stepped
-counted node report = recovered_by (recovered (recovery_of node report.range) report) report.range node
+counted node report = recovered_by (recovered (recovery_of node report.range) report) report node
 
 -- it is what comes of it by the recovery that is there
 pub counted_is : (node : Node) (report : Report) (r : Recovery) → lookup (is_at (nat_cmp report.range.start)) node.recoveries ≡ Some r
-    → counted node report ≡ recovered_by (recovered r report) report.range node
+    → counted node report ≡ recovered_by (recovered r report) report node
 counted_is node report r there =
-    ap (λ o. recovered_by (recovered (unwrap_or o (new_recovery node.view report.range)) report) report.range node) there
+    ap (λ o. recovered_by (recovered (unwrap_or o (new_recovery node.view report.range)) report) report node) there
 
--- more are awaited, or nothing was taken
+-- what was taken stands where the recovery stood
+put_back : (node : Node) (report : Report) (r more : Recovery) (new : List (ℕ × Recovery))
+    → IsStrictlySortedBy nat_cmp (keys_of node.recoveries) → lookup (is_at (nat_cmp report.range.start)) node.recoveries ≡ Some r
+    → r.range ≡ report.range → more ≡ with_report r report → new ≡ with_taken r report node.recoveries
+    → new ≡ insert_entry nat_cmp node.recoveries more.range.start more
+put_back node report r more new sorted there range taken is =
+    is ∙ sym (insert_entry-there report.range.start (with_report r report) r node.recoveries sorted there)
+    ∙ ap (λ (x : Range). insert_entry nat_cmp node.recoveries x.start (with_report r report)) (sym (same_range r report ∙ range))
+    ∙ ap (λ (m : Recovery). insert_entry nat_cmp node.recoveries m.range.start m) (sym taken)
+
+-- its silo has more to tell, more are awaited, or nothing was taken
 by_more : (node : Node) (report : Report) (r : Recovery) (outcome : Recovered) (new : List (ℕ × Recovery))
     → IsStrictlySortedBy nat_cmp (keys_of node.recoveries) → lookup (is_at (nat_cmp report.range.start)) node.recoveries ≡ Some r
     → r.range ≡ report.range → IsTaken outcome r report node.recoveries new false
-    → record node { recoveries = new } ≡ (recovered_by outcome report.range node).node
+    → record node { recoveries = new } ≡ (recovered_by outcome report node).node
+by_more node report r (Has_more more) new sorted there range is =
+    ap (λ l. record node { recoveries = l }) (put_back node report r more new sorted there range is.1.0 is.1.1)
 by_more node report r (Awaits_more more) new sorted there range is =
-    ap (λ l. record node { recoveries = l }) (is.1.1
-    ∙ sym (insert_entry-there report.range.start (with_report r report) r node.recoveries sorted there)
-    ∙ ap (λ (s : ℕ). insert_entry nat_cmp node.recoveries s (with_report r report)) (ap (λ (x : Range). x.start) (sym range))
-    ∙ ap (λ (m : Recovery). insert_entry nat_cmp node.recoveries m.range.start m) (sym is.1.0))
+    ap (λ l. record node { recoveries = l }) (put_back node report r more new sorted there range is.1.0 is.1.1)
 by_more node report r (Has_union table) new sorted there range is = absurd (cc (is.0))
 by_more node report r (Rejects number) new sorted there range is = ap (λ l. record node { recoveries = l }) is.1
 
@@ -95,7 +106,8 @@ left_by_more node report new is sorted piece takes =
 by_union : (node : Node) (report : Report) (r : Recovery) (outcome : Recovered) (new : List (ℕ × Recovery))
     → IsTaken outcome r report node.recoveries new true
     → with_settled (record node { recoveries = new }) report.range (with_report r report).gathered
-    ≡ (recovered_by outcome report.range node).node
+    ≡ (recovered_by outcome report node).node
+by_union node report r (Has_more more) new is = absurd (cc (is.0))
 by_union node report r (Awaits_more more) new is = absurd (cc (is.0))
 by_union node report r (Has_union table) new is =
     ap (λ l. record (with_settled node report.range (with_report r report).gathered) { recoveries = l })
@@ -108,6 +120,7 @@ by_union node report r (Rejects number) new is = absurd (cc (is.0))
 found_union : (node : Node) (report : Report) (r : Recovery) (outcome : Recovered) (new : List (ℕ × Recovery))
     → lookup (is_at (nat_cmp report.range.start)) node.recoveries ≡ Some r
     → IsTaken outcome r report node.recoveries new true → lookup (is_at (nat_cmp report.range.start)) new ≡ Some (with_report r report)
+found_union node report r (Has_more more) new there is = absurd (cc (is.0))
 found_union node report r (Awaits_more more) new there is = absurd (cc (is.0))
 found_union node report r (Has_union table) new there is =
     ap (λ l. lookup (is_at (nat_cmp report.range.start)) l) is.1.1

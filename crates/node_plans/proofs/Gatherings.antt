@@ -1,6 +1,6 @@
 -- What is gathered and reported, found again where it was put, and what a node sends then.
 use Rattle.std.proofs.Common.{arith, ◌≡◌, ◌-◌, refl, sym, subst, ap, ◌∙◌, ℕ, List, [], ◌∷◌, ◌++◌}
-use Rattle.std.specs.Prelude.{Bool, true, false, cond, ◌&&◌, ◌==◌, ◌+◌, All, Option, Some, None, Ok, Err, IsSomeAnd, map, length, slice_index_or}
+use Rattle.std.specs.Prelude.{Bool, true, false, cond, ◌&&◌, ◌==◌, ◌+◌, All, Option, Some, None, Ok, Err, IsSomeAnd, length, slice_index_or}
 use Rattle.std.specs.Option.{unwrap_or}
 use Rattle.std.specs.Ordering.{is_eq, nat_cmp}
 use Rattle.std.proofs.lemmas.List.{length-map}
@@ -25,12 +25,13 @@ use Rattle.directory_rules.specs.Table.{is_before_first, rise_by_grain, table_of
 use Rattle.directory_rules.specs.Transfer.{answer_to, awaits, gathered_by, has_range, is_awaiting_from, is_page_awaited, missing, paged, piece_at, querying, turned_to_recovery, with_gathering, with_settled}
 use Rattle.grain_partition.specs.Holdings.{HasPiece}
 use Rattle.node_plans.specs.Plans.{recovering_by}
+use Rattle.node_plans.specs.Sender.{queries_of}
 use Rattle.seal_snapshot.specs.Progress.{progress_of}
 use Rattle.seal_snapshot.specs.declared.progress.GatheringProgress.TheVariants.{Complete}
 use Rattle.node_plans.proofs.Pages.{WantsMore, has_all, is_wrong}
 
 -- what was put under a start is there
-put_is_there : {X : Type 0} (start : ℕ) (value other : X) (es : List (ℕ × X))
+pub put_is_there : {X : Type 0} (start : ℕ) (value other : X) (es : List (ℕ × X))
     → unwrap_or (lookup (is_at (nat_cmp start)) (insert_entry nat_cmp es start value)) other ≡ value
 put_is_there start value other es =
     ap (λ o. unwrap_or o other) (lookup-insert_entry nat_cmp_total start value start es
@@ -67,15 +68,13 @@ pub missing_planned : (node : Node) (range : Range)
     → querying range (turned_to_recovery node range)
     ≡ record {
       node = recovering_by node (new_recovery node.view range);
-      letters = map (λ silo. letter_to silo node (Query_letter range))
-          (members_of node.view);
+      letters = queries_of node range (new_recovery node.view range);
       effect = effect.Recovering;
     }
 missing_planned node range =
     ap (λ (r : Recovery). record {
       node = recovering_by node (new_recovery node.view range);
-      letters = map
-          (λ silo. letter_to silo node (Query_letter range)) r.awaiting;
+      letters = queries_of node range r;
       effect = effect.Recovering;
     })
     (put_is_there range.start (new_recovery node.view range) (new_recovery node.view range) node.recoveries)
@@ -117,8 +116,7 @@ pub missing_is : (node : Node) (letter : Letter) (range : Range) → awaits node
     → missing node letter range
     ≡ record {
       node = recovering_by node (new_recovery node.view range);
-      letters = map (λ silo. letter_to silo node (Query_letter range))
-          (members_of node.view);
+      letters = queries_of node range (new_recovery node.view range);
       effect = effect.Recovering;
     }
 missing_is node letter range awaited =
@@ -128,7 +126,7 @@ pub missing_count : (node : Node) (letter : Letter) (range : Range) → awaits n
     → length (missing node letter range).letters ≡ length (members_of node.view)
 missing_count node letter range awaited =
     ap (λ (s : Stepped). length s.letters) (missing_is node letter range awaited)
-    ∙ length-map (members_of node.view) (λ silo. letter_to silo node (Query_letter range))
+    ∙ length-map (members_of node.view) (λ silo. letter_to silo node (Query_letter range None))
 
 -- what comes of the last page
 pub installed : (node : Node) (g : Gathering) (page : Page) (letter : Letter) (entries : Table)

@@ -3,6 +3,7 @@ pub mod Numbers
 mod TakenReports
 pub mod Reports
 pub mod CountedReports
+pub mod AskedOn
 pub mod Values
 pub mod Pages
 pub mod Gatherings

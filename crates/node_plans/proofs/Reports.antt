@@ -1,6 +1,7 @@
 -- A report that counts finds the piece that recovers, and its recovery.
 use Rattle.std.proofs.Common.{◌≡◌, refl, sym, ap, ◌∙◌, ℕ, List}
-use Rattle.std.specs.Prelude.{true, cond, Option, Some, None, length}
+use Rattle.std.specs.Prelude.{true, Option, Some, None}
+use Rattle.std.specs.Option.{unwrap_or}
 use Rattle.std.specs.Ordering.{nat_cmp}
 use Rattle.std.specs.Map.{lookup}
 use Rattle.std.specs.BTreeMap.{is_at}
@@ -9,17 +10,16 @@ use Rattle.ring_range.proofs.Same.{Decides-range}
 use Rattle.directory_rules.specs.declared.PieceState.{PieceState}
 use Rattle.directory_rules.specs.declared.PieceState.TheVariants.{Settled, Awaiting, Recovering}
 use Rattle.directory_rules.specs.State.{Piece, Letter, Recovery, Report, Node}
-use Rattle.directory_rules.specs.declared.Effect.TheVariants.{Ignored}
-use Rattle.directory_rules.specs.Recovery.{Recovered, Awaits_more, Has_union, Rejects, recovered, with_report}
+use Rattle.directory_rules.specs.Recovery.{new_recovery, with_report}
 use Rattle.directory_rules.specs.Sent.{recovery_of}
-use Rattle.directory_rules.specs.Step.{silently}
-use Rattle.directory_rules.specs.Transfer.{has_range, is_recovering, is_report_awaited, piece_at, recovered_by, reported}
+use Rattle.directory_rules.specs.Transfer.{has_range, is_recovering, is_report_awaited, piece_at}
+use Rattle.directory_rules.proofs.ReportCounts.{report_counts}
 use Rattle.std.proofs.lemmas.Map.Lookups.{exact_unsigned}
 use Rattle.std.proofs.lemmas.Bool.{and_parts}
 use Rattle.texts.proofs.Orderings.{Equal-from}
 use Rattle.directory_rules.proofs.Cases.{on_bool}
 use Rattle.node_plans.proofs.Kept.{apart_from, other_than_written, written_is_found}
-use Rattle.node_plans.proofs.TakenReports.{with_taken}
+use Rattle.node_plans.proofs.TakenReports.{same_range, with_taken}
 use Rattle.node_plans.specs.Node.{HasRecovery, HaveRecoveries, IsNode}
 
 recovering_is : (state : PieceState) → is_recovering state ≡ true → state ≡ Recovering
@@ -73,7 +73,7 @@ taken_keeps pieces recoveries recovery report there have start piece found recov
       there =
           ap (λ s. lookup (is_at (nat_cmp s)) (with_taken recovery report recoveries)) (sym same)
           ∙ written_is_found (is_at (nat_cmp report.range.start)) recoveries (with_report recovery report) recovery there;
-      its_range = ap (λ (r : Recovery). r.range) (sym one) ∙ had.its_range;
+      its_range = same_range recovery report ∙ ap (λ (r : Recovery). r.range) (sym one) ∙ had.its_range;
     })
     (λ f. record {
       recovery = had.recovery;
@@ -83,16 +83,13 @@ taken_keeps pieces recoveries recovery report there have start piece found recov
       its_range = had.its_range;
     })
 
--- A report is answered by no letter.
+-- where a report counts, the piece recovers
+pub counts_where : (node : Node) (letter : Letter) (report : Report) → is_report_awaited node letter report ≡ true
+    → has_range is_recovering report.range (piece_at node report.range) ≡ true
+counts_where node letter report awaited = (and_parts _ _ (report_counts node letter report awaited).waits).1
 
-by_outcome : (outcome : Recovered) (range : Range) (node : Node) → length (recovered_by outcome range node).letters ≡ 0
-by_outcome (Awaits_more recovery) range node = refl
-by_outcome (Has_union table) range node = refl
-by_outcome (Rejects number) range node = refl
-
-pub answered_by_none : (node : Node) (letter : Letter) (report : Report) → length (reported node letter report).letters ≡ 0
-answered_by_none node letter report =
-    on_bool (λ b. length (cond b (recovered_by (recovered (recovery_of node report.range) report) report.range node)
-    (silently node Ignored)).letters ≡ 0) (is_report_awaited node letter report)
-    (λ t. by_outcome (recovered (recovery_of node report.range) report) report.range node)
-    (λ f. refl)
+-- the recovery that is found is the range's
+pub found_is : (one other : Node) (range : Range) (recovery : Recovery) → one ≡ other
+    → lookup (is_at (nat_cmp range.start)) one.recoveries ≡ Some recovery → recovery ≡ recovery_of other range
+found_is one other range recovery same found =
+    sym (ap (λ o. unwrap_or o (new_recovery one.view range)) found) ∙ ap (λ (n : Node). recovery_of n range) same

@@ -10,7 +10,7 @@ use Rattle.directory_rules.specs.declared.PieceState.TheVariants.{Recovering}
 use Rattle.directory_rules.specs.Cache.{cache_seeing, learnt, without_pair}
 use Rattle.directory_rules.specs.Gatherings.{gathered, new_gathering, with_page}
 use Rattle.directory_rules.specs.Host.{asking_under, closing_under, has_numbers, held_of, outstanding, renewed, renewed_about, requests_about, with_find, with_started, without_find, without_held}
-use Rattle.directory_rules.specs.State.{Body, Request_letter, Reply_letter, Ask_letter, Page_letter, Missing_letter, Done_letter, Query_letter, Report_letter, Behind_letter, Ahead_letter, Offer_letter, Node, Recovery, Piece, Page}
+use Rattle.directory_rules.specs.State.{Body, Request_letter, Reply_letter, Ask_letter, Page_letter, Missing_letter, Done_letter, Query_letter, Report_letter, Behind_letter, Ahead_letter, Offer_letter, Letter, Node, Recovery, Piece, Page}
 use Rattle.directory_rules.specs.Members.{members_of}
 use Rattle.directory_rules.specs.Recovery.{recovered}
 use Rattle.directory_rules.specs.Reply.{confirmed_by, yielded_by}
@@ -19,18 +19,19 @@ use Rattle.directory_rules.specs.Sight.{pieces_after, sealed, shelf_after}
 use Rattle.directory_rules.specs.Snapshot.{shelf_without}
 use Rattle.directory_rules.specs.Step.{Stepped, new_gatherings, new_recoveries, with_one_closing}
 use Rattle.directory_rules.specs.Table.{rise_by_grain}
-use Rattle.directory_rules.specs.Transfer.{has_range, is_recovering, piece_at, recovered_by, with_gathering, with_recovery, with_settled, with_state}
+use Rattle.directory_rules.specs.Transfer.{has_range, is_recovering, piece_at, recovered_by, reported, with_gathering, with_recovery, with_settled, with_state}
 use Rattle.grain_partition.specs.Holdings.{HasPiece}
 use Rattle.grain_partition.specs.Sight.{AreOfRings}
 use Rattle.host_activations.specs.Renewal.{renewal_of}
 use Rattle.host_activations.specs.declared.asked.OutstandingRequest.{OutstandingRequest}
 use Rattle.lookup_cache.specs.Used.{used}
 use Rattle.seal_snapshot.specs.Progress.{progress_of}
+use Rattle.seal_snapshot.specs.Shelf.{IsDigestFor}
 use Rattle.seal_snapshot.specs.declared.progress.GatheringProgress.TheVariants.{More}
 use Rattle.node_plans.specs.declared.plan.Plan.{Plan}
 use Rattle.node_plans.specs.declared.plan.Sight.{Sight}
 use Rattle.node_plans.specs.declared.plan.Change.{Change}
-use Rattle.node_plans.specs.declared.plan.Change.TheVariants.{Nothing, Sees, Renews, RenewsAbout, Starts, Closes, Asks, Serves, Confirms, Yields, Ends, EndsFind, Learns, UsesHint, Forgets, Discards, Gathers, GathersAnew, Installs, Recovers, Counts}
+use Rattle.node_plans.specs.declared.plan.Change.TheVariants.{Nothing, Sees, Renews, RenewsAbout, Starts, Closes, Asks, Serves, Confirms, Yields, Ends, EndsFind, Learns, UsesHint, Forgets, Discards, Digests, Gathers, GathersAnew, Installs, Recovers, Counts}
 
 -- without the activation, if there is one
 abbrev pub without : Option (Grain × Held) → Node → Node
@@ -83,11 +84,12 @@ changed (Learns number entry) node = record node { host = without_find node.host
 changed (UsesHint grain) node = record node { cache = used node.cache grain }
 changed (Forgets grain activation) node = record node { cache = without_pair node.cache grain activation }
 changed (Discards version range to) node = record node { shelf = shelf_without node.shelf version range to }
+changed (Digests version range to digest) node = node
 changed (Gathers page) node = with_gathering node (with_page (gathering_of node page.range) page)
 changed (GathersAnew range) node = with_gathering node (new_gathering (gathering_of node range).version range)
 changed (Installs range entries) node = with_settled node range entries.entries
 changed (Recovers recovery) node = recovering_by node recovery
-changed (Counts report) node = (recovered_by (recovered (recovery_of node report.range) report) report.range node).node
+changed (Counts report) node = (recovered_by (recovered (recovery_of node report.range) report) report node).node
 
 -- an activation may begin: there is none of the grain, and a number and a count are left
 pub record MayStart (node : Node) (grain : Grain) : Type 0 where
@@ -119,8 +121,8 @@ pub record FitsSight (sight : Sight) (node : Node) : Type 0 where
   pub recoveries : sight.recoveries.entries ≡ new_recoveries sight.view (pieces_by sight node)
   pub renewal : MayRenew node sight.renewal
 
--- what a change asks of its node: entries and recoveries are for a piece that is there, and a report counts where the piece
--- recovers
+-- what a change asks of its node: a digest is the snapshot's, entries and recoveries are for a piece that is there, and a report counts
+-- where the piece recovers
 abbrev pub Fits : Change → Node → Type 0
 Fits Nothing node = Unit {0}
 Fits (Sees sight) node = FitsSight sight.value node
@@ -138,6 +140,7 @@ Fits (Learns number entry) node = Unit {0}
 Fits (UsesHint grain) node = Unit {0}
 Fits (Forgets grain activation) node = Unit {0}
 Fits (Discards version range to) node = Unit {0}
+Fits (Digests version range to digest) node = IsDigestFor version range to node.shelf digest
 Fits (Gathers page) node = GoesOn node page
 Fits (GathersAnew range) node = Unit {0}
 Fits (Installs range entries) node = HasPiece range node.holding.pieces
@@ -148,20 +151,20 @@ Fits (Counts report) node = has_range is_recovering report.range (piece_at node 
 abbrev pub step_by : Node → Plan → Stepped
 step_by node plan = record { node = changed plan.change node; letters = plan.letters.items; effect = plan.effect }
 
--- how many letters a node sends by a letter for which it needs memory: a report is answered by none, and where a snapshot is
--- missing all silos are asked
-abbrev pub answer_count : Node → Body → ℕ
-answer_count node (Request_letter request) = 1
-answer_count node (Reply_letter number reply) = 1
-answer_count node (Ask_letter range page) = 1
-answer_count node (Page_letter page) = 1
-answer_count node (Missing_letter range) = length (members_of node.view)
-answer_count node (Done_letter range) = 1
-answer_count node (Query_letter range) = 1
-answer_count node (Report_letter report) = 0
-answer_count node (Behind_letter range) = 1
-answer_count node (Ahead_letter range) = 1
-answer_count node (Offer_letter entry) = 1
+-- how many letters a node sends by a letter for which it needs memory: by a report none, or one where its silo is asked on, and where a
+-- snapshot is missing all silos are asked
+abbrev pub answer_count : Node → Letter → Body → ℕ
+answer_count node letter (Request_letter request) = 1
+answer_count node letter (Reply_letter number reply) = 1
+answer_count node letter (Ask_letter range page) = 1
+answer_count node letter (Page_letter page) = 1
+answer_count node letter (Missing_letter range) = length (members_of node.view)
+answer_count node letter (Done_letter range) = 1
+answer_count node letter (Query_letter range after) = 1
+answer_count node letter (Report_letter report) = length (reported node letter report).letters
+answer_count node letter (Behind_letter range) = 1
+answer_count node letter (Ahead_letter range) = 1
+answer_count node letter (Offer_letter entry) = 1
 
 -- the step isn't refused, and sends so many letters
 abbrev pub Sends : ℕ → Result Stepped ℕ → Type 0

@@ -1,8 +1,10 @@
 -- Whose letters a sender writes.
-use Rattle.std.specs.Prelude.{ℕ, List, [], flat_map}
+use Rattle.std.specs.Prelude.{ℕ, List, [], flat_map, map}
+use Rattle.ring_range.specs.Range.{Range}
 use Rattle.directory_rules.specs.Cache.{new_cache}
-use Rattle.directory_rules.specs.State.{Letter, Node, Piece}
-use Rattle.directory_rules.specs.Sent.{wants_by}
+use Rattle.directory_rules.specs.State.{Letter, Node, Piece, Query_letter, Recovery}
+use Rattle.directory_rules.specs.Recovery.{told_by}
+use Rattle.directory_rules.specs.Sent.{letter_to, wants_by}
 use Rattle.node_plans.specs.declared.plan.Sight.{Sight}
 use Rattle.node_plans.specs.declared.senders.Sender.{Sender}
 
@@ -23,6 +25,10 @@ sending s = record {
   host = s.host.now;
   cache = new_cache 0;
 }
+
+-- a query for the range to each silo that the recovery awaits, by address, behind what it has told there
+abbrev pub queries_of : Node → Range → Recovery → List Letter
+queries_of node range recovery = map (λ silo. letter_to silo node (Query_letter range (told_by silo recovery))) recovery.awaiting
 
 -- what such pieces of a node want
 abbrev pub wants_of : Node → List (ℕ × Piece) → List Letter

@@ -27,7 +27,7 @@ pub use effects::{offer_effect, reply_effect, seen_effect};
 pub use gathered::{gather_among, gather_anew_among, same_gatherings};
 pub use input::Input;
 pub use members::member_count;
-pub use order::{are_all_of, go_on, lie_in, rise_by_grain, table_of};
+pub use order::{are_all_of, go_on, lie_in, rise_behind, rise_by_grain, table_of};
 pub use plan::{Change, Plan, Sight, list_of};
 pub use recoveries::{same_recoveries, take_report};
 pub use refusal::StepRefusal;

@@ -78,6 +78,13 @@ pub enum Change {
         range: RingRange,
         to: SiloAddress,
     },
+    /// The digest of the snapshot of that version and range for that silo is kept, if it's on the shelf.
+    Digests {
+        version: u64,
+        range: RingRange,
+        to: SiloAddress,
+        digest: [u8; 32],
+    },
     /// A page is put behind those gathered for its piece.
     Gathers(Page),
     /// Nothing is left of what was gathered for the piece of the range.

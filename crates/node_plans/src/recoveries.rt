@@ -12,7 +12,7 @@ use range_recovery::{Recovery, RecoveryError, RecoveryProgress, Report};
 use std::alloc::AllocError;
 use std::collections::BTreeMap;
 
-/// The report goes to the recovery of its range, if there is one: whether all have reported now. Fails only when memory runs out, and
+/// The report goes to the recovery of its range, if there is one: whether all have told all now. Fails only when memory runs out, and
 /// then changes nothing.
 pub fn take_report(
     recoveries: &mut BTreeMap<u32, Recovery>,
@@ -36,10 +36,12 @@ pub fn take_report(
     };
     match recovery.take(report) {
         Ok(RecoveryProgress::Complete) => Ok(true),
+        Ok(RecoveryProgress::Continues) => Ok(false),
         Ok(RecoveryProgress::More) => Ok(false),
         Err(RecoveryError::WrongVersion) => Ok(false),
         Err(RecoveryError::Stranger) => Ok(false),
         Err(RecoveryError::Twice) => Ok(false),
+        Err(RecoveryError::OutOfTurn) => Ok(false),
         Err(RecoveryError::OutOfMemory) => Err(AllocError),
     }
 }

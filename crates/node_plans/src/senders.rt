@@ -1,10 +1,11 @@
 ghost use Rattle.std.specs.Map.Iter.{ShowsInOrder, deref_pair};
 ghost use Rattle.std.specs.List.{cons_option};
 ghost use Rattle.std.specs.Prelude.{◌≡◌, ◌++◌, ℕ, [], IfOk, OnErr, OnOk, flat_map, length, map};
-ghost use Rattle.directory_rules.specs.Sent.{ask_letters, gathering_of, letter_to, owner_by, query_letters, recovery_of, request_letters, request_of, wants_by};
+ghost use Rattle.directory_rules.specs.Recovery.{told_by};
+ghost use Rattle.directory_rules.specs.Sent.{ask_letters, gathering_of, letter_to, owner_by, query_letters, request_letters, request_of, wants_by};
 ghost use Rattle.directory_letters.specs.LetterModel.{body_of};
 ghost use Rattle.directory_rules.specs.State.{Query_letter, Piece as PieceValue};
-ghost use Rattle.node_plans.specs.Sender.{sending, wants_of};
+ghost use Rattle.node_plans.specs.Sender.{queries_of, sending, wants_of};
 
 use crate::plan::list_of;
 use directory_letters::{Body, Letter};
@@ -17,7 +18,7 @@ use membership_view::View;
 use range_recovery::Recovery;
 use ring_range::RingRange;
 use seal_snapshot::Gathering;
-use silo_address::SiloAddress;
+use silo_address::{GrainId, SiloAddress};
 use std::alloc::{AllocError, Global};
 use std::collections::BTreeMap;
 use std::collections::btree_map::Iter;
@@ -116,27 +117,35 @@ impl Sender<'_> {
 
 // Queries.
 impl Sender<'_> {
-    /// A query for the recovery's range to each silo whose report is missing, by address. Fails only when memory runs out.
+    /// A query for the recovery's range to each silo that is awaited, by address, behind what it has told. Fails only when memory
+    /// runs out.
     pub fn queries(&self, alloc: Global, recovery: &Recovery) -> Result<Vec<Letter>, AllocError>
-        ensures { IfOk result (λ letters. letters.items ≡ map (λ silo. letter_to silo (sending self.now) (Query_letter recovery.now.range)) recovery.now.awaiting) }
+        ensures { IfOk result (λ letters. letters.items ≡ queries_of (sending self.now) recovery.now.range recovery.now) }
     {
         let silos = recovery.awaiting(alloc)?;
-        self.queries_to(alloc, recovery.range(), &silos)
+        self.queries_to(alloc, recovery, &silos)
     }
 
-    // A query for the range to each of these silos.
+    // A query for the recovery's range to each of these silos.
     fn queries_to(
         &self,
         alloc: Global,
-        range: RingRange,
+        recovery: &Recovery,
         silos: &[SiloAddress],
     ) -> Result<Vec<Letter>, AllocError>
-        ensures { IfOk result (λ letters. letters.items ≡ map (λ silo. letter_to silo (sending self.now) (Query_letter range)) silos.now) }
+        ensures { IfOk result (λ letters. letters.items ≡ map (λ silo. letter_to silo (sending self.now) (Query_letter recovery.now.range (told_by silo recovery.now))) silos.now) }
     {
         silos
             .iter()
-            .map(|silo| self.letter_to(*silo, Body::Query(range)))
+            .map(|silo| self.query_behind(*silo, recovery.range(), recovery.told_by(silo)))
             .collect(alloc)
+    }
+
+    // A query to the silo for what stands in the range behind that grain, or from its start on.
+    fn query_behind(&self, silo: SiloAddress, range: RingRange, after: Option<GrainId>) -> Letter
+        ensures { result ≡ letter_to silo (sending self.now) (Query_letter range after) }
+    {
+        self.letter_to(silo, Body::Query { range, after })
     }
 }
 
@@ -268,7 +277,7 @@ impl Sender<'_> {
         }
     }
 
-    // A query to each silo whose report for the piece is missing.
+    // A query to each silo that is awaited for the piece.
     fn send_queries(
         &self,
         alloc: Global,
@@ -277,20 +286,29 @@ impl Sender<'_> {
     ) -> Result<(), AllocError>
         ensures { OnOk result (letters.new.items ≡ letters.old.items ++ query_letters (sending self.now) range) }
     {
-        let awaiting = self.awaited(alloc, range)?;
-        for silo in &awaiting {
-            letters.push(self.letter_to(*silo, Body::Query(range)))?;
+        match self.recoveries.get(&range.start()) {
+            Some(recovery) => self.send_each(alloc, letters, range, recovery),
+            None => {
+                let recovery = Recovery::new(alloc, self.settings, self.view, range)?;
+                self.send_each(alloc, letters, range, &recovery)
+            }
         }
-        Ok(())
     }
 
-    // The silos whose report for the piece is missing.
-    fn awaited(&self, alloc: Global, range: RingRange) -> Result<Vec<SiloAddress>, AllocError>
-        ensures { IfOk result (λ silos. silos.items ≡ (recovery_of (sending self.now) range).awaiting) }
+    // A query for the range to each silo that its recovery awaits, behind what it has told.
+    fn send_each(
+        &self,
+        alloc: Global,
+        letters: &mut Vec<Letter>,
+        range: RingRange,
+        recovery: &Recovery,
+    ) -> Result<(), AllocError>
+        ensures { OnOk result (letters.new.items ≡ letters.old.items ++ queries_of (sending self.now) range recovery.now) }
     {
-        match self.recoveries.get(&range.start()) {
-            Some(recovery) => recovery.awaiting(alloc),
-            None => { Recovery::new(alloc, self.settings, self.view, range)?.awaiting(alloc) }
+        let awaiting = recovery.awaiting(alloc)?;
+        for silo in &awaiting {
+            letters.push(self.query_behind(*silo, range, recovery.told_by(silo)))?;
         }
+        Ok(())
     }
 }

@@ -1,5 +1,5 @@
 //! A page in which one digit of a count is another one.
-use crate::made::{NEXT, OWNER, VERSION, page, range};
+use crate::made::{NEXT, OWNER, VERSION, page, range, short};
 use crate::samples::{activation, grain, silo};
 use seal_snapshot::{Gathering, GatheringError, GatheringProgress, Page, Snapshot};
 use silo_address::{ActivationId, Entry};
@@ -27,6 +27,7 @@ fn true_page(rt: &impl Abort, alloc: Global) -> Page {
             .expect(rt, "memory");
     }
     let (from, to) = (silo(rt, OWNER), silo(rt, NEXT));
+    let entries = short(rt, alloc, &entries);
     let snapshot = Snapshot::seal(VERSION, range(rt, 0), from, to, entries);
     page(rt, alloc, &snapshot, 0)
 }

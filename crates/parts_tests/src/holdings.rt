@@ -4,6 +4,7 @@
 ghost use Rattle.std.specs.Prelude.{IfOk};
 ghost use Rattle.grain_partition.specs.Sight.{AreOfRings};
 
+use crate::made::short;
 use crate::samples::{A, B, C, MANY, declare_dead, entry, grain, join, joined, range, silo, view};
 use crate::tables::{is_reply, put};
 use directory_rules::{Act, PieceState, Reply, Request};
@@ -237,14 +238,6 @@ fn seals(
     }
 }
 
-fn listed(rt: &impl Abort, alloc: Global, entry: &Entry) -> Vec<Entry> {
-    let mut entries = Vec::new(alloc);
-    if entries.push(*entry).is_err() {
-        entries.push(*entry).expect(rt, "memory");
-    }
-    entries
-}
-
 // What is hashed elsewhere stays, and so does what is on B, which is dead.
 #[test]
 fn a_sight_seals(rt: HostRuntime) {
@@ -253,7 +246,7 @@ fn a_sight_seals(rt: HostRuntime) {
     put(&rt, &mut entries, &entry(&rt, ("user/eve#80", B, 1)));
     let mut holding = alone(&rt, alloc, &[]);
     settle(&rt, &mut holding, "10+4294967296", entries);
-    let kept = listed(&rt, alloc, &entry(&rt, (BOB, A, 1)));
+    let kept = short(&rt, alloc, &[entry(&rt, (BOB, A, 1))]);
     let (silo, other) = (silo(&rt, A), silo(&rt, C));
     let want = Snapshot::seal(4, range(&rt, "60+40"), silo, other, kept);
     check_sealed(&rt, alloc, &holding, &want);

@@ -4,7 +4,7 @@
 use crate::samples::{A, MANY, grain, settings, silo};
 use directory_rules::{Act, Phase, Settings};
 use hash_ring::Hashing;
-use host_activations::{Host, Renewal};
+use host_activations::{Host, PageAsked, Renewal};
 use ring_range::RingRange;
 use silo_address::GrainId;
 use std::alloc::Global;
@@ -264,16 +264,16 @@ const MIDDLE: &str = "user/middle#1000";
 
 const HIGH: &str = "user/high#4294967290";
 
-// The start and the size of a range, and the firm grains that are reported of it: the first two ranges are the circle.
+// The start and the size of a range, and the firm grains that are reported of it, as they stand: the first two ranges are the circle.
 const REPORTS: [(u32, u64, &[&str]); 5] = [
-    (0, 4_294_967_296, &[HIGH, LOW, MIDDLE]),
-    (1_000, 4_294_967_296, &[HIGH, LOW, MIDDLE]),
+    (0, 4_294_967_296, &[LOW, MIDDLE, HIGH]),
+    (1_000, 4_294_967_296, &[MIDDLE, HIGH, LOW]),
     (5, 995, &[LOW]),
     (4_294_967_290, 12, &[HIGH, LOW]),
     (4_294_967_291, 10, &[]),
 ];
 
-// Whether just these grains are reported.
+// Whether just these grains are reported, one by one and in this order.
 fn reports(
     rt: &impl Abort,
     alloc: Global,
@@ -281,15 +281,26 @@ fn reports(
     range: &RingRange,
     grains: &[&str],
 ) -> bool {
-    let Ok(entries) = host.firm_entries(alloc, Hashing::Stated, range) else {
-        return false;
+    let mut asked = PageAsked {
+        hashing: Hashing::Stated,
+        range: *range,
+        after: None,
+        most: 1,
     };
-    for (entry, text) in entries.iter().zip(grains) {
-        if entry.grain != grain(rt, *text) {
+    for text in grains {
+        let Ok(page) = host.firm_page(alloc, &asked) else {
+            return false;
+        };
+        let grain = grain(rt, *text);
+        if page.entries.len() != 1 || page.entries[0].grain != grain {
             return false;
         }
+        asked.after = Some(grain);
     }
-    entries.len() == grains.len()
+    match host.firm_page(alloc, &asked) {
+        Ok(page) => page.entries.is_empty() && page.last,
+        Err(_) => false,
+    }
 }
 
 fn start_firm(rt: &impl Abort, host: &mut Host, text: &str) {

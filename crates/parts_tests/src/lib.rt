@@ -38,6 +38,8 @@ mod samples;
 #[cfg(test)]
 mod shelf;
 #[cfg(test)]
+mod short_entries;
+#[cfg(test)]
 mod tables;
 #[cfg(test)]
 mod views;

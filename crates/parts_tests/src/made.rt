@@ -1,5 +1,6 @@
 //! Entries, snapshots and pages for the tests, made again where memory is refused.
 use crate::samples::silo;
+use grain_table::{ShortEntry, short_entries};
 use ring_range::RingRange;
 use seal_snapshot::{Page, Snapshot};
 use silo_address::{ActivationId, Entry, GrainId};
@@ -41,6 +42,14 @@ fn entries(rt: &impl Abort, alloc: Global, count: u64) -> Result<Vec<Entry>, All
     Ok(entries)
 }
 
+// The entries, kept short.
+pub(crate) fn short(rt: &impl Abort, alloc: Global, entries: &[Entry]) -> Vec<ShortEntry> {
+    match short_entries(alloc, entries) {
+        Ok(short) => short,
+        Err(_) => short_entries(alloc, entries).expect(rt, "memory"),
+    }
+}
+
 // A snapshot of so many entries, of that version and of a range that begins there, for the silo.
 pub(crate) fn snapshot(
     rt: &impl Abort,
@@ -57,7 +66,7 @@ pub(crate) fn snapshot(
         range(rt, start),
         silo(rt, OWNER),
         silo(rt, to),
-        entries,
+        short(rt, alloc, &entries),
     )
 }
 

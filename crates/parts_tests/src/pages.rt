@@ -2,7 +2,7 @@
 //! changed nothing, and made again it gives its result. `rt try --test --fail-alloc N` refuses each test its Nth allocation.
 ghost use Rattle.std.specs.Prelude.{◌+◌, ◌≤◌};
 
-use crate::made::{NEXT, OWNER, VERSION, page, range, snapshot};
+use crate::made::{NEXT, OWNER, VERSION, page, range, short, snapshot};
 use crate::samples::silo;
 use seal_snapshot::{Gathering, GatheringError, GatheringProgress, Page, Snapshot};
 use silo_address::{ActivationId, Entry, GrainId};
@@ -138,7 +138,7 @@ fn entry(rt: &impl Abort, grain: &[u8], activation: &[u8]) -> Entry {
 fn digest_of_wide_numbers(rt: HostRuntime) {
     let near = entry(&rt, b"user/ann", b"10.0.0.1:1000@1!1");
     let text = b"10.20.30.255:65535@2147483647!18446744073709551615";
-    let entries = listed(&rt, rt.alloc(), &[near, entry(&rt, b"user/bob", text)]);
+    let entries = short(&rt, rt.alloc(), &[near, entry(&rt, b"user/bob", text)]);
     let (from, to) = (silo(&rt, OWNER), silo(&rt, NEXT));
     let snapshot = Snapshot::seal(VERSION, range(&rt, 0), from, to, entries);
     let digest = [

@@ -5,7 +5,7 @@ use crate::samples::{A, B, C, MANY, entry, joined, range, settings, silo, view};
 use grain_table::Table;
 use hash_ring::Hashing;
 use range_recovery::{Recovery, RecoveryError, RecoveryProgress, Report};
-use silo_address::{Entry, SiloAddress};
+use silo_address::{Entry, GrainId, SiloAddress};
 use std::alloc::Global;
 use std::process::Abort;
 
@@ -24,10 +24,22 @@ fn recovery(rt: &impl Abort, alloc: Global) -> Recovery {
     }
 }
 
-// A silo's report of the grains, each on its activation of count 1.
+// A silo's last report, of the grains, each on its activation of count 1.
 fn report(rt: &impl Abort, alloc: Global, text: &str, grains: &[&str]) -> Report {
     let entries = entries_of(rt, alloc, text, grains);
-    Report::new(2, range(rt, RANGE), silo(rt, text), entries)
+    Report::new(2, range(rt, RANGE), silo(rt, text), None, entries, true)
+}
+
+// The silo's report of these grains behind that one, with more to tell.
+fn page(
+    rt: &impl Abort,
+    alloc: Global,
+    text: &str,
+    after: Option<GrainId>,
+    grains: &[&str],
+) -> Report {
+    let entries = entries_of(rt, alloc, text, grains);
+    Report::new(2, range(rt, RANGE), silo(rt, text), after, entries, false)
 }
 
 fn entries_of(rt: &impl Abort, alloc: Global, text: &str, grains: &[&str]) -> Vec<Entry> {
@@ -121,6 +133,27 @@ fn is_refused(recovery: &Recovery, report: &Report, number: u16) -> bool {
 fn a_stranger_reports(rt: HostRuntime) {
     let recovery = recovery(&rt, rt.alloc());
     assert!(rt; is_refused(&recovery, &report(&rt, rt.alloc(), C, &MANY[..1]), 752));
+}
+
+// A silo tells part by part: what doesn't go on behind the grain told is refused, and changes nothing.
+#[test]
+fn reports_go_on(rt: HostRuntime) {
+    let mut recovery = recovery(&rt, rt.alloc());
+    let first = page(&rt, rt.alloc(), A, None, &MANY[..2]);
+    take(&rt, &mut recovery, &first, RecoveryProgress::Continues);
+    let told = entry(&rt, (MANY[1], A, 1)).grain;
+    assert!(rt; recovery.told_by(&silo(&rt, A)) == Some(told));
+    assert!(rt; is_refused(&recovery, &first, 754));
+    assert!(rt; is_refused(&recovery, &report(&rt, rt.alloc(), A, &MANY[2..]), 754));
+    let second = page(&rt, rt.alloc(), A, Some(told), &MANY[2..4]);
+    take(&rt, &mut recovery, &second, RecoveryProgress::Continues);
+    assert!(rt; recovery.gathered().len() == 4);
+    take(
+        &rt,
+        &mut recovery,
+        &report(&rt, rt.alloc(), B, &[]),
+        RecoveryProgress::More,
+    );
 }
 
 // Whether the report is of A, with so many entries, and is copied.

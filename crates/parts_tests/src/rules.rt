@@ -14,7 +14,7 @@ fn are_of_directory(settings: &Settings) -> bool {
         && settings.places() == 128
         && settings.events() == 1_000_000
         && settings.letters() == 1_000_000
-        && settings.activations() == 65_536
+        && settings.activations() == 1_000_000
         && settings.finds() == 65_536
         && settings.last_number() == 1_152_921_504_606_846_976
 }

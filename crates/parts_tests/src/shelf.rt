@@ -105,6 +105,34 @@ fn a_page_is_asked_for(rt: HostRuntime) {
     );
 }
 
+// Whether the digest that a page tells is kept.
+fn is_kept(alloc: Global, shelf: &mut Shelf, range: &RingRange, asker: &SiloAddress) -> bool {
+    if let Ok(ShelfAnswer::Page(page)) = shelf.answer(alloc, 3, 3, range, asker, 1) {
+        shelf.keep_digest(3, range, asker, page.digest());
+        return shelf.keeps_digest(3, range, asker);
+    }
+    false
+}
+
+// A digest that is kept changes no answer, and a shelf that has it is the same.
+#[test]
+fn a_digest_is_kept(rt: HostRuntime) {
+    let alloc = rt.alloc();
+    let mut shelf = shelf_of_two(&rt, alloc, &view(&rt, alloc));
+    let want = page(&rt, alloc, &snapshot(&rt, alloc, (3, 0, NEXT), 65), 1);
+    let (range, asker) = (range(&rt, 0), silo(&rt, NEXT));
+    let copy = copy_of(&rt, &shelf);
+    assert!(rt; !shelf.keeps_digest(3, &range, &asker));
+    assert!(rt;
+        is_kept(alloc, &mut shelf, &range, &asker) || is_kept(alloc, &mut shelf, &range, &asker)
+    );
+    assert!(rt;
+        answers(alloc, &shelf, &range, &asker, &want)
+            || answers(alloc, &shelf, &range, &asker, &want)
+    );
+    assert!(rt; shelf.same(&copy));
+}
+
 // Whether there is a snapshot for the asker, until it has it whole.
 fn is_done(shelf: &mut Shelf, range: &RingRange, asker: &SiloAddress) -> bool {
     shelf.has(3, range, asker)

@@ -27,12 +27,12 @@ pub(crate) fn put(rt: &impl Abort, table: &mut Table, entry: &Entry) {
     }
 }
 
-// As many entries as a node of a map takes.
+// Some entries, whose hashes rise.
 fn full(rt: &impl Abort, alloc: Global) -> Table {
     table(rt, alloc, Hashing::Stated, A, &MANY[..15])
 }
 
-// An entry that splits the node.
+// An entry behind them.
 fn one_more(rt: &impl Abort) -> Entry {
     entry(rt, (MANY[15], B, 1))
 }
@@ -59,6 +59,54 @@ fn an_entry_is_put_in(rt: HostRuntime) {
     let (mut table, entry) = (full(&rt, rt.alloc()), one_more(&rt));
     let before = copy_of(&rt, &table);
     assert!(rt; puts(&mut table, &before, &entry) && has(&table, &entry, 16));
+}
+
+// The grain that states the number, at the first try or the second.
+fn numbered(rt: &impl Abort, alloc: Global, number: u32) -> Entry {
+    match format!(in alloc; "user/a#{number}") {
+        Ok(text) => entry(rt, (text.as_str(), A, 1)),
+        Err(_) => {
+            let text = format!(in alloc; "user/a#{number}").expect(rt, "memory");
+            entry(rt, (text.as_str(), A, 1))
+        }
+    }
+}
+
+// So many entries, put in in no order: buckets are cut again and again.
+fn many(rt: &impl Abort, alloc: Global, count: u32) -> Table {
+    let mut table = Table::new(alloc, Hashing::Stated);
+    for number in 0..count {
+        put(
+            rt,
+            &mut table,
+            &numbered(rt, alloc, number.wrapping_mul(37) % 401),
+        );
+    }
+    table
+}
+
+#[test]
+fn each_of_many_is_found_and_taken_out(rt: HostRuntime) {
+    let mut table = many(&rt, rt.alloc(), 401);
+    assert!(rt; table.len() == 401);
+    for number in 0..401 {
+        let entry = numbered(&rt, rt.alloc(), number);
+        assert!(rt; table.get(&entry.grain) == Some(entry));
+        table.remove(&entry.grain);
+        assert!(rt; table.get(&entry.grain).is_none());
+    }
+    assert!(rt; table.len() == 0);
+}
+
+#[test]
+fn some_of_many_are_kept(rt: HostRuntime) {
+    let mut table = many(&rt, rt.alloc(), 401);
+    assert!(rt; !table.lies_in(Hashing::Stated, &range(&rt, "100+200")));
+    table.keep_within(Hashing::Stated, &range(&rt, "100+200"));
+    assert!(rt; table.len() == 200 && table.lies_in(Hashing::Stated, &range(&rt, "100+200")));
+    assert!(rt; table.get(&numbered(&rt, rt.alloc(), 299).grain).is_some());
+    assert!(rt; table.get(&numbered(&rt, rt.alloc(), 300).grain).is_none());
+    assert!(rt; table.get(&numbered(&rt, rt.alloc(), 99).grain).is_none());
 }
 
 fn puts_new(table: &mut Table, before: &Table, entry: &Entry) -> bool {

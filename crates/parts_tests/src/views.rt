@@ -78,6 +78,71 @@ fn changes_and_refusals(rt: HostRuntime) {
     assert!(rt; has_counts(&views));
 }
 
+// By version, what views say that begin with version 7 and go on.
+const LATER: [(u64, &str, Option<Status>); 10] = [
+    (6, A2, None),
+    (7, A2, LEAVING),
+    (7, A, DEAD),
+    (7, B, ACTIVE),
+    (7, C, DEAD),
+    (7, A3, None),
+    (8, A3, ACTIVE),
+    (8, A2, DEAD),
+    (8, A, DEAD),
+    (9, B, DEAD),
+];
+
+// What a view that begins lists, one after the other, and how it is refused.
+const LISTED: [(&str, Status, Result<(), u16>); 7] = [
+    (A2, Status::Leaving, Ok(())),
+    (A2, Status::Leaving, Err(210)),
+    (A3, Status::Active, Err(210)),
+    (A, Status::Dead, Err(210)),
+    (B, Status::Active, Ok(())),
+    (C, Status::Dead, Ok(())),
+    ("10.0.0.3:1000@1", Status::Dead, Ok(())),
+];
+
+// The number by which a silo isn't listed.
+fn listed(views: &mut Views, silo: SiloAddress, status: Status) -> Result<(), u16> {
+    match views.list(silo, status) {
+        Ok(()) => Ok(()),
+        Err(refusal) => Err(refusal.number().unwrap_or(0)),
+    }
+}
+
+// Views that begin with a later version tell what became of its silos from there on.
+#[test]
+fn views_that_begin_later(rt: HostRuntime) {
+    let mut views = Views::beginning(rt.alloc(), 5, 7).expect(&rt, "a version");
+    for (text, status, want) in &LISTED {
+        assert!(rt;
+            listed(&mut views, silo(&rt, text), *status) == *want,
+            "{text}"
+        );
+    }
+    assert!(rt; views.first() == 7 && views.current() == 7 && views.is_newest(&silo(&rt, A3)));
+    assert!(rt; outcome(&mut views, Change::Join, silo(&rt, A)) == Err(201));
+    assert!(rt; outcome(&mut views, Change::Join, silo(&rt, A3)) == Ok(8));
+    assert!(rt; outcome(&mut views, Change::Die, silo(&rt, B)) == Ok(9));
+    views.whole();
+    for (version, text, status) in &LATER {
+        let view = view(&rt, rt.alloc(), &views, *version);
+        assert!(rt; view.status(&silo(&rt, text)) == *status, "{text}");
+    }
+    assert!(rt; listed(&mut views, silo(&rt, "10.0.0.4:1000@1"), Status::Dead) == Err(205));
+}
+
+// No views begin with version 2^62 or a higher one, and version 0 lists nobody.
+#[test]
+fn views_that_do_not_begin(rt: HostRuntime) {
+    let late = 4_611_686_018_427_387_904;
+    assert!(rt; Views::beginning(rt.alloc(), 1, late).is_err());
+    assert!(rt; Views::beginning(rt.alloc(), 1, late - 1).is_ok());
+    let mut views = Views::new(rt.alloc(), 1);
+    assert!(rt; listed(&mut views, silo(&rt, A), Status::Active) == Err(210));
+}
+
 // The current version, the limit, and how many silos ever joined.
 fn has_counts(views: &Views) -> bool {
     views.current() == 7 && views.limit() == 4 && views.row_count() == 4
@@ -245,6 +310,8 @@ fn a_row(rt: HostRuntime) {
 #[test]
 fn the_laws_are_calls(_rt: HostRuntime) {
     laws::changes_are_steps();
+    laws::beginnings_are_whole();
+    laws::views_say_statuses();
     laws::rows_stay();
     laws::one_is_live();
     laws::joins_look_for();
@@ -252,7 +319,7 @@ fn the_laws_are_calls(_rt: HostRuntime) {
     laws::changes_compute();
 }
 
-const FAULTS: [(ViewsError, &str); 6] = [
+const FAULTS: [(ViewsError, &str); 7] = [
     (
         ViewsError::OldGeneration,
         "a silo of this endpoint with this generation or a later one has joined before",
@@ -260,9 +327,10 @@ const FAULTS: [(ViewsError, &str); 6] = [
     (ViewsError::UnknownSilo, "the silo has never joined"),
     (ViewsError::NotActive, "the silo is not active"),
     (ViewsError::AlreadyDead, "the silo is dead already"),
+    (ViewsError::RowsFull, "as many silos are known as may be"),
     (
-        ViewsError::RowsFull,
-        "as many silos have joined as ever may",
+        ViewsError::NotListable,
+        "a history can't begin with this view",
     ),
     (ViewsError::OutOfMemory, "out of memory"),
 ];

@@ -1,6 +1,7 @@
 -- What the rule answers, by what the silo's calls answered and what was written of that.
 use Rattle.std.proofs.Common.{◌≡◌, ℕ, Bool, true, false, List, [], ◌∷◌, ◌++◌, Option, Some, None, Result, Ok, Err, map, cond, refl, ap, sym, ◌∙◌, subst, append-nil}
-use Rattle.std.specs.Prelude.{IsSomeAnd}
+use Rattle.std.specs.Prelude.{IsSomeAnd, codes}
+use Rattle.std.specs.Fmt.{decimal}
 use Rattle.texts.specs.Printed.{text_of_lines}
 use Rattle.texts.specs.Words.{sentence}
 use Rattle.membership_view.specs.declared.status.Status.{Status}
@@ -21,7 +22,7 @@ use Rattle.script_rules.specs.Lines.{refusal_line}
 use Rattle.script_lines.specs.Printed.{printed}
 use Rattle.process_rules.specs.LetterText.{letter_line}
 use Rattle.process_rules.specs.Happened.{news_words, received_words}
-use Rattle.process_rules.specs.Answer.{Answered, after_news, heard, printing, received_so, stepped, unless_dead}
+use Rattle.process_rules.specs.Answer.{Answered, after_news, begun, heard, printing, received_so, stepped, unless_dead}
 use Rattle.process_answers.specs.Answering.{IsAnswered}
 use Rattle.process_answers.specs.Ending.{EndsAsDead, last_lines}
 use Rattle.process_answers.proofs.Written.{lines_behind_lines, one_line}
@@ -96,6 +97,27 @@ change_refused version change excused outcome s new number before after refuses 
     subst (λ (o : Result Heard ℕ). IsAnswered (heard o version change s) before new after false) (sym by.1)
     (refusal_answered before s new after by.0 same by.2)
 
+-- ---- views
+pub view_begun : (version : ℕ) (outcome : Result Membership ℕ) (s new : SiloValue) (before after : List ℕ) → outcome ≡ Ok new.membership
+    → new.node ≡ s.node → after ≡ before ++ printed (sentence (codes "view" ∷ decimal version ∷ codes "begins" ∷ []))
+    → IsAnswered (begun outcome version s) before new after false
+view_begun version outcome s new before after is same written =
+    subst (λ (o : Result Membership ℕ). IsAnswered (begun o version s) before new after false) (sym is)
+    (record {
+      leaves = ap (λ (node : Node). record new { node = node }) same;
+      prints = one_line before after (sentence (codes "view" ∷ decimal version ∷ codes "begins" ∷ [])) written;
+      ending = refl;
+    })
+
+pub view_refused : (version : ℕ) (excused : Result Membership ℕ → Type 0) (outcome : Result Membership ℕ) (s new : SiloValue)
+    (number : Option ℕ) (before after : List ℕ)
+    → RefusesBy excused number outcome → IsSomeAnd number (λ n. after ≡ before ++ printed (refusal_line n)) → new ≡ s
+    → IsAnswered (begun outcome version s) before new after false
+view_refused version excused outcome s new number before after refuses written same =
+    let by = refused_by excused outcome number before after refuses written in
+    subst (λ (o : Result Membership ℕ). IsAnswered (begun o version s) before new after false) (sym by.1)
+    (refusal_answered before s new after by.0 same by.2)
+
 -- ---- letters
 own_letter : (letter : Letter) (s : SiloValue) (own : Bool) → own ≡ true
     → cond own (stepped (received_words s.node.host s.node.view.version letter) (receives s letter) s) (printing [] s) ≡ stepped
@@ -110,4 +132,4 @@ letter_answered letter s new before after own answered =
     subst (λ (a : Answered). IsAnswered a before new after false) (sym (own_letter letter s (silo_eq letter.to s.node.host.silo) own))
     answered
 
-pub ruleset outcome_by_outcome = (step_refused, step_taken, change_told, change_refused)
+pub ruleset outcome_by_outcome = (step_refused, step_taken, change_told, change_refused, view_begun, view_refused)

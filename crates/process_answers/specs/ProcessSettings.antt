@@ -1,8 +1,7 @@
 -- The settings of processes of silos.
-use Rattle.std.specs.Prelude.{ℕ}
-use Rattle.hash_ring.specs.declared.Hashing.{Hashing}
-use Rattle.directory_rules.specs.Settings.{Settings, directory_settings}
+use Rattle.directory_rules.specs.Settings.{Settings}
 
--- the settings of a process: a directory's own, but that 65,536 silos may ever join, since each that is started again is another one
-abbrev pub process_settings : Hashing → (points cache : ℕ) → Settings
-process_settings hashing points cache = record (directory_settings hashing points cache) { silos = 65536 }
+-- the settings of a process: those given, but that memory alone bounds the silos that it may know, since each that is started
+-- again is another one: 2^62 - 1 of them
+abbrev pub process_settings : Settings → Settings
+process_settings settings = record settings { silos = 4611686018427387903 }

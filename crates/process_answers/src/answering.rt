@@ -6,6 +6,7 @@ ghost use Rattle.process_rules.specs.Answer.{answered, answered_as};
 ghost use Rattle.process_answers.specs.Answering.{IsAnswered};
 
 use crate::JoinToken;
+use crate::begins::answer_begin;
 use crate::changes::{Change, answer_change};
 use crate::dump::write_dump;
 use crate::figures::write_figures;
@@ -25,8 +26,8 @@ const ANOTHERS_JOIN: u16 = 208;
 
 /// Answers what a line of a silo's process asks for: the silo is told, asked or shown, and what came of it is written behind what
 /// is written already; whether the process ends, since the silo is Dead. A process that was started with a token refuses any other
-/// process's join by 208. Fails only when memory runs out, and only where something
-/// is written; then nothing is written, and the silo may have changed (`docs/RULES.md#lines-of-a-silos-process`).
+/// process's join by 208. Fails only when memory runs out, and only where something is written; then nothing is written, and the
+/// silo may have changed (`docs/RULES.md#lines-of-a-silos-process`).
 #[tactic(auto, using(script_lines::proofs::Fronts::front_taken))]
 pub fn answer(
     alloc: Global,
@@ -104,6 +105,7 @@ fn answer_asked(
             version,
             silo: dead,
         } => answer_change(silo, *version, &Change::Die(dead), out),
+        Asked::Begin { version, rows } => answer_begin(silo, *version, rows.as_slice(), out),
         Asked::See { version } => answer_see(silo, *version, out),
         Asked::Do(step) => answer_step(silo, step, out),
         Asked::Receive(letter) => answer_letter(silo, letter, out),

@@ -3,6 +3,7 @@
 #![tactic(auto)]
 
 mod answering;
+mod begins;
 mod changes;
 mod dump;
 mod fault;

@@ -81,7 +81,7 @@ impl Telling {
             | Body::Page(_)
             | Body::Missing(_)
             | Body::Done(_)
-            | Body::Query(_)
+            | Body::Query { .. }
             | Body::Report(_)
             | Body::Behind(_)
             | Body::Ahead(_) => Telling::Delivered,

@@ -26,15 +26,15 @@ use Rattle.directory_rules.specs.State.{Host, Letter, Body, Request_letter, Repl
 use Rattle.directory_rules.specs.Placement.{silo_for}
 use Rattle.silo_rules.specs.declared.news.News.{News}
 use Rattle.silo_rules.specs.declared.news.News.TheVariants.{Known, Made, Replaced}
-use Rattle.directory_rules.specs.Membership.{Change, Join, Leave, Die}
+use Rattle.directory_rules.specs.Membership.{Change, Join, Leave, Die, Listed}
 use Rattle.silo_rules.specs.SiloValue.{SiloValue, own_status}
 use Rattle.silo_rules.specs.Figures.{figures}
-use Rattle.script_rules.specs.Script.{grain_word, ◌>>=◌}
-use Rattle.script_rules.specs.Lines.{happening_words, effect_words, refusal_line}
+use Rattle.script_rules.specs.Script.{grain_word, number_word, ◌>>=◌}
+use Rattle.script_rules.specs.Lines.{happening_words, effect_words, refusal_line, replaced_words}
 use Rattle.script_rules.specs.Show.{held_line, phase_word, seen_words, owner_words, place_words}
 use Rattle.process_rules.specs.LetterText.{letter_line}
-use Rattle.process_rules.specs.ReadLine.{Receive, Owner, Place, own_policy_word, read_silo_line}
-use Rattle.process_rules.specs.Happened.{news_words, counted_words, body_words, delivered_words, is_ignored, received_words}
+use Rattle.process_rules.specs.ReadLine.{Begin, Receive, Owner, Place, listed_in, own_policy_word, read_silo_line}
+use Rattle.process_rules.specs.Happened.{made_words, news_words, counted_words, body_words, delivered_words, is_ignored, received_words}
 use Rattle.process_rules.specs.Show.{own_word, state_words, piece_line, show_lines, dump_line, figures_words, figures_line, grain_owner_line, grain_place_line}
 use Rattle.process_rules.specs.Answer.{printing, unless_dead}
 use Rattle.process_rules.specs.Output.{fault_line}
@@ -86,18 +86,34 @@ place_tail s grain policy =
     grain_text grain ∷ place_words (silo_for policy s.node.view s.node.host.silo (hash_grain s.node.settings.hashing grain) [])
 
 module _ (hashing : Hashing) where
-  -- ---- changes
-  news_unknown : (version : ℕ) (change : Change) (news : News) → first_unknown hashing (news_words version change news) ≡ true
-  news_unknown version change Known = refl
-  news_unknown version (Join silo places) Made = refl
-  news_unknown version (Leave silo) Made = refl
-  news_unknown version (Die silo) Made = refl
-  news_unknown version (Join silo places) (Replaced old) = refl
-  news_unknown version (Leave silo) (Replaced old) = refl
-  news_unknown version (Die silo) (Replaced old) = refl
+  -- ---- changes, and a view with which the silo begins: lines that begin as one that tells a view, which no letter answers
+  view_given : (version : Result ℕ ℕ) (rows : Result (List Listed) ℕ) (letter : Letter)
+      → (version >>= (λ version. rows >>= (λ rows. Ok (Begin version rows))) >>= (λ asked. Ok (Some asked))) ≡ Ok (Some (Receive letter))
+      → ⊥
+  view_given (Ok version) (Ok rows) letter is = cc is
+  view_given (Ok version) (Err fault) letter is = cc is
+  view_given (Err fault) rows letter is = cc is
+
+  view_asked : (words : List (List ℕ)) → AreSilentWords hashing (codes "view" ∷ words)
+  view_asked [] letter is = cc is
+  view_asked (version ∷ words) letter is = view_given (number_word version) (listed_in words) letter is
+
+  view_silent : (words : List (List ℕ)) → IsSilent hashing (sentence (codes "view" ∷ words))
+  view_silent words = by_word hashing (codes "view") words refl refl view_asked
+
+  pub begun_silent : (version : ℕ) → IsSilent hashing (sentence (codes "view" ∷ decimal version ∷ codes "begins" ∷ []))
+  begun_silent version = view_silent (decimal version ∷ codes "begins" ∷ [])
+
+  made_silent : (version : ℕ) (change : Change) (replaced : Option Silo) → IsSilent hashing (sentence (made_words version change replaced))
+  made_silent version (Join silo places) replaced =
+      view_silent (decimal version ∷ codes "joined" ∷ silo_text silo ∷ replaced_words replaced)
+  made_silent version (Leave silo) replaced = view_silent (decimal version ∷ codes "leaving" ∷ silo_text silo ∷ [])
+  made_silent version (Die silo) replaced = view_silent (decimal version ∷ codes "dead" ∷ silo_text silo ∷ [])
 
   pub news_silent : (version : ℕ) (change : Change) (news : News) → IsSilent hashing (sentence (news_words version change news))
-  news_silent version change news = by_first hashing (news_words version change news) (news_unknown version change news)
+  news_silent version change Known = by_first hashing (codes "known" ∷ decimal version ∷ []) refl
+  news_silent version change Made = made_silent version change None
+  news_silent version change (Replaced old) = made_silent version change (Some old)
 
   dead_silent : IsSilent hashing (codes "dead")
   unfolding read_silo_line
@@ -227,7 +243,7 @@ module _ (hashing : Hashing) where
   body_unknown (Page_letter page) host seen letter made = refl
   body_unknown (Missing_letter range) host seen letter made = refl
   body_unknown (Done_letter range) host seen letter made = refl
-  body_unknown (Query_letter range) host seen letter made = refl
+  body_unknown (Query_letter range after) host seen letter made = refl
   body_unknown (Report_letter report) host seen letter made = refl
   body_unknown (Behind_letter range) host seen letter made = refl
   body_unknown (Ahead_letter range) host seen letter made = refl

@@ -1,5 +1,6 @@
 -- A process whose silo is Dead by the changes decided writes no letter: neither a step nor a letter comes to it.
 use Rattle.std.proofs.Common.{◌≡◌, ℕ, Bool, true, false, List, [], ◌∷◌, Option, Some, None, Result, Ok, Err, refl}
+use Rattle.std.specs.Fmt.{decimal}
 use Rattle.std.specs.Prelude.{cond, codes}
 use Rattle.std.proofs.lemmas.List.Elements.{All-nil}
 use Rattle.texts.specs.Words.{sentence}
@@ -7,18 +8,19 @@ use Rattle.silo_address.specs.Silo.{silo_eq}
 use Rattle.silo_address.proofs.Same.{Decides-silo}
 use Rattle.hash_ring.specs.declared.hashing.Hashing.{Hashing}
 use Rattle.directory_rules.specs.State.{Letter}
-use Rattle.directory_rules.specs.Membership.{Change, Join, Leave, Die}
+use Rattle.directory_rules.specs.Membership.{Change, Join, Leave, Die, Listed, Membership}
 use Rattle.silo_rules.specs.SiloValue.{SiloValue, own_status}
 use Rattle.silo_rules.specs.Steps.{receives}
 use Rattle.silo_rules.specs.Told.{Heard, told}
+use Rattle.silo_rules.specs.Begun.{told_view}
 use Rattle.script_rules.specs.Lines.{refusal_line}
-use Rattle.process_rules.specs.ReadLine.{Asked, Joined, Leaving, Dead, See, Do, Receive, Ping, Owner, Place, Figures, Show, Dump}
+use Rattle.process_rules.specs.ReadLine.{Asked, Joined, Leaving, Dead, Begin, See, Do, Receive, Ping, Owner, Place, Figures, Show, Dump}
 use Rattle.process_rules.specs.Happened.{news_words, received_words}
-use Rattle.process_rules.specs.Answer.{printing, heard, told_so, stepped, received_so, is_anothers_join, answered, answered_as}
+use Rattle.process_rules.specs.Answer.{printing, heard, told_so, begun, begun_so, stepped, received_so, is_anothers_join, answered, answered_as}
 use Rattle.process_rules.specs.Show.{dump_line, figures_line, grain_owner_line, grain_place_line}
 use Rattle.process_rules.specs.Output.{answered_to, fault_line}
 use Rattle.process_deployment.specs.Allowed.{MayAskDead, IfAsks}
-use Rattle.process_deployment.proofs.Answers.{AreSilent, silent_alone, news_silent, told_silent, refusal_silent, fault_silent, pong_silent, owner_silent, place_silent, figures_silent, show_silent, dump_silent}
+use Rattle.process_deployment.proofs.Answers.{AreSilent, silent_alone, begun_silent, news_silent, told_silent, refusal_silent, fault_silent, pong_silent, owner_silent, place_silent, figures_silent, show_silent, dump_silent}
 use Rattle.process_deployment.proofs.Silent.{IsSilent}
 
 module _ (hashing : Hashing) where
@@ -31,6 +33,13 @@ module _ (hashing : Hashing) where
           let next = record s { membership = its.membership } in
           told_silent hashing (own_status next) (sentence (news_words version change its.news)) next
           (news_silent hashing version change its.news)
+
+  dead_begun : (version : ℕ) (rows : List Listed) (s : SiloValue) → AreSilent hashing (begun_so version rows s).lines
+  dead_begun version rows s = by (told_view s.node.settings s.membership s.node.host.silo version rows)
+    where
+      by : (o : Result Membership ℕ) → AreSilent hashing (begun o version s).lines
+      by (Err number) = silent_alone hashing (refusal_line number) (refusal_silent hashing number)
+      by (Ok m) = silent_alone hashing (sentence (codes "view" ∷ decimal version ∷ codes "begins" ∷ [])) (begun_silent hashing version)
 
   dead_received : (letter : Letter) (s : SiloValue) → (letter.to ≡ s.node.host.silo → ⊥) → AreSilent hashing (received_so letter s).lines
   dead_received letter s other = by (silo_eq letter.to s.node.host.silo) refl
@@ -46,6 +55,7 @@ module _ (hashing : Hashing) where
   dead_answers (Joined version who token places) s may = dead_told version (Join who places) s
   dead_answers (Leaving version who) s may = dead_told version (Leave who) s
   dead_answers (Dead version who) s may = dead_told version (Die who) s
+  dead_answers (Begin version rows) s may = dead_begun version rows s
   dead_answers (See version) s may = absurd may
   dead_answers (Do step) s may = absurd may
   dead_answers (Receive letter) s may = dead_received letter s may

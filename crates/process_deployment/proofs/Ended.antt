@@ -1,5 +1,5 @@
 -- The process of a silo that isn't Dead by the changes decided goes on.
-use Rattle.std.proofs.Common.{arith, ◌≡◌, ℕ, suc, Bool, true, false, List, [], ◌∷◌, Option, Some, None, Result, Ok, Err, length, refl, sym, ap, ◌∙◌, subst}
+use Rattle.std.proofs.Common.{arith, ◌≡◌, ℕ, suc, Bool, true, false, IsSome, List, [], ◌∷◌, Option, Some, None, Result, Ok, Err, length, refl, sym, ap, ◌∙◌, subst}
 use Rattle.std.specs.Prelude.{cond, is_some, All}
 use Rattle.std.specs.Option.{option_map}
 use Rattle.std.specs.Map.{lookup}
@@ -8,10 +8,12 @@ use Rattle.std.proofs.lemmas.List.Elements.{All-nil}
 use Rattle.silo_address.specs.Silo.{Silo, silo_cmp, silo_eq}
 use Rattle.texts.specs.Words.{sentence}
 use Rattle.membership_view.specs.View.{ViewValue, status_of}
-use Rattle.membership_view.specs.Views.{status_at}
+use Rattle.membership_view.specs.Views.{status_at, view_at}
 use Rattle.membership_view.specs.declared.status.Status.{Status}
 use Rattle.membership_view.specs.declared.status.Status.TheVariants as status
-use Rattle.membership_view.proofs.Unchanged.{dead_stays_dead}
+use Rattle.membership_view.proofs.DeadViews.{view_dead_stays}
+use Rattle.membership_view.proofs.Said.{views_say_statuses}
+use Rattle.directory_rules.proofs.People.{live_said}
 use Rattle.directory_rules.specs.declared.effect.Effect.{Effect}
 use Rattle.directory_rules.specs.declared.outcome.Happening.TheVariants.{Saw, Did}
 use Rattle.directory_rules.specs.declared.own_step.OwnStep.{OwnStep}
@@ -24,6 +26,7 @@ use Rattle.directory_rules.specs.Membership.{Change, Join, Leave, Die, Membershi
 use Rattle.silo_rules.specs.SiloValue.{SiloValue, first_silo, own_status}
 use Rattle.silo_rules.specs.Steps.{does, sees, receives}
 use Rattle.silo_rules.specs.Told.{Heard, told}
+use Rattle.silo_rules.specs.Begun.{told_view}
 use Rattle.directory_rules.proofs.Peopled.{peopled_after}
 use Rattle.membership_view.specs.Whole.{IsViews}
 use Rattle.script_rules.specs.Lines.{happening_words, refusal_line}
@@ -31,11 +34,11 @@ use Rattle.deployment_headline.specs.Deployment.{Deployment, process_of}
 use Rattle.deployment_headline.specs.Limits.{with_room, process_with_room}
 use Rattle.deployment_headline.specs.Steps as deployment
 use Rattle.deployment_headline.proofs.Lists.{over, lookup-over}
-use Rattle.deployment_headline.proofs.Runs.{made_so, processes_are_behind, processes_are_own}
+use Rattle.deployment_headline.proofs.Runs.{made_so, processes_are_behind, processes_are_own, told_whole}
 use Rattle.deployment_headline.proofs.Worlds.{its_node}
-use Rattle.process_rules.specs.ReadLine.{Asked, Joined, Leaving, Dead, See, Do, Receive, Ping, Owner, Place, Figures, Show, Dump}
+use Rattle.process_rules.specs.ReadLine.{Asked, Joined, Leaving, Dead, Begin, See, Do, Receive, Ping, Owner, Place, Figures, Show, Dump}
 use Rattle.process_rules.specs.Happened.{news_words, received_words}
-use Rattle.process_rules.specs.Answer.{Answered, printing, unless_dead, heard, told_so, stepped, seen_so, done_so, received_so, is_anothers_join, answered, answered_as}
+use Rattle.process_rules.specs.Answer.{Answered, printing, unless_dead, heard, told_so, begun, stepped, seen_so, done_so, received_so, is_anothers_join, answered, answered_as}
 use Rattle.process_rules.specs.Output.{answered_to, said}
 use Rattle.process_deployment.specs.Cluster.{Process, answer_to, having_read, reads, Cluster, first_cluster}
 use Rattle.process_deployment.specs.Steps.{Step, Decide, Read, dying, without, decided, after, after_all}
@@ -89,6 +92,11 @@ unfolding answered
 answers_end (Joined version who token places) s = news_ends version (Join who places) s
 answers_end (Leaving version who) s = news_ends version (Leave who) s
 answers_end (Dead version who) s = news_ends version (Die who) s
+answers_end (Begin version rows) s = by (told_view s.node.settings s.membership s.node.host.silo version rows)
+  where
+    by : (o : Result Membership ℕ) → EndsDead (begun o version s).ends (begun o version s).silo
+    by (Err number) = goes_on false s refl
+    by (Ok m) = goes_on false (record s { membership = m }) refl
 answers_end (See version) s =
     goes_on (seen_so version s).ends (seen_so version s).silo
     (steps_end (λ made. happening_words (Saw s.node.host.silo version made)) (sees s version) s)
@@ -170,11 +178,17 @@ module _ (settings : Settings) (steps : List deployment.Step) (are : AreSettings
       let behind = processes_are_behind settings steps are named silo s there in
       let own = (processes_are_own settings steps are named silo s there).address in
       let version = s.membership.views.version in
-      let then_dead : status_at d.membership.views version silo ≡ Some status.Dead =
-      ap (λ (view : ViewValue). status_of view silo) (sym (behind.views version (omega arith)))
-      ∙ ap (status_at s.membership.views version) (sym own) ∙ dead in
-      let still = dead_stays_dead d.membership.views its.0 silo version d.membership.views.version behind.version (omega arith) then_dead in
-      cc (ap is_live still, its.1)
+      let whole = told_whole settings steps are named silo s there in
+      let was : status_at s.membership.views version silo ≡ Some status.Dead = ap (status_at s.membership.views version) (sym own) ∙ dead in
+      let said : status_of (view_at s.membership.views version) silo ≡ Some status.Dead =
+      views_say_statuses s.membership.views whole silo version (omega arith) (subst (λ (o : Option Status). IsSome o) (sym was) refl)
+      ∙ was in
+      let then_dead : status_of (view_at d.membership.views version) silo ≡ Some status.Dead =
+      ap (λ (view : ViewValue). status_of view silo) (sym (behind.views version behind.first (omega arith))) ∙ said in
+      let upto = behind.version in
+      let still = view_dead_stays d.membership.views its.0 silo version d.membership.views.version upto (omega arith) then_dead in
+      let live = live_said d.membership.views its.0 d.membership.views.version (omega arith) silo ∙ its.1 in
+      cc (ap is_live still, live)
 
 pub living_go_on : WrittenReadAsThemselves → LivingGoOn
 living_go_on themselves settings tokens steps are may silo p there = by p.ended refl

@@ -27,10 +27,11 @@ use Rattle.directory_rules.specs.Settings.{Settings, AreSettings}
 use Rattle.directory_rules.specs.Step.{Stepped, silently}
 use Rattle.directory_facts.specs.Own.{HoldsOnce}
 use Rattle.directory_facts.proofs.Lawful.{nodes_are_own}
-use Rattle.directory_rules.specs.Membership.{Change, Join, Leave, Die, is_seeable}
+use Rattle.directory_rules.specs.Membership.{Change, Join, Leave, Die, is_seeable, Listed, Membership}
 use Rattle.silo_rules.specs.SiloValue.{SiloValue, own_status}
 use Rattle.silo_rules.specs.Steps.{barred, unless_barred, seen, does, sees}
 use Rattle.silo_rules.specs.Told.{Heard, told}
+use Rattle.silo_rules.specs.Begun.{told_view}
 use Rattle.script_rules.specs.Lines.{happening_words, refusal_line}
 use Rattle.deployment_headline.specs.Deployment.{Deployment, process_of}
 use Rattle.deployment_headline.specs.Limits.{with_room, process_with_room}
@@ -40,8 +41,8 @@ use Rattle.deployment_headline.proofs.Runs.{made_so, processes_are_own}
 use Rattle.deployment_headline.proofs.Worlds.{its_node}
 use Rattle.process_rules.proofs.StaysWhole.{silo_kept}
 use Rattle.process_rules.specs.LetterText.{letter_line}
-use Rattle.process_rules.specs.ReadLine.{Asked, Joined, Leaving, Dead, See, Do, Receive, Ping, Owner, Place, Figures, Show, Dump}
-use Rattle.process_rules.specs.Answer.{Answered, printing, unless_dead, heard, told_so, stepped, seen_so, done_so, received_so, is_anothers_join, answered, answered_as}
+use Rattle.process_rules.specs.ReadLine.{Asked, Joined, Leaving, Dead, Begin, See, Do, Receive, Ping, Owner, Place, Figures, Show, Dump}
+use Rattle.process_rules.specs.Answer.{Answered, printing, unless_dead, heard, told_so, begun, begun_so, stepped, seen_so, done_so, received_so, is_anothers_join, answered, answered_as}
 use Rattle.process_rules.specs.Happened.{received_words, own_words, body_words, delivered_words, is_ignored, news_words}
 use Rattle.process_rules.specs.Output.{answered_to, said, fault_line}
 use Rattle.process_rules.specs.Show.{show_lines, dump_line, figures_line, grain_owner_line, grain_place_line}
@@ -271,7 +272,7 @@ module _ (s : SiloValue) (once : HoldsOnce s.node.host) (own : IsSilo s.node.hos
       outcome (Page_letter page) same = delivered _ same (λ number entry is. cc is) refl
       outcome (Missing_letter range) same = delivered _ same (λ number entry is. cc is) refl
       outcome (Done_letter range) same = delivered _ same (λ number entry is. cc is) refl
-      outcome (Query_letter range) same = delivered _ same (λ number entry is. cc is) refl
+      outcome (Query_letter range after) same = delivered _ same (λ number entry is. cc is) refl
       outcome (Report_letter report) same = delivered _ same (λ number entry is. cc is) refl
       outcome (Behind_letter range) same = delivered _ same (λ number entry is. cc is) refl
       outcome (Ahead_letter range) same = delivered _ same (λ number entry is. cc is) refl
@@ -318,6 +319,16 @@ module _ (s : SiloValue) (once : HoldsOnce s.node.host) (own : IsSilo s.node.hos
           quiet (unless_dead (own_status next) it) (sym (ap (λ (t : SiloValue). t.node) (silo_kept (own_status next) it)))
           (news_other version change its.news (own_status next) next)
 
+  -- ---- a view with which the silo begins
+  begins : (version : ℕ) (rows : List Listed) → TellsFirm s read (begun_so version rows s)
+  begins version rows = by (told_view s.node.settings s.membership s.node.host.silo version rows)
+    where
+      by : (o : Result Membership ℕ) → TellsFirm s read (begun o version s)
+      by (Err number) = quiet (printing (refusal_line number ∷ []) s) refl (alone (refusal_line number) (refusal_other number))
+      by (Ok m) =
+          let words = codes "view" ∷ decimal version ∷ codes "begins" ∷ [] in
+          quiet (printing (sentence words ∷ []) (record s { membership = m })) refl (alone (sentence words) (by_words words refl))
+
 -- ---- whatever a line says
 module _ (s : SiloValue) (once : HoldsOnce s.node.host) (own : IsSilo s.node.host.silo) where
   abbrev Tells : Result (Option Asked) ℕ → Answered → Type 0
@@ -329,6 +340,7 @@ module _ (s : SiloValue) (once : HoldsOnce s.node.host) (own : IsSilo s.node.hos
       hears s once own (Ok (Some (Joined version silo token places))) version (Join silo places)
   tells_asked (Leaving version silo) = hears s once own (Ok (Some (Leaving version silo))) version (Leave silo)
   tells_asked (Dead version silo) = hears s once own (Ok (Some (Dead version silo))) version (Die silo)
+  tells_asked (Begin version rows) = begins s once own (Ok (Some (Begin version rows))) version rows
   tells_asked (See version) = saw s once own (Ok (Some (See version))) version
   tells_asked (Do asked) = done s once own (Ok (Some (Do asked))) asked (λ its ends. ends) (λ it c. cc c.comes)
   tells_asked (Receive letter) = comes s once own (Ok (Some (Receive letter))) letter

@@ -12,7 +12,8 @@ use Rattle.silo_address.proofs.Order.{silo_cmp_total, silo_cmp_exact}
 use Rattle.silo_address.proofs.Same.{Decides-endpoint}
 use Rattle.membership_view.specs.declared.row.Row.{Row}
 use Rattle.membership_view.specs.declared.status.Status.{Status}
-use Rattle.membership_view.specs.Changes.{shares_endpoint, is_newest, with_join}
+use Rattle.membership_view.specs.View.{shares_endpoint}
+use Rattle.membership_view.specs.Changes.{is_newest, with_join}
 use Rattle.membership_view.specs.Views.{ViewsValue, status_at}
 use Rattle.membership_view.specs.Whole.{IsViews}
 use Rattle.membership_view.proofs.Kept.{has_row}

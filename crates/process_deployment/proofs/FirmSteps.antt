@@ -114,11 +114,12 @@ module _ (node : Node) where
     forgoes = λ letter range body there. other _ _ refl;
     lags = λ letter range. other _ _ refl;
     passed = λ letter range. other _ _ refl;
-    reports = λ letter range body seen. other _ _ refl;
+    reports = λ letter range after body seen. other _ _ refl;
     gathers = λ letter page gathering taken is. other _ _ refl;
     installs = λ letter page entries taken is. other _ _ refl;
     drops = λ letter page gathering taken is. other _ _ refl;
     turns = λ letter range piece body has awaits. other _ _ refl;
+    continues = λ letter report recovery taken is. other _ _ refl;
     collects = λ letter report recovery taken is. other _ _ refl;
     completes = λ letter report table taken is. other _ _ refl;
     takes_over = λ letter entry body seen may. other _ _ refl;

@@ -13,9 +13,9 @@ use Rattle.directory_rules.specs.Headline.{Headline}
 use Rattle.directory_rules.specs.State.{Letter}
 use Rattle.directory_rules.specs.Settings.{Settings, AreSettings}
 use Rattle.directory_rules.specs.Settled.{IsFirmOn}
-use Rattle.directory_facts.proofs.SeenRings.{seen_keep}
 use Rattle.directory_rules.specs.Membership.{Change, Join, Leave, Die, Membership, changed}
 use Rattle.silo_rules.specs.SiloValue.{SiloValue, first_silo}
+use Rattle.silo_rules.proofs.Whole.{first_are}
 use Rattle.deployment_headline.specs.Deployment.{Deployment, first_deployment}
 use Rattle.deployment_headline.specs.Steps as deployment
 use Rattle.deployment_headline.specs.Theorems as deployment_theorems
@@ -98,7 +98,7 @@ its_letters c f letter is =
 
 pub its_sound : (c : Cluster) (f : Follows c) → Sound (deployment_of c f.letters)
 its_sound c f =
-    subst Sound f.same (sound_after (first_deployment c.settings) (sound_first c.settings (seen_keep.first c.settings f.are)) f.steps)
+    subst Sound f.same (sound_after (first_deployment c.settings) (sound_first c.settings (first_are c.settings f.are)) f.steps)
 
 -- a line that a process of the cluster reads
 pub its_move : (c : Cluster) (f : Follows c) (silo : Silo) (line : List ℕ) (p : Process) → IsSilo silo

@@ -14,16 +14,17 @@ use Rattle.directory_rules.specs.State.{Letter, Node}
 use Rattle.directory_rules.specs.Settings.{Settings, AreSettings}
 use Rattle.directory_rules.specs.Step.{Stepped, silently}
 use Rattle.script_rules.specs.Lines.{happening_words, refusal_line}
-use Rattle.directory_rules.specs.Membership.{Change, Join, Leave, Die, Membership, changed, is_seeable}
+use Rattle.directory_rules.specs.Membership.{Change, Join, Leave, Die, Membership, changed, is_seeable, Listed}
 use Rattle.silo_rules.specs.SiloValue.{SiloValue, own_status, told_of_its_join}
 use Rattle.silo_rules.specs.Steps.{barred, unless_barred, seen, does, sees}
 use Rattle.silo_rules.specs.Told.{Heard, told}
+use Rattle.silo_rules.specs.Begun.{told_view}
 use Rattle.silo_rules.specs.Whole.{IsWhole}
 use Rattle.silo_rules.proofs.Own.{StaysOwn, stays_own}
 use Rattle.silo_rules.proofs.Whole.{first_whole}
-use Rattle.process_rules.specs.ReadLine.{Asked, Joined, Leaving, Dead, See, Do, Receive, Ping, Owner, Place, Figures, Show, Dump, read_silo_line}
+use Rattle.process_rules.specs.ReadLine.{Asked, Joined, Leaving, Dead, Begin, See, Do, Receive, Ping, Owner, Place, Figures, Show, Dump, read_silo_line}
 use Rattle.process_rules.specs.Happened.{news_words, received_words}
-use Rattle.process_rules.specs.Answer.{Answered, printing, heard, told_so, stepped, seen_so, done_so, received_so, is_anothers_join, answered, answered_as}
+use Rattle.process_rules.specs.Answer.{Answered, printing, heard, told_so, begun, begun_so, stepped, seen_so, done_so, received_so, is_anothers_join, answered, answered_as}
 use Rattle.process_rules.specs.Output.{answered_to, said}
 use Rattle.process_rules.specs.OutputLaws.{CarriesItsJoin}
 use Rattle.process_rules.proofs.StaysWhole.{silo_kept, line_whole}
@@ -90,11 +91,19 @@ module _ (s : SiloValue) where
           still (heard (Ok its) version change s) (sym (ap (λ (t : SiloValue). t.node)
           (silo_kept (own_status next) (printing (sentence (news_words version change its.news) ∷ []) next))))
 
+  begun_own : (version : ℕ) (rows : List Listed) → Own (begun_so version rows s)
+  begun_own version rows = by (told_view s.node.settings s.membership s.node.host.silo version rows)
+    where
+      by : (o : Result Membership ℕ) → Own (begun o version s)
+      by (Err number) = still (begun (Err number) version s) refl
+      by (Ok m) = still (begun (Ok m) version s) refl
+
   asked_own : (asked : Asked) → Own (answered asked s)
   unfolding answered
   asked_own (Joined version who token places) = told_own version (Join who places)
   asked_own (Leaving version who) = told_own version (Leave who)
   asked_own (Dead version who) = told_own version (Die who)
+  asked_own (Begin version rows) = begun_own version rows
   asked_own (See version) = seen_own version
   asked_own (Do asked) = done_own asked
   asked_own (Receive letter) = received_own letter

@@ -9,6 +9,7 @@ mod Answers
 mod Everyone
 mod Outputs
 mod Lists
+mod DecidedViews
 mod Moving
 mod Departed
 mod Following
@@ -23,4 +24,5 @@ mod JoinedBy
 mod Unjoined
 mod FirmStays
 mod Worked
+mod Begun
 mod TokensOfLines

@@ -1,7 +1,8 @@
 -- A line that a process answers is one step of a deployment, or none.
-use Rattle.std.proofs.Common.{arith, ◌≡◌, ℕ, ◌+◌, ◌-◌, ◌<◌, ◌≤◌, Bool, true, false, List, [], ◌∷◌, ◌++◌, Option, Some, None, Result, Ok, Err, length, refl, sym, ap, ◌∙◌, subst, append-nil}
+use Rattle.std.proofs.Common.{arith, ◌≡◌, ℕ, ◌+◌, ◌-◌, ◌<◌, ◌≤◌, Bool, true, false, List, [], ◌∷◌, ◌++◌, Option, Some, None, Result, Ok, Err, length, take, refl, sym, ap, ◌∙◌, subst, append-nil}
 use Rattle.std.specs.Prelude.{◌==◌, cond, not, nat_le, is_ok, is_some, All, Contains, slice_get, if◌then◌else◌, codes}
 use Rattle.std.specs.BTreeMap.{insert_entry}
+use Rattle.std.specs.Fmt.{decimal}
 use Rattle.std.specs.Io.BufRead.{strip_last}
 use Rattle.std.proofs.lemmas.Bool.Decides.{nat_tests}
 use Rattle.std.proofs.lemmas.List.Elements.{All-nil, All-cons}
@@ -21,8 +22,9 @@ use Rattle.directory_rules.specs.State.{Letter}
 use Rattle.directory_rules.specs.Settings.{Settings}
 use Rattle.directory_rules.specs.Step.{Stepped, silently}
 use Rattle.silo_rules.specs.declared.news.News.TheVariants.{Known}
-use Rattle.silo_rules.specs.Known.{is_known}
-use Rattle.directory_rules.specs.Membership.{Change, Join, Leave, Die, Membership, changed, replaced_by, barred_by}
+use Rattle.silo_rules.specs.Known.{is_before, is_known}
+use Rattle.silo_rules.specs.Begun.{told_view}
+use Rattle.directory_rules.specs.Membership.{Change, Join, Leave, Die, Listed, Membership, changed, listing_of, replaced_by, barred_by}
 use Rattle.silo_rules.specs.SiloValue.{SiloValue, own_status, told_of_its_join}
 use Rattle.silo_rules.specs.Steps.{unless_barred, does, sees, receives}
 use Rattle.silo_rules.specs.Told.{Heard, MakesVersion, heard_by, told, told_again}
@@ -32,19 +34,20 @@ use Rattle.deployment_headline.specs.Steps as deployment
 use Rattle.deployment_headline.specs.Calls.{TakesItsSteps}
 use Rattle.deployment_headline.proofs.Called.{calls_are_steps}
 use Rattle.deployment_headline.proofs.Sound.{Sound, its_process}
-use Rattle.process_rules.specs.ReadLine.{Asked, Joined, Leaving, Dead, See, Do, Receive, Ping, Owner, Place, Figures, Show, Dump, read_silo_line}
+use Rattle.process_rules.specs.ReadLine.{Asked, Joined, Leaving, Dead, Begin, See, Do, Receive, Ping, Owner, Place, Figures, Show, Dump, read_silo_line}
 use Rattle.process_rules.specs.InRange.{IsInRange}
 use Rattle.process_rules.proofs.LinesInRange.{line_in_range}
 use Rattle.process_rules.proofs.StaysWhole.{silo_kept}
 use Rattle.process_rules.specs.Happened.{news_words, received_words}
-use Rattle.process_rules.specs.Answer.{Answered, printing, unless_dead, after_news, heard, told_so, stepped, seen_so, done_so, received_so, is_anothers_join, answered, answered_as}
+use Rattle.process_rules.specs.Answer.{Answered, printing, unless_dead, after_news, heard, told_so, begun, begun_so, stepped, seen_so, done_so, received_so, is_anothers_join, answered, answered_as}
 use Rattle.process_rules.specs.Show.{show_lines, dump_line, figures_line, grain_owner_line, grain_place_line}
 use Rattle.process_rules.specs.Output.{answered_to, fault_line, said}
-use Rattle.process_deployment.specs.Allowed.{IsWritten, TakesJoin, MayAsk, IfAsks}
+use Rattle.process_deployment.specs.Allowed.{decided_by, IsDecidedView, IsWritten, TakesJoin, MayAsk, IfAsks}
 use Rattle.process_deployment.specs.Cluster.{Process, Cluster}
 use Rattle.process_deployment.specs.Theorems.{deployment_of}
-use Rattle.process_deployment.proofs.Answers.{SaysOnly, ReadsAsItself, AreSilent, silent_alone, silent_says, step_says, news_silent, told_silent, refusal_silent, fault_silent, pong_silent, saw_silent, did_silent, received_silent, owner_silent, place_silent, figures_silent, show_silent, dump_silent}
+use Rattle.process_deployment.proofs.Answers.{SaysOnly, ReadsAsItself, AreSilent, silent_alone, silent_says, step_says, begun_silent, news_silent, told_silent, refusal_silent, fault_silent, pong_silent, saw_silent, did_silent, received_silent, owner_silent, place_silent, figures_silent, show_silent, dump_silent}
 use Rattle.process_deployment.proofs.Silent.{IsSilent}
+use Rattle.process_deployment.proofs.DecidedViews.{view_decided}
 use Rattle.process_deployment.proofs.Lists.{put_again, found_at}
 
 -- ---- what a process's answer makes of a deployment
@@ -65,15 +68,18 @@ pub record Moved (d : Deployment) (silo : Silo) (it : Answered) : Type 0 where
 known_same : (settings : Settings) (m : Membership) (version : ℕ) (change : Change) (its : Heard) → nat_le version m.views.version ≡ true
     → told settings m version change ≡ Ok its → its.membership ≡ m
 known_same settings m version change its old is =
-    by (is_known m version change)
+    by (is_before m version) (is_known m version change)
     (sym (ap (λ b. if b then told_again m version change else
     (if not (version == m.views.version + 1) then Err 206 else heard_by (changed settings m change) (replaced_by m change))) old) ∙ is)
   where
-    by : (known : Bool) → ◌≡◌ {A = Result Heard ℕ} (if known then Ok (record { membership = m; news = Known }) else Err 207) (Ok its)
+    by : (before known : Bool)
+        → ◌≡◌ {A = Result Heard ℕ} (if before then Err 212 else (if known then Ok (record { membership = m; news = Known }) else Err 207))
+        (Ok its)
         → its.membership ≡ m
-    by true given =
+    by true known given = absurd (cc given)
+    by false true given =
         let same : ◌≡◌ {A = Heard} (record { membership = m; news = Known }) its = cc given in sym (ap (λ (h : Heard). h.membership) same)
-    by false given = absurd (cc given)
+    by false false given = absurd (cc given)
 
 module _ (d : Deployment) (silo : Silo) (s : SiloValue) (there : process_of d silo ≡ Some s) (sound : Sound d) (is_silo : IsSilo silo) where
   takes : TakesItsSteps d silo s
@@ -178,6 +184,39 @@ module _ (d : Deployment) (silo : Silo) (s : SiloValue) (there : process_of d si
           stays (refusal_line number ∷ []) false (λ hashing. silent_alone hashing (refusal_line number) (refusal_silent hashing number))
       by (Ok its) is = by_age its (nat_le version s.membership.views.version) refl is
 
+  -- a view with which the silo begins, or its refusal
+  begun_moves : (version : ℕ) (rows : List Listed) → IsDecidedView d.changes s version rows → Moved d silo (begun_so version rows s)
+  unfolding deployment.after_all
+  begun_moves version rows decided_so = by (told_view s.node.settings s.membership s.node.host.silo version rows) refl
+    where
+      by : (o : Result Membership ℕ) → told_view s.node.settings s.membership s.node.host.silo version rows ≡ o
+          → Moved d silo (begun o version s)
+      by (Err number) is =
+          stays (refusal_line number ∷ []) false (λ hashing. silent_alone hashing (refusal_line number) (refusal_silent hashing number))
+      by (Ok m) is =
+          let its = decided_so m is in
+          let process = its_process d sound silo s there in
+          let view = view_decided d.settings d.changes d.membership sound.first sound.start version its.0 in
+          let same : listing_of (decided_by s.node.settings (take version d.changes)) version ≡ listing_of d.membership version =
+          ap (λ (t : Settings). listing_of (decided_by t (take version d.changes)) version) process.set_up ∙ view.1 in
+          let so : told_view s.node.settings s.membership silo version (listing_of d.membership version) ≡ Ok m =
+          ap (λ q. told_view s.node.settings s.membership q version (listing_of d.membership version)) (sym process.address)
+          ∙ ap (λ l. told_view s.node.settings s.membership s.node.host.silo version l) (sym same) ∙ its.1 in
+          let line = sentence (codes "view" ∷ decimal version ∷ codes "begins" ∷ []) in
+          record {
+            steps = deployment.Begin silo version ∷ [];
+            few = omega arith;
+            named = All-cons deployment.IsStep (deployment.Begin silo version) [] tt (All-nil deployment.IsStep);
+            letters = [];
+            is =
+                takes.begins_so version view.0 ∙ ap (λ r. deployment.begins r d silo s) so
+                ∙ (λ i. record d {
+                  processes = insert_entry silo_cmp d.processes silo (record s { membership = m });
+                  written = sym (append-nil d.written) i;
+                });
+            says = λ hashing reads. silent_says hashing [] (line ∷ []) (silent_alone hashing line (begun_silent hashing version));
+          }
+
   -- a letter
   received_moves : (letter : Letter) → (letter.to ≡ s.node.host.silo → told_of_its_join s ≡ true → Contains d.written letter)
       → Moved d silo (received_so letter s)
@@ -224,6 +263,7 @@ module _ (c : Cluster) (letters : List Letter) (told_there : (letter : Letter) �
         told_moves d silo s there sound is_silo version (Join who places) (may taken)
     asked_moves (Leaving version who) named may taken = told_moves d silo s there sound is_silo version (Leave who) may
     asked_moves (Dead version who) named may taken = told_moves d silo s there sound is_silo version (Die who) may
+    asked_moves (Begin version rows) named may taken = begun_moves d silo s there sound is_silo version rows may
     asked_moves (See version) named may taken = seen_moves d silo s there sound is_silo version
     asked_moves (Do asked) named may taken = done_moves d silo s there sound is_silo asked named
     asked_moves (Receive letter) named may taken =

@@ -1,15 +1,17 @@
--- What a node answers: an entry is one of its tables', or that of the request; a page has a digest; and who still has to report was awaited.
-use Rattle.std.proofs.Common.{◌≡◌, ℕ, List, [], ◌∷◌, refl, subst}
-use Rattle.std.specs.Prelude.{⊤, Bool, true, false, cond, not, nat_lt, ◌==◌, ◌&&◌, ◌||◌, All, Option, Some, None, Result, Ok, Err, find, length}
+-- What a node answers: an entry is one of its tables', or that of the request; a page has a digest; and who still has to report was
+-- awaited, and has told up to a grain.
+use Rattle.std.proofs.Common.{◌≡◌, ℕ, List, [], ◌∷◌, refl, sym, subst}
+use Rattle.std.specs.Prelude.{⊤, Bool, true, false, cond, not, nat_lt, All, IfSome, Option, Some, None, Result, Ok, Err, find, length}
 use Rattle.std.specs.Option.{option_map}
 use Rattle.std.specs.BTreeMap.{is_at}
 use Rattle.std.proofs.lemmas.List.Elements.{All-head, All-tail, All-filter}
-use Rattle.silo_address.specs.Silo.{Silo, IsSilo, silo_eq}
-use Rattle.silo_address.specs.Grain.{Grain, grain_cmp}
+use Rattle.silo_address.specs.Silo.{Silo, IsSilo, silo_cmp, silo_eq}
+use Rattle.silo_address.specs.Grain.{Grain, IsGrain, grain_cmp}
 use Rattle.silo_address.specs.Activation.{activation_eq}
 use Rattle.silo_address.specs.declared.ActivationId.{ActivationId}
 use Rattle.silo_address.specs.declared.Entry.{Entry}
-use Rattle.ring_range.specs.Range.{Range, holds, range_eq}
+use Rattle.silo_address.proofs.Order.{silo_cmp_exact}
+use Rattle.ring_range.specs.Range.{Range, holds}
 use Rattle.directory_rules.specs.declared.act.Act.{Act}
 use Rattle.directory_rules.specs.declared.act.Act.TheVariants as act
 use Rattle.directory_rules.specs.declared.act.Request.{Request}
@@ -19,16 +21,18 @@ use Rattle.directory_rules.specs.declared.reply.Reply.TheVariants as reply
 use Rattle.directory_rules.specs.State.{Table, Piece, Holding, Snapshot, Page, Report, Recovery}
 use Rattle.directory_rules.specs.Table.{entry_at, with_entry, without_grain}
 use Rattle.directory_rules.specs.Snapshot.{page_count, page_of, page_from, is_snapshot, shelf_answer, Hands_page, Has_none, Is_behind}
-use Rattle.directory_rules.specs.Recovery.{Recovered, Awaits_more, Has_union, Rejects, with_report, is_among, awaits_still, recovered}
+use Rattle.directory_rules.specs.Recovery.{Recovered, Has_more, Awaits_more, Has_union, Rejects, told_to, with_more, with_last, recovered}
+use Rattle.directory_rules.specs.Standing.{last_grain}
 use Rattle.directory_rules.specs.Answer.{Turned, is_previous, registered_over, deregistered_from, found_reply, piece_with, serving_piece, served_by, answered_from, answered}
 use Rattle.directory_rules.proofs.Cases.{on_bool}
 use Rattle.directory_facts.specs.Named.{IsNamed, AreNamed}
-use Rattle.directory_facts.proofs.Entries.{found_so}
-use Rattle.directory_facts.proofs.NamedTables.{NamesAct}
+use Rattle.directory_facts.proofs.Collected.{TakenSo, taken_so}
+use Rattle.directory_facts.proofs.Entries.{all_put, all_removed, found_so}
+use Rattle.directory_facts.proofs.NamedTables.{AllNamed, NamesAct}
 use Rattle.directory_facts.proofs.Served.{serves}
 use Rattle.process_rules.specs.Told.{IsDigest}
 use Rattle.process_deployment.proofs.SayableDigests.{is_digest}
-use Rattle.process_deployment.proofs.SayableFacts.{Answers}
+use Rattle.process_deployment.proofs.SayableFacts.{Answers, AsksOn}
 
 -- ---- tables
 there_named : (grain : Grain) (table : Table) (there : Entry) → AreNamed table → entry_at grain table ≡ Some there → IsNamed there
@@ -114,31 +118,44 @@ handed_digest shelf seen version range asker number page is =
     (λ t so. absurd (cc (so))) (λ f so. page_digest (find (is_snapshot version range asker) shelf) number page so) is
 
 -- ---- reports
-abbrev pub StillAwaits : Recovered → Type 0
-StillAwaits (Awaits_more recovery) = All IsSilo recovery.awaiting
-StillAwaits (Has_union table) = ⊤
-StillAwaits (Rejects number) = ⊤
+-- where the silo has told up to a grain
+told_to_grains : (silo : Silo) (o : Option Grain) (told : List (Silo × Grain)) → All (λ e. IsGrain e.1) told → IfSome o IsGrain
+    → All (λ e. IsGrain e.1) (told_to silo o told)
+told_to_grains silo None told all is = all
+told_to_grains silo (Some grain) told all is = all_put silo_cmp silo_cmp_exact (λ (e : Silo × Grain). IsGrain e.1) silo grain told all is
 
-still_awaits : (silos : List Silo) (recovery : Recovery) → All IsSilo recovery.awaiting → StillAwaits (awaits_still silos recovery)
-still_awaits [] recovery all = tt
-still_awaits (silo ∷ silos) recovery all = all
+last_is_grain : (after : Option Grain) (entries : List Entry) → IfSome after IsGrain → AllNamed entries
+    → IfSome (last_grain after entries) IsGrain
+last_is_grain after [] is named = is
+last_is_grain after (entry ∷ entries) is named =
+    last_is_grain (Some entry.grain) entries (All-head IsNamed entry entries named).grain (All-tail IsNamed entry entries named)
 
-pub recovered_awaits : (recovery : Recovery) (report : Report) → All IsSilo recovery.awaiting → StillAwaits (recovered recovery report)
-recovered_awaits recovery report all =
-    on_bool (λ b. StillAwaits (cond (not b) (Rejects 751) (cond (not known) (Rejects 752) (cond done (Rejects 753) taken))))
-    ((report.version == recovery.version) && range_eq report.range recovery.range)
-    (λ t. on_bool (λ b. StillAwaits (cond (not b) (Rejects 752) (cond done (Rejects 753) taken))) known
-    (λ u. on_bool (λ b. StillAwaits (cond b (Rejects 753) taken)) done (λ v. tt)
-    (λ v. still_awaits (with_report recovery report).awaiting (with_report recovery report)
-    (All-filter (λ silo. not (silo_eq silo report.silo)) IsSilo recovery.awaiting all)))
-    (λ u. tt))
-    (λ f. tt)
+abbrev pub StillAsks : Recovered → Type 0
+StillAsks (Has_more recovery) = AsksOn recovery
+StillAsks (Awaits_more recovery) = AsksOn recovery
+StillAsks (Has_union table) = ⊤
+StillAsks (Rejects number) = ⊤
+
+pub recovered_asks : (recovery : Recovery) (report : Report) → AsksOn recovery → IfSome report.after IsGrain → AllNamed report.entries
+    → StillAsks (recovered recovery report)
+recovered_asks recovery report asks is named = by (recovered recovery report) (taken_so recovery report)
   where
-    known : Bool
-    known = is_among report.silo recovery.awaiting || is_among report.silo recovery.reported
+    more : AsksOn (with_more recovery report)
+    more = record {
+      silos = asks.silos;
+      grains =
+          told_to_grains report.silo (last_grain report.after report.entries) recovery.told asks.grains
+          (last_is_grain report.after report.entries is named);
+    }
 
-    done : Bool
-    done = is_among report.silo recovery.reported
+    last : AsksOn (with_last recovery report)
+    last = record {
+      silos = All-filter (λ silo. not (silo_eq silo report.silo)) IsSilo recovery.awaiting asks.silos;
+      grains = all_removed (λ (e : Silo × Grain). IsGrain e.1) (is_at (silo_cmp report.silo)) recovery.told asks.grains;
+    }
 
-    taken : Recovered
-    taken = awaits_still (with_report recovery report).awaiting (with_report recovery report)
+    by : (result : Recovered) → TakenSo recovery report result → StillAsks result
+    by (Has_more next) so = subst AsksOn (sym so.2) more
+    by (Awaits_more next) so = subst AsksOn (sym so.2) last
+    by (Has_union table) so = tt
+    by (Rejects number) so = tt

@@ -1,5 +1,5 @@
--- What is carried of letters besides what they name and say of their own: from whom and to whom they are, and what requests and replies
--- name. And what a node has to make such letters.
+-- What is carried of letters besides what they name and say of their own: from whom and to whom they are, what requests and replies name,
+-- and behind which grain queries and reports begin. And what a node has to make such letters.
 use Rattle.std.proofs.Common.{ℕ, List}
 use Rattle.std.specs.Prelude.{⊤, All, IfSome, Option, Some, None}
 use Rattle.silo_address.specs.Silo.{IsSilo}
@@ -49,8 +49,8 @@ Tells (Ask_letter range page) = ⊤
 Tells (Page_letter page) = IsDigest page.digest
 Tells (Missing_letter range) = ⊤
 Tells (Done_letter range) = ⊤
-Tells (Query_letter range) = ⊤
-Tells (Report_letter report) = ⊤
+Tells (Query_letter range after) = IfSome after IsGrain
+Tells (Report_letter report) = IfSome report.after IsGrain
 Tells (Behind_letter range) = ⊤
 Tells (Ahead_letter range) = ⊤
 Tells (Offer_letter entry) = ⊤
@@ -67,8 +67,13 @@ Replaces e = IfSome e.1.previous IsOnSilo
 abbrev pub Looks : ℕ × Grain → Type 0
 Looks e = IsGrain e.1
 
+-- whom a recovery awaits is a silo, and up to which grain one of them has told is a grain
+pub record AsksOn (recovery : Recovery) : Type 0 where
+  pub silos : All IsSilo recovery.awaiting
+  pub grains : All (λ e. IsGrain e.1) recovery.told
+
 abbrev pub Waits : ℕ × Recovery → Type 0
-Waits e = All IsSilo e.1.awaiting
+Waits e = AsksOn e.1
 
 pub record Sends (host : Host) (recoveries : List (ℕ × Recovery)) : Type 0 where
   pub replaced : All Replaces host.held
@@ -128,9 +133,9 @@ is_body hashing letter (Page_letter page) own named tells =
     record { version = own; range = tt; page = tt; pages = tt; digest = tells; entries = are_entries page.entries named }
 is_body hashing letter (Missing_letter range) own named tells = tt
 is_body hashing letter (Done_letter range) own named tells = tt
-is_body hashing letter (Query_letter range) own named tells = tt
+is_body hashing letter (Query_letter range after) own named tells = (tt, tells)
 is_body hashing letter (Report_letter report) own named tells =
-    record { version = own.version; range = tt; silo = own.silo; entries = are_entries report.entries named }
+    record { version = own.version; range = tt; silo = own.silo; after = tells; entries = are_entries report.entries named }
 is_body hashing letter (Behind_letter range) own named tells = tt
 is_body hashing letter (Ahead_letter range) own named tells = tt
 is_body hashing letter (Offer_letter entry) own named tells = is_entry entry named

@@ -60,6 +60,8 @@ roomy settings events letters are some any = record {
   activations_within = are.activations_within;
   finds_above = are.finds_above;
   finds_within = are.finds_within;
+  report_above = are.report_above;
+  report_within = are.report_within;
   last_above = are.last_above;
   last_within = are.last_within;
 }

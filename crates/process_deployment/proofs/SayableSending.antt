@@ -1,6 +1,6 @@
 -- What a node sends goes from a silo to silos.
 use Rattle.std.proofs.Common.{◌≡◌, ℕ, List, [], ◌∷◌, refl, sym, ap, subst}
-use Rattle.std.specs.Prelude.{Bool, true, false, cond, nat_le, not, All, Option, Some, None, filter, flat_map, fold}
+use Rattle.std.specs.Prelude.{Bool, true, false, cond, nat_le, not, All, IfSome, Option, Some, None, filter, flat_map, fold}
 use Rattle.std.specs.List.{filter_map, cons_option}
 use Rattle.std.specs.Map.{keys_of}
 use Rattle.std.specs.Option.{option_map}
@@ -8,12 +8,12 @@ use Rattle.std.specs.Ordering.{nat_cmp}
 use Rattle.std.specs.BTreeMap.{is_at, insert_entry}
 use Rattle.std.proofs.lemmas.List.Elements.{All-nil, All-cons, All-head, All-tail, All-append, All-map, All-filter, All-weaker}
 use Rattle.std.proofs.lemmas.Map.Lookups.{exact_unsigned}
-use Rattle.silo_address.specs.Silo.{Silo, IsSilo}
-use Rattle.silo_address.specs.Grain.{Grain, grain_eq}
+use Rattle.silo_address.specs.Silo.{Silo, IsSilo, silo_cmp}
+use Rattle.silo_address.specs.Grain.{Grain, IsGrain, grain_eq}
 use Rattle.membership_view.specs.declared.row.Row.{Row}
 use Rattle.membership_view.specs.declared.status.Status.{Status}
 use Rattle.membership_view.specs.Row.{status_in}
-use Rattle.membership_view.specs.View.{ViewValue}
+use Rattle.membership_view.specs.View.{ViewValue, is_spare, listed_rows}
 use Rattle.membership_view.specs.Views.{ViewsValue, rows_in, view_at}
 use Rattle.ring_range.specs.Range.{Range}
 use Rattle.hash_ring.specs.Places.{PlacesValue, is_added}
@@ -26,18 +26,18 @@ use Rattle.directory_rules.specs.declared.piece_state.PieceState.{PieceState}
 use Rattle.directory_rules.specs.declared.piece_state.PieceState.TheVariants as state
 use Rattle.directory_rules.specs.Members.{is_dead_status, members_of}
 use Rattle.directory_rules.specs.State.{Piece, Recovery, Host, Letter, Body, Request_letter, Query_letter, Node}
-use Rattle.directory_rules.specs.Recovery.{new_recovery}
+use Rattle.directory_rules.specs.Recovery.{new_recovery, told_by}
 use Rattle.directory_rules.specs.Host.{grain_of, entry_of, act_in, held_acts, find_acts, outstanding, requests_about}
-use Rattle.directory_rules.specs.Sent.{letter_to, letter_if_owned, owner_by, hash_of, request_of, request_letters, all_requests, requests_of_grain, recovery_of, query_letters, wants_by, all_wants}
+use Rattle.directory_rules.specs.Sent.{letter_to, letter_if_owned, owner_by, hash_of, request_of, request_letters, all_requests, requests_of_grain, recovery_of, query_to, query_letters, wants_by, all_wants}
 use Rattle.directory_rules.specs.Settings.{Settings}
 use Rattle.directory_rules.proofs.Cases.{on_bool}
 use Rattle.directory_facts.specs.Named.{IsNamed, AwaitsSilo}
 use Rattle.directory_facts.specs.Seen.{SeesItsVersion}
 use Rattle.directory_facts.proofs.Collected.{found_or}
-use Rattle.directory_facts.proofs.Entries.{all_put}
+use Rattle.directory_facts.proofs.Entries.{all_put, found_so}
 use Rattle.directory_facts.proofs.Names.{NamesOf, SharedNames, OfSilos, place_silo, ring_silos, owner_named}
 use Rattle.directory_facts.proofs.SeenRings.{AreViews}
-use Rattle.process_deployment.proofs.SayableFacts.{Asks, Tells, Goes, Replaces, Looks, Sends}
+use Rattle.process_deployment.proofs.SayableFacts.{Asks, AsksOn, Tells, Goes, Replaces, Looks, Sends}
 
 -- ---- who is in a view is a silo
 kept_keys : (test : Silo × Status → Bool) (rows : List (Silo × Status)) → All IsSilo (keys_of rows)
@@ -64,10 +64,14 @@ pub view_silos : (settings : Settings) (views : ViewsValue) (places : PlacesValu
     → SharedNames settings places → All IsSilo (members_of (view_at views version))
 view_silos settings views places version are shared =
     kept_keys (λ row. not (is_dead_status row.1)) (view_at views version).rows
-    (on_bool (λ b. All IsSilo (keys_of (cond b (rows_in version views.rows) []))) (nat_le version views.version)
-    (λ t. silos_in version views.rows (All-weaker (λ silo. is_added places silo ≡ true) IsSilo
-    (λ silo added. place_silo places silo shared.silos added) (keys_of views.rows) are.added))
+    (on_bool (λ b. All IsSilo (keys_of (cond b (listed_rows rows) []))) (nat_le version views.version)
+    (λ t. kept_keys (λ row. not (is_spare rows row.0 row.1)) rows
+    (silos_in version views.rows (All-weaker (λ silo. is_added places silo ≡ true) IsSilo
+    (λ silo added. place_silo places silo shared.silos added) (keys_of views.rows) are.added)))
     (λ f. All-nil IsSilo))
+  where
+    rows : List (Silo × Status)
+    rows = rows_in version views.rows
 
 -- ---- what a node knows, to send letters
 pub record Knows (node : Node) : Type 0 where
@@ -146,6 +150,18 @@ outstanding_ask host named replaces looks =
     put_ask (held_acts host) (find_acts host) (held_ask host host.held named replaces)
     (All-map (λ (e : ℕ × Act). Asks e.1) (λ (e : ℕ × Grain). (e.0, act.Find e.1)) host.finds looks)
 
+-- ---- recoveries
+-- nobody has told of any grain yet
+pub new_asks : (view : ViewValue) (range : Range) → All IsSilo (members_of view) → AsksOn (new_recovery view range)
+new_asks view range members = record { silos = members; grains = All-nil (λ (e : Silo × Grain). IsGrain e.1) }
+
+told_grain : (silo : Silo) (recovery : Recovery) → AsksOn recovery → IfSome (told_by silo recovery) IsGrain
+told_grain silo recovery asks = by (told_by silo recovery) refl
+  where
+    by : (o : Option Grain) → told_by silo recovery ≡ o → IfSome o IsGrain
+    by None none = tt
+    by (Some grain) found = (found_so (λ (e : Silo × Grain). IsGrain e.1) (is_at (silo_cmp silo)) grain recovery.told asks.grains found).2
+
 -- ---- all of it
 module _ (node : Node) (its : Knows node) (sends : Sends node.host node.recoveries) where
   pub requests_go : All Goes (all_requests node)
@@ -157,13 +173,22 @@ module _ (node : Node) (its : Knows node) (sends : Sends node.host node.recoveri
       (All-filter (λ (e : ℕ × Act). grain_eq (grain_of e.1) grain) (λ (e : ℕ × Act). Asks e.1) (outstanding node.host)
       (outstanding_ask node.host its.held sends.replaced sends.looked_for))
 
+  -- what has been reported for a piece
+  pub asks_on : (range : Range) → AsksOn (recovery_of node range)
+  asks_on range =
+      found_or AsksOn (is_at (nat_cmp range.start)) (new_recovery node.view range) node.recoveries sends.awaited
+      (new_asks node.view range its.members)
+
+  pub query_goes : (range : Range) (silo : Silo) → IsSilo silo → Goes (query_to node range silo)
+  query_goes range silo is =
+      sent node its silo (Query_letter range (told_by silo (recovery_of node range))) is
+      (told_grain silo (recovery_of node range) (asks_on range))
+
   pub queries_go : (range : Range) → All Goes (query_letters node range)
   queries_go range =
-      All-map Goes (λ silo. letter_to silo node (Query_letter range)) (recovery_of node range).awaiting
-      (All-weaker IsSilo (λ silo. Goes (letter_to silo node (Query_letter range)))
-      (λ silo is. sent node its silo (Query_letter range) is tt) (recovery_of node range).awaiting
-      (found_or (λ (r : Recovery). All IsSilo r.awaiting) (is_at (nat_cmp range.start)) (new_recovery node.view range) node.recoveries
-      sends.awaited its.members))
+      All-map Goes (query_to node range) (recovery_of node range).awaiting
+      (All-weaker IsSilo (λ silo. Goes (query_to node range silo)) (query_goes range) (recovery_of node range).awaiting
+      (asks_on range).silos)
 
   want_goes : (its_state : PieceState) (range : Range) → AwaitsSilo its_state → All Goes (wants_by its_state node range)
   want_goes state.Settled range awaits = none_goes

@@ -28,7 +28,7 @@ use Rattle.directory_rules.specs.Sight.{is_next}
 use Rattle.directory_rules.specs.Table.{table_of}
 use Rattle.directory_rules.specs.State.{Piece, Report, Recovery, Host, Letter, Body, Request_letter, Reply_letter, Page_letter, Missing_letter, Done_letter, Report_letter, Behind_letter, Ahead_letter, Offer_letter, Node}
 use Rattle.directory_rules.specs.Receive.{replying}
-use Rattle.directory_rules.specs.Recovery.{Awaits_more, new_recovery, recovered}
+use Rattle.directory_rules.specs.Recovery.{new_recovery, recovered}
 use Rattle.directory_rules.specs.Host.{entry_of, held_of, next_held, with_started, next_closing, with_closing, with_find, without_find, without_held, confirmed, renewed, renewed_phase, new_number, renewed_about, held_renewed_about, new_number_about}
 use Rattle.directory_rules.specs.Node.{new_node}
 use Rattle.directory_rules.specs.Sent.{recovery_of, all_requests, all_wants}
@@ -37,16 +37,15 @@ use Rattle.directory_rules.specs.Transfer as tr
 use Rattle.directory_rules.specs.Input.{Input}
 use Rattle.directory_facts.specs.Named.{IsNamed}
 use Rattle.directory_facts.proofs.Carried.{Facts, Brings, IsSight, Keeps, Both, KeepsBeside, both_keep}
-use Rattle.directory_facts.proofs.Collected.{found_or}
 use Rattle.directory_facts.proofs.Entries.{same_key, all_put, all_set, all_removed, found_so}
 use Rattle.directory_facts.proofs.NamedTables.{NamesAct}
 use Rattle.directory_facts.proofs.Names.{NamesBody}
 use Rattle.directory_facts.proofs.NamesKept.{all_names, names_keep}
 use Rattle.directory_facts.proofs.EachStep.{by_way}
 use Rattle.directory_facts.proofs.Ways.{Ways}
-use Rattle.process_deployment.proofs.SayableAnswers.{answers, handed_digest, StillAwaits, recovered_awaits}
-use Rattle.process_deployment.proofs.SayableFacts.{Tells, IsOnSilo, Goes, Replaces, Looks, Waits, Sends, sent_facts}
-use Rattle.process_deployment.proofs.SayableSending.{Knows, knows, view_silos, one_goes, none_goes, sent, request_goes, requests_go, requests_of_grain_go, queries_go, wants_go}
+use Rattle.process_deployment.proofs.SayableAnswers.{answers, handed_digest, StillAsks, recovered_asks}
+use Rattle.process_deployment.proofs.SayableFacts.{AsksOn, Tells, IsOnSilo, Goes, Replaces, Looks, Waits, Sends, sent_facts}
+use Rattle.process_deployment.proofs.SayableSending.{Knows, knows, view_silos, one_goes, none_goes, sent, request_goes, requests_go, requests_of_grain_go, new_asks, asks_on, query_goes, queries_go, wants_go}
 
 -- ---- recoveries that begin anew
 anew : (view : ViewValue) → All IsSilo (members_of view) → (pieces : List (ℕ × Piece)) → All Waits (at.new_recoveries view pieces)
@@ -57,7 +56,8 @@ anew view members (e ∷ es) = by e.1.state (anew view members es)
         → All Waits (cons_option (at.recovery_in its view e.1) (at.new_recoveries view es))
     by state.Settled later = later
     by (state.Awaiting from) later = later
-    by state.Recovering later = All-cons Waits (e.1.range.start, new_recovery view e.1.range) (at.new_recoveries view es) members later
+    by state.Recovering later =
+        All-cons Waits (e.1.range.start, new_recovery view e.1.range) (at.new_recoveries view es) (new_asks view e.1.range members) later
 
 -- ---- steps
 module _ (settings : Settings) (views : ViewsValue) (places : PlacesValue) (silo : Silo) (node : Node)
@@ -149,19 +149,26 @@ module _ (settings : Settings) (views : ViewsValue) (places : PlacesValue) (silo
       with_waits (remove_entry (is_at (nat_cmp range.start)) node.recoveries)
       (all_removed Waits (is_at (nat_cmp range.start)) node.recoveries sends.awaited)
 
-  collected : (recovery : Recovery) → All IsSilo recovery.awaiting
+  collected : (recovery : Recovery) → AsksOn recovery
       → Sends node.host (insert_entry nat_cmp node.recoveries recovery.range.start recovery)
   collected recovery waits =
       with_waits (insert_entry nat_cmp node.recoveries recovery.range.start recovery)
       (all_put nat_cmp exact_unsigned Waits recovery.range.start recovery node.recoveries sends.awaited waits)
 
-  report_waits : (report : Report) (recovery : Recovery) → recovered (recovery_of node report.range) report ≡ Awaits_more recovery
-      → All IsSilo recovery.awaiting
-  report_waits report recovery is =
-      subst StillAwaits is
-      (recovered_awaits (recovery_of node report.range) report
-      (found_or (λ (r : Recovery). All IsSilo r.awaiting) (is_at (nat_cmp report.range.start)) (new_recovery node.view report.range)
-      node.recoveries sends.awaited its.members))
+  -- after a report
+  reported : (letter : Letter) (report : Report) → letter.body ≡ Report_letter report → NamesBody letter.body → Goes letter
+      → StillAsks (recovered (recovery_of node report.range) report)
+  reported letter report body says goes =
+      recovered_asks (recovery_of node report.range) report (asks_on node its sends report.range) (subst Tells body goes.tells)
+      (subst NamesBody body says)
+
+  asked_on : (letter : Letter) (report : Report) (recovery : Recovery) → report.silo ≡ letter.from → AsksOn recovery → Goes letter
+      → all_names.node settings views places silo (tr.with_recovery node recovery)
+      → Kept (tr.querying_on report.range report.silo (tr.with_recovery node recovery))
+  asked_on letter report recovery sender asks goes so =
+      let made = tr.with_recovery node recovery in
+      let makes : Sends made.host made.recoveries = collected recovery asks in
+      (makes, one_goes _ (query_goes made (after made so) makes report.range report.silo (subst IsSilo (sym sender) goes.from)))
 
   -- letters back
   back : (letter : Letter) (made : Node) (body : Body) → made.host ≡ node.host → Goes letter → Tells body
@@ -214,7 +221,7 @@ module _ (settings : Settings) (views : ViewsValue) (places : PlacesValue) (silo
       → Kept (tr.querying range (tr.turned_to_recovery node range))
   turned range so =
       let made = tr.turned_to_recovery node range in
-      let makes : Sends made.host made.recoveries = collected (new_recovery node.view range) its.members in
+      let makes : Sends made.host made.recoveries = collected (new_recovery node.view range) (new_asks node.view range its.members) in
       (makes, queries_go made (after made so) makes range)
 
   ways : Ways node Made
@@ -258,7 +265,8 @@ module _ (settings : Settings) (views : ViewsValue) (places : PlacesValue) (silo
     forgoes = λ letter range body there brings goes so. (sends, none_goes);
     lags = λ letter range brings goes so. (sends, back letter node (Behind_letter range) refl goes.1 tt);
     passed = λ letter range brings goes so. (sends, back letter node (Ahead_letter range) refl goes.1 tt);
-    reports = λ letter range body seen brings goes so. (sends, back letter node (Report_letter (tr.report_of node range)) refl goes.1 tt);
+    reports = λ letter range after body seen brings goes so.
+        (sends, back letter node (Report_letter (tr.report_of node range after)) refl goes.1 (subst Tells body goes.1.tells));
     gathers =
         λ letter page gathering taken is brings goes so. (sends, one_goes _ (record { from = its.silo; to = goes.1.from; tells = tt }));
     installs =
@@ -269,7 +277,10 @@ module _ (settings : Settings) (views : ViewsValue) (places : PlacesValue) (silo
         );
     drops = λ letter page gathering taken is brings goes so. (sends, none_goes);
     turns = λ letter range piece body has awaits brings goes so. turned range so;
-    collects = λ letter report recovery taken is brings goes so. (collected recovery (report_waits report recovery is), none_goes);
+    continues = λ letter report recovery taken is brings goes so.
+        asked_on letter report recovery taken.sender (subst StillAsks is (reported letter report taken.body brings.1.1 goes.1)) goes.1 so;
+    collects = λ letter report recovery taken is brings goes so.
+        (collected recovery (subst StillAsks is (reported letter report taken.body brings.1.1 goes.1)), none_goes);
     completes = λ letter report table taken is brings goes so. (settled report.range, none_goes);
     takes_over =
         λ letter entry body seen may brings goes so. let offered : IsNamed entry = subst NamesBody body brings.1.1 in

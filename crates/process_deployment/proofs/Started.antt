@@ -1,5 +1,5 @@
 -- A process that reads lines before its silo's join is decided is one that reads them after that.
-use Rattle.std.proofs.Common.{◌≡◌, ◌≢◌, ℕ, zero, suc, Bool, true, false, List, [], ◌∷◌, ◌++◌, ◌⊎◌, inl, inr, Option, Some, None, Result, Ok, Err, refl, sym, ap, ◌∙◌, subst}
+use Rattle.std.proofs.Common.{arith, ◌≡◌, ◌≢◌, ℕ, zero, suc, ◌≤◌, length, length-append, take, Bool, true, false, List, [], ◌∷◌, ◌++◌, ◌⊎◌, inl, inr, Option, Some, None, Result, Ok, Err, refl, sym, ap, ◌∙◌, subst}
 use Rattle.std.specs.Prelude.{⊤, cond, not, map, filter, All, IfSome, slice_get}
 use Rattle.std.specs.Ordering.{match_ordering}
 use Rattle.std.specs.declared.cmp.Ordering.{Ordering}
@@ -7,6 +7,7 @@ use Rattle.std.specs.declared.cmp.Ordering.TheVariants.{Less, Equal, Greater}
 use Rattle.std.specs.Map.{lookup, remove_entry}
 use Rattle.std.specs.BTreeMap.{is_at, insert_entry}
 use Rattle.std.proofs.lemmas.Cmp.{tied_itself}
+use Rattle.std.proofs.lemmas.List.{take-append-le}
 use Rattle.std.proofs.lemmas.List.Elements.{All-nil, All-cons, All-head, All-tail, All-weaker}
 use Rattle.silo_address.specs.Silo.{Silo, IsSilo, silo_cmp, silo_eq}
 use Rattle.silo_address.proofs.Order.{silo_cmp_total, silo_cmp_exact}
@@ -14,10 +15,12 @@ use Rattle.silo_address.proofs.Same.{Decides-silo}
 use Rattle.directory_rules.proofs.Cases.{on_bool}
 use Rattle.directory_rules.specs.Settings.{Settings}
 use Rattle.directory_facts.proofs.Lookups.{found_put, found_beside_put, found_beside_removed}
-use Rattle.directory_rules.specs.Membership.{Change, Join, Leave, Die, Membership, changed}
-use Rattle.process_rules.specs.ReadLine.{Asked, Joined, Leaving, Dead, See, Do, Receive, Ping, Owner, Place, Figures, Show, Dump}
+use Rattle.directory_rules.specs.Membership.{Change, Join, Leave, Die, Membership, changed, listing_of}
+use Rattle.silo_rules.specs.Begun.{told_view}
+use Rattle.silo_rules.specs.SiloValue.{SiloValue}
+use Rattle.process_rules.specs.ReadLine.{Asked, Joined, Leaving, Dead, Begin, See, Do, Receive, Ping, Owner, Place, Figures, Show, Dump}
 use Rattle.process_rules.specs.Output.{said}
-use Rattle.process_deployment.specs.Allowed.{IsLine, MayAsk, MayAskDead, IfAsks, May, MayAll}
+use Rattle.process_deployment.specs.Allowed.{decided_by, IsLine, MayAsk, MayAskDead, IfAsks, May, MayAll}
 use Rattle.process_deployment.specs.Cluster.{JoinTokens, Process, started, answer_to, having_read, reads, Cluster, first_cluster, process_at}
 use Rattle.process_deployment.specs.Started.{Starting, StartingStep, Start, ReadEarly, Go, its_process, still_waiting, joining, after_starting, after_all_starting, MayAskEarly, MayStart, MayAllStart, first_starting, IsRunFrom, StartsAreRuns}
 use Rattle.process_deployment.specs.Unjoined.{reads_all}
@@ -107,6 +110,7 @@ early_asked : (c : Cluster) (p : Process) (asked : Asked) → MayAskEarly c.chan
 early_asked c p (Joined version silo token places) early = early
 early_asked c p (Leaving version silo) early = early
 early_asked c p (Dead version silo) early = early
+early_asked c p (Begin version rows) early = early
 early_asked c p (See version) early = tt
 early_asked c p (Do step) early = tt
 early_asked c p (Receive letter) early = λ own joined. absurd (cc (early, joined))
@@ -122,11 +126,28 @@ early_asks c p (Ok (Some asked)) early = early_asked c p asked early
 early_asks c p (Ok None) early = tt
 early_asks c p (Err fault) early = tt
 
+-- what the first changes make, they make whatever follows
+more_view : (changes more : List Change) (s : SiloValue) (version : ℕ) (m : Membership)
+    → (version ≤ length changes) × (told_view s.node.settings s.membership s.node.host.silo version
+    (listing_of (decided_by s.node.settings (take version changes)) version) ≡ Ok m)
+    → (version ≤ length (changes ++ more))
+    × (told_view s.node.settings s.membership s.node.host.silo version
+    (listing_of (decided_by s.node.settings (take version (changes ++ more))) version) ≡ Ok m)
+more_view changes more s version m early =
+    let upto = early.0 in
+    let longer = length-append changes more in (
+      omega (upto, longer, arith),
+      ap (λ cs. told_view s.node.settings s.membership s.node.host.silo version (listing_of (decided_by s.node.settings cs) version))
+          (take-append-le version changes more upto)
+          ∙ early.1,
+    )
+
 more_asked : (changes more : List Change) (p : Process) (asked : Asked) → MayAskEarly changes p asked
     → MayAskEarly (changes ++ more) p asked
 more_asked changes more p (Joined version silo token places) early = λ takes makes. more_changes changes more _ _ (early takes makes)
 more_asked changes more p (Leaving version silo) early = λ makes. more_changes changes more _ _ (early makes)
 more_asked changes more p (Dead version silo) early = λ makes. more_changes changes more _ _ (early makes)
+more_asked changes more p (Begin version rows) early = λ m takes. more_view changes more p.silo version m (early m takes)
 more_asked changes more p (See version) early = tt
 more_asked changes more p (Do step) early = tt
 more_asked changes more p (Receive letter) early = early

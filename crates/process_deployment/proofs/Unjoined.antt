@@ -1,5 +1,6 @@
 -- A process that isn't told of its silo's join does nothing.
 use Rattle.std.proofs.Common.{◌≡◌, ℕ, Bool, true, false, List, [], ◌∷◌, Option, Some, None, is_some, Result, Ok, Err, refl, sym, ap, ◌∙◌, subst}
+use Rattle.std.specs.Fmt.{decimal}
 use Rattle.std.specs.Prelude.{cond, All, codes}
 use Rattle.std.specs.Io.BufRead.{strip_last}
 use Rattle.std.proofs.lemmas.List.Elements.{All-nil, All-append, All-head, All-tail}
@@ -16,15 +17,16 @@ use Rattle.directory_rules.specs.Node.{new_node}
 use Rattle.directory_rules.specs.Settings.{Settings}
 use Rattle.directory_rules.specs.Step.{Stepped, silently}
 use Rattle.script_rules.specs.Lines.{happening_words, refusal_line}
-use Rattle.directory_rules.specs.Membership.{Change, Join, Leave, Die, barred_by}
+use Rattle.directory_rules.specs.Membership.{Change, Join, Leave, Die, barred_by, Listed, Membership}
 use Rattle.silo_rules.specs.SiloValue.{SiloValue, own_status, told_of_its_join}
 use Rattle.silo_rules.specs.Steps.{barred, unless_barred, seen, does}
 use Rattle.silo_rules.specs.Told.{Heard, told}
+use Rattle.silo_rules.specs.Begun.{told_view}
 use Rattle.silo_rules.specs.Whole.{IsWhole}
 use Rattle.silo_rules.proofs.Whole.{first_whole}
-use Rattle.process_rules.specs.ReadLine.{Asked, Joined, Leaving, Dead, See, Do, Receive, Ping, Owner, Place, Figures, Show, Dump, read_silo_line}
+use Rattle.process_rules.specs.ReadLine.{Asked, Joined, Leaving, Dead, Begin, See, Do, Receive, Ping, Owner, Place, Figures, Show, Dump, read_silo_line}
 use Rattle.process_rules.specs.Happened.{news_words, received_words}
-use Rattle.process_rules.specs.Answer.{Answered, printing, heard, told_so, stepped, received_so, is_anothers_join, answered, answered_as}
+use Rattle.process_rules.specs.Answer.{Answered, printing, heard, told_so, begun, begun_so, stepped, received_so, is_anothers_join, answered, answered_as}
 use Rattle.process_rules.specs.Show.{dump_line, figures_line, grain_owner_line, grain_place_line}
 use Rattle.process_rules.specs.Output.{answered_to, fault_line, said}
 use Rattle.process_rules.specs.OutputLaws.{CarriesItsJoin}
@@ -32,7 +34,7 @@ use Rattle.process_rules.proofs.StaysWhole.{silo_kept, line_whole}
 use Rattle.process_deployment.specs.Cluster.{Process, started, answer_to, having_read, reads}
 use Rattle.process_deployment.specs.Unjoined.{reads_all, TellsNoJoin, UnjoinedDoNothing}
 use Rattle.process_deployment.proofs.Silent.{IsSilent}
-use Rattle.process_deployment.proofs.Answers.{AreSilent, silent_alone, news_silent, told_silent, refusal_silent, fault_silent, pong_silent, owner_silent, place_silent, figures_silent, show_silent, dump_silent}
+use Rattle.process_deployment.proofs.Answers.{AreSilent, silent_alone, begun_silent, news_silent, told_silent, refusal_silent, fault_silent, pong_silent, owner_silent, place_silent, figures_silent, show_silent, dump_silent}
 use Rattle.process_deployment.proofs.JoinedBy.{by_line}
 
 -- ---- each line is answered by lines that say no letter, and leaves the node
@@ -79,11 +81,20 @@ module _ (hashing : Hashing) (s : SiloValue) (untold : own_status s ≡ None) wh
                 (own_status next) line next (news_silent hashing version change its.news),
           )
 
+  begun_idle : (version : ℕ) (rows : List Listed) → IsIdle (begun_so version rows s)
+  begun_idle version rows = by (told_view s.node.settings s.membership s.node.host.silo version rows)
+    where
+      by : (o : Result Membership ℕ) → IsIdle (begun o version s)
+      by (Err number) = refused number
+      by (Ok m) =
+          (refl, silent_alone hashing (sentence (codes "view" ∷ decimal version ∷ codes "begins" ∷ [])) (begun_silent hashing version))
+
   asked_idle : (asked : Asked) → IsIdle (answered asked s)
   unfolding answered
   asked_idle (Joined version who token places) = told_idle version (Join who places)
   asked_idle (Leaving version who) = told_idle version (Leave who)
   asked_idle (Dead version who) = told_idle version (Die who)
+  asked_idle (Begin version rows) = begun_idle version rows
   asked_idle (See version) = step_idle (λ made. happening_words (Saw s.node.host.silo version made)) (seen s version)
   asked_idle (Do asked) = done_idle (Does asked)
   asked_idle (Receive letter) = received_idle letter

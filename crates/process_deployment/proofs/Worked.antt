@@ -30,7 +30,7 @@ use Rattle.process_deployment.specs.Allowed.{IsWritten, IsLine, May, MayAll}
 use Rattle.process_deployment.specs.Cluster.{Cluster, first_cluster, all_lines}
 use Rattle.process_deployment.specs.Steps.{after, after_all}
 use Rattle.process_deployment.specs.Worked.{worked_join_tokens, WorkedCluster}
-use Rattle.process_deployment.specs.Wrong.{AForgedLineConfirms, ADeadProcessGoesOn, AnotherChangeIsTold, ARestartForgets, ARestartIsRefused, firm_at, hashed_settings, hashed, set_apart, owned_twice, OtherSettingsSplit}
+use Rattle.process_deployment.specs.Wrong.{AForgedLineConfirms, ADeadProcessGoesOn, AnotherChangeIsTold, AnotherViewIsTold, ARestartForgets, ARestartIsRefused, firm_at, hashed_settings, hashed, set_apart, owned_twice, OtherSettingsSplit}
 
 unfoldable pub all_opened : Type 0
 unfolding digits sha256 hash_after compress rounds schedule first_words digest_bytes encode_with decode_pairs silo_words read_silo
@@ -38,10 +38,10 @@ unfolding digits sha256 hash_after compress rounds schedule first_words digest_b
     after_all May MayAll
 all_opened = Unit {0}
 
-a : IsSilo silo_a
+pub a : IsSilo silo_a
 a = (Decides-is_silo silo_a).0 refl
 
-b : IsSilo silo_b
+pub b : IsSilo silo_b
 b = (Decides-is_silo silo_b).0 refl
 
 abbrev is_inner : ℕ → Bool
@@ -53,18 +53,18 @@ no_end byte inner same = absurd (cc (inner, same))
 abbrev IsNoEnd : ℕ → Type 0
 IsNoEnd byte = byte ≡ line_feed → ⊥
 
-line : (bytes : List ℕ) → list_all is_inner bytes ≡ true → IsLine bytes
+pub line : (bytes : List ℕ) → list_all is_inner bytes ≡ true → IsLine bytes
 line [] inner = All-nil IsNoEnd
 line (byte ∷ bytes) inner =
     let parts = both (is_inner byte) (list_all is_inner bytes) inner in
     All-cons IsNoEnd byte bytes (no_end byte parts.0) (line bytes parts.1)
 
 -- a place that is a hash
-place : (place : ℕ) → nat_lt place circle ≡ true → All (λ place. place < circle) (place ∷ [])
+pub place : (place : ℕ) → nat_lt place circle ≡ true → All (λ place. place < circle) (place ∷ [])
 place at below = All-cons (λ place. place < circle) at [] (ltb-true at circle below) (All-nil (λ place. place < circle))
 
 -- a line that stands behind so many others says the letter
-said_so : (c : Cluster) (letter : Letter) (k : ℕ) (line : List ℕ) → slice_get (all_lines c) k ≡ Some line
+pub said_so : (c : Cluster) (letter : Letter) (k : ℕ) (line : List ℕ) → slice_get (all_lines c) k ≡ Some line
     → read_silo_line c.settings.hashing line ≡ Ok (Some (Receive letter)) → IsWritten c letter
 said_so c letter k line is says =
     record {
@@ -93,9 +93,9 @@ worked_cluster = record {
           (
             (
               a,
-              line (codes "letter 10.0.0.1:1000@1 10.0.0.1:1000@1 1 report 0+4294967296") refl,
+              line (codes "letter 10.0.0.1:1000@1 10.0.0.1:1000@1 1 report 0+4294967296 last") refl,
               λ own joined. said_so _ _ 4
-                  (codes "letter 10.0.0.1:1000@1 10.0.0.1:1000@1 1 report 0+4294967296") refl refl,
+                  (codes "letter 10.0.0.1:1000@1 10.0.0.1:1000@1 1 report 0+4294967296 last") refl refl,
               tt,
             ),
             (
@@ -168,6 +168,10 @@ pub another_change_is_told : AnotherChangeIsTold
 unfolding all_opened
 another_change_is_told = refl
 
+pub another_view_is_told : AnotherViewIsTold
+unfolding all_opened
+another_view_is_told = refl
+
 pub a_restart_forgets : ARestartForgets
 unfolding all_opened
 a_restart_forgets = refl
@@ -195,7 +199,7 @@ may_before = (
         let said = codes "letter 10.0.0.1:1000@1 10.0.0.1:1000@1 1 query 1434877701+1302175457" in
             (a, line said refl, λ own joined. said_so (hashed_by 3) _ 2 said refl refl, tt),
         (
-          let said = codes "letter 10.0.0.1:1000@1 10.0.0.1:1000@1 1 report 1434877701+1302175457" in
+          let said = codes "letter 10.0.0.1:1000@1 10.0.0.1:1000@1 1 report 1434877701+1302175457 last" in
               (a, line said refl, λ own joined. said_so (hashed_by 4) _ 5 said refl refl, tt),
           (
             (b, All-nil (λ place. place < circle)),
@@ -232,10 +236,10 @@ may_after = (
                   let said = codes "letter 10.0.0.2:1000@1 10.0.0.2:1000@1 2 query 40231030+2696822128" in
                       (b, line said refl, λ own joined. said_so (apart_by 8) _ 21 said refl refl, tt),
                   (
-                    let said = codes "letter 10.0.0.1:1000@1 10.0.0.2:1000@1 2 report 40231030+2696822128" in
+                    let said = codes "letter 10.0.0.1:1000@1 10.0.0.2:1000@1 2 report 40231030+2696822128 last" in
                         (b, line said refl, λ own joined. said_so (apart_by 9) _ 14 said refl refl, tt),
                     (
-                      let said = codes "letter 10.0.0.2:1000@1 10.0.0.2:1000@1 2 report 40231030+2696822128" in
+                      let said = codes "letter 10.0.0.2:1000@1 10.0.0.2:1000@1 2 report 40231030+2696822128 last" in
                           (b, line said refl, λ own joined. said_so (apart_by 10) _ 23 said refl refl, tt),
                       (
                         (a, line (codes "wake user/a#7") refl, tt, tt),

@@ -4,6 +4,7 @@ pub mod Steps
 pub mod Allowed
 pub mod Theorems
 pub mod Worked
+pub mod Begun
 pub mod Wrong
 pub mod Firm
 pub mod Started

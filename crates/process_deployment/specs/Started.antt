@@ -6,9 +6,9 @@ use Rattle.silo_address.specs.Silo.{Silo, IsSilo, silo_cmp, silo_eq}
 use Rattle.directory_rules.specs.Settings.{Settings}
 use Rattle.directory_rules.specs.Membership.{Change, Join, Leave, Die, Membership, changed}
 use Rattle.silo_rules.specs.SiloValue.{told_of_its_join}
-use Rattle.process_rules.specs.ReadLine.{Asked, Joined, Leaving, Dead, Receive}
+use Rattle.process_rules.specs.ReadLine.{Asked, Joined, Leaving, Dead, Begin, Receive}
 use Rattle.process_rules.specs.Output.{said}
-use Rattle.process_deployment.specs.Allowed.{IsDecided, TakesJoin, IsLine, IfAsks, May, MayAll}
+use Rattle.process_deployment.specs.Allowed.{IsDecided, IsDecidedView, TakesJoin, IsLine, IfAsks, May, MayAll}
 use Rattle.process_deployment.specs.Cluster.{JoinTokens, Process, started, Cluster, first_cluster, process_at}
 use Rattle.process_deployment.specs.Steps.{Step, Decide, Read, decided, reading, after, clustered}
 
@@ -57,12 +57,13 @@ unfoldable pub after_all_starting : Starting → List StartingStep → Starting
 after_all_starting s [] = s
 after_all_starting s (step ∷ steps) = after_all_starting (after_starting s step) steps
 
--- what may be asked of a process that waits: a change that it is told was decided. Any letter may come to it, whether it was written or
--- not, since it wasn't told of its join
+-- what may be asked of a process that waits: a change that it is told was decided, and a view with which it begins is that of a version that
+-- was. Any letter may come to it, whether it was written or not, since it wasn't told of its join
 abbrev pub MayAskEarly : List Change → Process → Asked → Type 0
 MayAskEarly changes p (Joined version silo token places) = TakesJoin p (Joined version silo token places) → IsDecided changes p.silo version (Join silo places)
 MayAskEarly changes p (Leaving version silo) = IsDecided changes p.silo version (Leave silo)
 MayAskEarly changes p (Dead version silo) = IsDecided changes p.silo version (Die silo)
+MayAskEarly changes p (Begin version rows) = IsDecidedView changes p.silo version rows
 MayAskEarly changes p (Receive letter) = told_of_its_join p.silo ≡ false
 MayAskEarly changes p other = ⊤
 

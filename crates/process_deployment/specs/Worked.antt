@@ -20,7 +20,7 @@ opening =
     ∷ Read silo_a (codes "joined 1 10.0.0.1:1000@1 0")
     ∷ Read silo_a (codes "see 1")
     ∷ Read silo_a (codes "letter 10.0.0.1:1000@1 10.0.0.1:1000@1 1 query 0+4294967296")
-    ∷ Read silo_a (codes "letter 10.0.0.1:1000@1 10.0.0.1:1000@1 1 report 0+4294967296")
+    ∷ Read silo_a (codes "letter 10.0.0.1:1000@1 10.0.0.1:1000@1 1 report 0+4294967296 last")
     ∷ []
 
 -- the second silo has its point at 1000; its process refuses a join that another one of its address would take
@@ -59,7 +59,7 @@ pub record WorkedCluster : Type 0 where
       ∷ codes "10.0.0.1:1000@1 sees 1 next"
       ∷ codes "letter 10.0.0.1:1000@1 10.0.0.1:1000@1 1 query 0+4294967296"
       ∷ codes "delivered query report"
-      ∷ codes "letter 10.0.0.1:1000@1 10.0.0.1:1000@1 1 report 0+4294967296"
+      ∷ codes "letter 10.0.0.1:1000@1 10.0.0.1:1000@1 1 report 0+4294967296 last"
       ∷ codes "delivered report complete"
       ∷ codes "view 2 joined 10.0.0.2:1000@1"
       ∷ codes "10.0.0.1:1000@1 sees 2 next"

@@ -50,7 +50,7 @@ ADeadProcessGoesOn =
     (Read silo_b (codes "dead 3 10.0.0.1:1000@1")
     ∷ Read silo_b (codes "see 3")
     ∷ Read silo_b (codes "letter 10.0.0.2:1000@1 10.0.0.2:1000@1 3 query 0+1000")
-    ∷ Read silo_b (codes "letter 10.0.0.2:1000@1 10.0.0.2:1000@1 3 report 0+1000")
+    ∷ Read silo_b (codes "letter 10.0.0.2:1000@1 10.0.0.2:1000@1 3 report 0+1000 last")
     ∷ Read silo_b (codes "wake user/a#7")
     ∷ Read silo_b (codes "letter 10.0.0.2:1000@1 10.0.0.2:1000@1 3 register 1 user/a#7 10.0.0.2:1000@1!1")
     ∷ Read silo_b (codes "letter 10.0.0.2:1000@1 10.0.0.2:1000@1 3 registered 1 user/a#7 10.0.0.2:1000@1!1")
@@ -67,10 +67,28 @@ AnotherChangeIsTold =
     ∷ Read silo_b (codes "joined 1 10.0.0.2:1000@1 token=b1 5")
     ∷ Read silo_b (codes "see 1")
     ∷ Read silo_b (codes "letter 10.0.0.2:1000@1 10.0.0.2:1000@1 1 query 0+4294967296")
-    ∷ Read silo_b (codes "letter 10.0.0.2:1000@1 10.0.0.2:1000@1 1 report 0+4294967296")
+    ∷ Read silo_b (codes "letter 10.0.0.2:1000@1 10.0.0.2:1000@1 1 report 0+4294967296 last")
     ∷ Read silo_b (codes "wake user/a#7")
     ∷ Read silo_b (codes "letter 10.0.0.2:1000@1 10.0.0.2:1000@1 1 register 1 user/a#7 10.0.0.2:1000@1!1")
     ∷ Read silo_b (codes "letter 10.0.0.2:1000@1 10.0.0.2:1000@1 1 registered 1 user/a#7 10.0.0.2:1000@1!1")
+    ∷ []))
+    ≡ silo_a ∷ silo_b ∷ []
+
+-- or it begins with a view in which nobody is: it finds itself alone again
+abbrev pub AnotherViewIsTold : Type 0
+AnotherViewIsTold =
+    firm_at grain_a
+    (clustered worked_settings worked_join_tokens
+    (opening ++ waking
+    ++ Decide (Join silo_b (5 ∷ []))
+    ∷ Read silo_b (codes "view 1")
+    ∷ Read silo_b (codes "joined 2 10.0.0.2:1000@1 token=b1 5")
+    ∷ Read silo_b (codes "see 2")
+    ∷ Read silo_b (codes "letter 10.0.0.2:1000@1 10.0.0.2:1000@1 2 query 0+4294967296")
+    ∷ Read silo_b (codes "letter 10.0.0.2:1000@1 10.0.0.2:1000@1 2 report 0+4294967296 last")
+    ∷ Read silo_b (codes "wake user/a#7")
+    ∷ Read silo_b (codes "letter 10.0.0.2:1000@1 10.0.0.2:1000@1 2 register 1 user/a#7 10.0.0.2:1000@1!1")
+    ∷ Read silo_b (codes "letter 10.0.0.2:1000@1 10.0.0.2:1000@1 2 registered 1 user/a#7 10.0.0.2:1000@1!1")
     ∷ []))
     ≡ silo_a ∷ silo_b ∷ []
 
@@ -85,7 +103,7 @@ told_again =
     Read silo_a (codes "joined 1 10.0.0.1:1000@1 0")
     ∷ Read silo_a (codes "see 1")
     ∷ Read silo_a (codes "letter 10.0.0.1:1000@1 10.0.0.1:1000@1 1 query 0+4294967296")
-    ∷ Read silo_a (codes "letter 10.0.0.1:1000@1 10.0.0.1:1000@1 1 report 0+4294967296")
+    ∷ Read silo_a (codes "letter 10.0.0.1:1000@1 10.0.0.1:1000@1 1 report 0+4294967296 last")
     ∷ waking
 
 abbrev pub ARestartForgets : Type 0
@@ -107,7 +125,7 @@ hashed =
     ∷ Read silo_a (codes "joined 1 10.0.0.1:1000@1")
     ∷ Read silo_a (codes "see 1")
     ∷ Read silo_a (codes "letter 10.0.0.1:1000@1 10.0.0.1:1000@1 1 query 1434877701+1302175457")
-    ∷ Read silo_a (codes "letter 10.0.0.1:1000@1 10.0.0.1:1000@1 1 report 1434877701+1302175457")
+    ∷ Read silo_a (codes "letter 10.0.0.1:1000@1 10.0.0.1:1000@1 1 report 1434877701+1302175457 last")
     ∷ Decide (Join silo_b [])
     ∷ []
 
@@ -131,8 +149,8 @@ owned_twice =
     ∷ Read silo_b (codes "letter 10.0.0.1:1000@1 10.0.0.2:1000@1 2 missing 40231030+2696822128")
     ∷ Read silo_a (codes "letter 10.0.0.2:1000@1 10.0.0.1:1000@1 2 query 40231030+2696822128")
     ∷ Read silo_b (codes "letter 10.0.0.2:1000@1 10.0.0.2:1000@1 2 query 40231030+2696822128")
-    ∷ Read silo_b (codes "letter 10.0.0.1:1000@1 10.0.0.2:1000@1 2 report 40231030+2696822128")
-    ∷ Read silo_b (codes "letter 10.0.0.2:1000@1 10.0.0.2:1000@1 2 report 40231030+2696822128")
+    ∷ Read silo_b (codes "letter 10.0.0.1:1000@1 10.0.0.2:1000@1 2 report 40231030+2696822128 last")
+    ∷ Read silo_b (codes "letter 10.0.0.2:1000@1 10.0.0.2:1000@1 2 report 40231030+2696822128 last")
     ∷ Read silo_a (codes "wake user/a#7")
     ∷ Read silo_a (codes "letter 10.0.0.1:1000@1 10.0.0.1:1000@1 2 register 1 user/a#7 10.0.0.1:1000@1!1")
     ∷ Read silo_a (codes "letter 10.0.0.1:1000@1 10.0.0.1:1000@1 2 registered 1 user/a#7 10.0.0.1:1000@1!1")

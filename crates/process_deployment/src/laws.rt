@@ -1,5 +1,6 @@
-//! The laws. All but the last one hold after any steps of a cluster of processes, each started with any token or with none: lines come
+//! The laws. All but the last two hold after any steps of a cluster of processes, each started with any token or with none: lines come
 //! late, again, in another order, astray, faulty, or never.
+ghost use Rattle.process_deployment.specs.Begun.{BegunCluster};
 ghost use Rattle.process_deployment.specs.Firm.{FirmStays, LinesTellFirm};
 ghost use Rattle.process_deployment.specs.Started.{StartsAreRuns};
 ghost use Rattle.process_deployment.specs.Theorems.{ClustersAreDeployments, LinesArePlain, LinesKeepOneFirm, LinesKeepTheHeadline, LivingGoOn, ProcessesJoinByTheirTokens, ProcessesWriteTheirOutput};
@@ -78,4 +79,9 @@ pub fn starts_are_runs()
 /// A cluster of two processes, worked out: what each of them wrote, and that each step may come.
 pub fn worked_cluster()
     ensures { WorkedCluster }
+{}
+
+/// And one of three processes, of which two begin with a view in place of the changes that made it.
+pub fn begun_cluster()
+    ensures { BegunCluster }
 {}

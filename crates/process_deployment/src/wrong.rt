@@ -1,6 +1,6 @@
 //! Wrong clusters of processes: in each a line comes that may not come, a dead silo's process goes on, or one begins anew as the same
 //! silo or with other settings, and two processes have a grain firm.
-ghost use Rattle.process_deployment.specs.Wrong.{ADeadProcessGoesOn, AForgedLineConfirms, AnotherChangeIsTold, ARestartForgets, ARestartIsRefused, OtherSettingsSplit};
+ghost use Rattle.process_deployment.specs.Wrong.{ADeadProcessGoesOn, AForgedLineConfirms, AnotherChangeIsTold, AnotherViewIsTold, ARestartForgets, ARestartIsRefused, OtherSettingsSplit};
 
 /// A letter's line that no process wrote confirms an activation.
 pub fn a_forged_line_confirms()
@@ -15,6 +15,11 @@ pub fn a_dead_process_goes_on()
 /// A process reads another change than the one that was decided.
 pub fn another_change_is_told()
     ensures { AnotherChangeIsTold }
+{}
+
+/// A process begins with another view than the one that the changes decided made.
+pub fn another_view_is_told()
+    ensures { AnotherViewIsTold }
 {}
 
 /// A process that has ended is started again as the same silo, of the same generation.

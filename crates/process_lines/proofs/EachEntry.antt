@@ -1,13 +1,14 @@
 -- The entries of a page or a report, read two words at a time.
-use Rattle.std.proofs.Common.{◌≡◌, subst, ap, ◌∙◌, sym, refl, ℕ, Bool, true, false, Result, Ok, Err, List, [], ◌∷◌, ◌++◌, append_assoc}
+use Rattle.std.proofs.Common.{◌≡◌, subst, ap, ◌∙◌, sym, refl, ℕ, Bool, true, false, Option, Result, Ok, Err, List, [], ◌∷◌, ◌++◌, append_assoc}
 use Rattle.std.specs.Prelude.{◌≢◌, IsErrAnd, IsOk}
 use Rattle.std.proofs.lemmas.List.{append-nil}
+use Rattle.silo_address.specs.Grain.{Grain}
 use Rattle.silo_address.specs.declared.Entry.{Entry}
 use Rattle.ring_range.specs.Range.{Range}
 use Rattle.directory_rules.specs.State.{Letter, Page_letter, Report_letter}
 use Rattle.script_rules.specs.Script.{number_word, ◌>>=◌}
 use Rattle.process_rules.specs.Entries.{TellsEntries}
-use Rattle.process_rules.specs.ReadLetter.{Head, letter_of, range_word, digest_word, are_pairs, entries_in, entry_of_words, report_for, a_report, page_for}
+use Rattle.process_rules.specs.ReadLetter.{Head, letter_of, range_word, digest_word, are_pairs, last_word, entries_in, entry_of_words, report_behind, page_for}
 use Rattle.process_lines.specs.declared.fault.LineError.{LineError}
 use Rattle.process_lines.specs.declared.fault.LineError.TheVariants.{Fault, OutOfMemory}
 use Rattle.process_lines.specs.ReadAs.{Fails, Reads}
@@ -103,33 +104,42 @@ pub handed_on : {A B : Type 0} (view : A → B) (result : Result A LineError) (e
 handed_on view (Ok value) error read is fails = absurd is
 handed_on view (Err same) error read is fails = subst (λ (e : LineError). Fails e read) (sym is) fails
 
-abbrev report_made : Head → Range → List Entry → Letter
-report_made head range entries =
-    letter_of head (Report_letter (record { version = head.version; range = range; silo = head.from; entries = entries }))
+abbrev report_made : Head → Range → Option Grain → Bool → List Entry → Letter
+report_made head range after last entries =
+    letter_of head (Report_letter (record {
+      version = head.version;
+      range = range;
+      silo = head.from;
+      after = after;
+      entries = entries;
+      last = last;
+    }))
 
-report_is : (read : Result Head ℕ) (words behind : List (List ℕ)) (word : List ℕ) (head : Head) (range : Range) → words ≡ word ∷ behind
-    → are_pairs behind ≡ true
-    → read ≡ Ok head → range_word word ≡ Ok range → a_report read words
-    ≡ (entries_in behind >>= λ entries. Ok (report_made head range entries))
-report_is read words behind word head range first pairs read_is range_is =
-    ap (a_report read) first
-    ∙ ap (λ (b : Bool). report_for b read word behind) pairs
-    ∙ ap (λ (h : Result Head ℕ). report_for true h word behind) read_is
-    ∙ ap (λ (r : Result Range ℕ). r >>= λ range. entries_in behind >>= λ entries. Ok (report_made head range entries)) range_is
+module _ (read : Result Head ℕ) (first : List ℕ) (behind_read : Result (Option Grain) ℕ) (second : List ℕ) (words : List (List ℕ))
+    (head : Head)
+    (range : Range) (after : Option Grain) (last : Bool) where
+  report_is : read ≡ Ok head → range_word first ≡ Ok range → behind_read ≡ Ok after → last_word second ≡ Ok last
+      → report_behind read first behind_read second words ≡ (entries_in words >>= λ entries. Ok (report_made head range after last entries))
+  report_is read_is range_is after_is last_is =
+      ap (λ (h : Result Head ℕ). report_behind h first behind_read second words) read_is
+      ∙ ap (λ (x : Result Range ℕ). x >>= λ range. behind_read >>= λ after. last_word second >>= λ last. entries_in words >>= λ entries.
+      Ok (report_made head range after last entries)) range_is
+      ∙ ap (λ (x : Result (Option Grain) ℕ). x >>= λ after. last_word second >>= λ last. entries_in words >>= λ entries.
+      Ok (report_made head range after last entries)) after_is
+      ∙ ap (λ (x : Result Bool ℕ). x >>= λ last. entries_in words >>= λ entries. Ok (report_made head range after last entries)) last_is
 
-pub report_fails : (error : LineError) (read : Result Head ℕ) (words behind : List (List ℕ)) (word : List ℕ) (head : Head) (range : Range)
-    → words ≡ word ∷ behind → are_pairs behind ≡ true
-    → read ≡ Ok head → range_word word ≡ Ok range → Fails error (entries_in behind) → Fails error (a_report read words)
-report_fails error read words behind word head range first pairs read_is range_is fails =
-    subst (Fails error) (sym (report_is read words behind word head range first pairs read_is range_is))
-    (fails_then error (entries_in behind) (report_made head range) fails)
+  pub report_fails : (error : LineError) → read ≡ Ok head → range_word first ≡ Ok range → behind_read ≡ Ok after
+      → last_word second ≡ Ok last
+      → Fails error (entries_in words) → Fails error (report_behind read first behind_read second words)
+  report_fails error read_is range_is after_is last_is fails =
+      subst (Fails error) (sym (report_is read_is range_is after_is last_is))
+      (fails_then error (entries_in words) (report_made head range after last) fails)
 
-pub report_brings : (read : Result Head ℕ) (words behind : List (List ℕ)) (word : List ℕ) (head : Head) (range : Range)
-    → words ≡ word ∷ behind → are_pairs behind ≡ true
-    → read ≡ Ok head → range_word word ≡ Ok range → AreEntries (entries_in behind) → HasEntries (a_report read words)
-report_brings read words behind word head range first pairs read_is range_is some =
-    subst HasEntries (sym (report_is read words behind word head range first pairs read_is range_is))
-    (brings_then (entries_in behind) (report_made head range) (λ entries some. some) some)
+  pub report_brings : read ≡ Ok head → range_word first ≡ Ok range → behind_read ≡ Ok after → last_word second ≡ Ok last
+      → AreEntries (entries_in words) → HasEntries (report_behind read first behind_read second words)
+  report_brings read_is range_is after_is last_is some =
+      subst HasEntries (sym (report_is read_is range_is after_is last_is))
+      (brings_then (entries_in words) (report_made head range after last) (λ entries some. some) some)
 
 abbrev page_made : Head → Range → (page pages : ℕ) → (digest : List ℕ) → List Entry → Letter
 page_made head range page pages digest entries =

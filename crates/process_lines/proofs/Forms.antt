@@ -1,10 +1,11 @@
 -- How many words a form has, and what that decides.
-use Rattle.std.proofs.Common.{◌≡◌, ℕ, Result, Err, List, [], ◌∷◌, Some, None, refl, ap, sym, ◌∙◌}
+use Rattle.std.proofs.Common.{◌≡◌, ℕ, Bool, true, false, Result, Ok, Err, List, [], ◌∷◌, Some, None, refl, ap, sym, ◌∙◌, true≢false}
 use Rattle.hash_ring.specs.declared.hashing.Hashing.{Hashing}
 use Rattle.directory_rules.specs.declared.act.Act.TheVariants as act
 use Rattle.directory_rules.specs.declared.letter_kind.LetterKind.{LetterKind}
 use Rattle.directory_rules.specs.declared.letter_kind.LetterKind.TheVariants.{Page, Report}
-use Rattle.process_rules.specs.ReadLetter.{Head, a_number_and_an_entry, a_page, a_register, are_pairs, head_of_words, kind_among, kinds, letter_by, page_for, read_letter, request_of}
+use Rattle.script_rules.specs.Script.{grain_word, ◌>>=◌}
+use Rattle.process_rules.specs.ReadLetter.{Head, a_number_and_an_entry, a_page, a_register, a_report, are_pairs, head_of_words, kind_among, kinds, letter_by, page_for, read_letter, report_behind, report_for, request_of}
 use Rattle.script_lines.specs.WordCounts.{only_three_words}
 use Rattle.process_lines.specs.Fronts.{Four, four_in, only_four_words}
 use Rattle.process_lines.specs.Short.{IsShort}
@@ -94,3 +95,36 @@ page_front head words four is = ap (a_page head) (four_front words four is)
 pub ruleset fronts = (letter_few, letter_front, page_few, page_front)
 
 pub ruleset registers = (register_without, four_are)
+
+-- ---- a report
+-- with nothing behind its range
+pub report_bare : (head : Result Head ℕ) (words behind : List (List ℕ)) (range : List ℕ) → words ≡ range ∷ behind → behind ≡ []
+    → a_report head words ≡ Err 922
+report_bare head words behind range whole none = ap (a_report head) (whole ∙ ap (λ (ws : List (List ℕ)). range ∷ ws) none)
+
+-- with a first word there, and others
+module _ (head : Result Head ℕ) (words behind others : List (List ℕ)) (range first : List ℕ) (whole : words ≡ range ∷ behind)
+    (next : behind ≡ first ∷ others) where
+  split : words ≡ range ∷ first ∷ others
+  split = whole ∙ ap (λ (ws : List (List ℕ)). range ∷ ws) next
+
+  -- where these are no pairs, it says whether the report is the last
+  pub report_first : are_pairs behind ≡ false → a_report head words ≡ report_behind head range (Ok None) first others
+  report_first odd =
+      ap (a_report head) split ∙ ap (λ (b : Bool). report_for b head range (first ∷ others)) (sym (ap are_pairs next) ∙ odd)
+
+  -- one word is no pair
+  pub report_odd : others ≡ [] → are_pairs behind ≡ true → a_report head words ≡ Err 922
+  report_odd none even =
+      let odd : are_pairs behind ≡ false = ap are_pairs (next ∙ ap (λ (ws : List (List ℕ)). first ∷ ws) none) in
+      absurd (true≢false (sym even ∙ odd))
+
+  -- where they are, it is the grain behind which is told
+  pub report_further : (last : List ℕ) (entries : List (List ℕ)) → others ≡ last ∷ entries → are_pairs behind ≡ true
+      → a_report head words ≡ report_behind head range (grain_word first >>= λ grain. Ok (Some grain)) last entries
+  report_further last entries third even =
+      let all : first ∷ others ≡ first ∷ last ∷ entries = ap (λ (ws : List (List ℕ)). first ∷ ws) third in
+      ap (a_report head) (split ∙ ap (λ (ws : List (List ℕ)). range ∷ ws) all)
+      ∙ ap (λ (b : Bool). report_for b head range (first ∷ last ∷ entries)) (sym (ap are_pairs (next ∙ all)) ∙ even)
+
+pub ruleset reports = (report_bare, report_odd)

@@ -2,4 +2,6 @@ pub mod Commands
 pub mod EachEntry
 pub mod Forms
 pub mod Written
-pub mod KindNames
+pub mod Names
+pub mod CutAtColons
+pub mod EachSilo

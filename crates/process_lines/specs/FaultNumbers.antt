@@ -2,7 +2,7 @@
 use Rattle.std.specs.Prelude.{ℕ}
 use Rattle.silo_address.specs.Numbers.{silo_error_number, grain_error_number}
 use Rattle.process_lines.specs.declared.fault.LineFault.{LineFault}
-use Rattle.process_lines.specs.declared.fault.LineFault.TheVariants.{LineTooLong, Unended, NotText, UnknownCommand, WordCount, Kind, Silo, Grain, Policy, Activation, Range, Digest, NotANumber}
+use Rattle.process_lines.specs.declared.fault.LineFault.TheVariants.{LineTooLong, Unended, NotText, UnknownCommand, WordCount, Kind, Silo, Grain, Policy, Activation, Range, Digest, End, NotANumber, Listed}
 
 -- the stated number of a fault
 abbrev pub line_fault_number : LineFault → ℕ
@@ -18,4 +18,6 @@ line_fault_number Policy = 926
 line_fault_number Activation = 929
 line_fault_number Range = 928
 line_fault_number Digest = 930
+line_fault_number End = 932
 line_fault_number NotANumber = 923
+line_fault_number Listed = 933

@@ -7,3 +7,4 @@ pub mod Fronts
 pub mod Made
 pub mod Reasons
 pub mod Short
+pub mod Colons

@@ -1,11 +1,12 @@
 -- Lines that take memory to read.
 use Rattle.std.specs.Prelude.{⊤, ℕ, ◌∷◌, Option, Some, Result, Ok, Err}
 use Rattle.process_rules.specs.Entries.{TellsEntries}
-use Rattle.process_rules.specs.ReadLine.{Asked, Joined, Receive}
+use Rattle.process_rules.specs.ReadLine.{Asked, Joined, Begin, Receive}
 
--- what is asked for has a list that isn't empty: it is a join with places, or a letter that tells entries
+-- what is asked for has a list that isn't empty: it is a join with places, a view with silos, or a letter that tells entries
 abbrev pub HasList : Asked → Type 0
 HasList (Joined version silo token (place ∷ places)) = ⊤
+HasList (Begin version (one ∷ rows)) = ⊤
 HasList (Receive letter) = TellsEntries letter.body
 HasList other = ⊥
 

@@ -1,5 +1,5 @@
 -- How what the code read is what the rule reads.
-use Rattle.std.specs.Prelude.{◌≡◌, ℕ, Result, Ok, Err, IsOk}
+use Rattle.std.specs.Prelude.{◌≡◌, ⊤, ℕ, Result, Ok, Err, IsOk}
 use Rattle.process_rules.specs.ReadLetter as rule
 use Rattle.process_lines.specs.declared.fault.LineFault.{LineFault}
 use Rattle.process_lines.specs.declared.fault.LineError.{LineError}
@@ -21,6 +21,15 @@ Fails OutOfMemory rule = IsOk rule
 abbrev pub Reads : {A B : Type 0} → (A → B) → Result A LineError → Result B ℕ → Type 0
 Reads view (Ok value) rule = rule ≡ Ok (view value)
 Reads view (Err error) rule = Fails error rule
+
+-- so, but for memory, which may run out at any time
+abbrev pub FailsUnlessMemory : {B : Type 0} → LineError → Result B ℕ → Type 0
+FailsUnlessMemory (Fault fault) rule = rule ≡ Err (line_fault_number fault)
+FailsUnlessMemory OutOfMemory rule = ⊤
+
+abbrev pub ReadsUnlessMemory : {A B : Type 0} → (A → B) → Result A LineError → Result B ℕ → Type 0
+ReadsUnlessMemory view (Ok value) rule = rule ≡ Ok (view value)
+ReadsUnlessMemory view (Err error) rule = FailsUnlessMemory error rule
 
 -- what stands in front of a kind, as the rule has it
 abbrev pub head_of : Head → rule.Head

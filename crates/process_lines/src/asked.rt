@@ -1,5 +1,5 @@
 use directory_letters::Letter;
-use directory_rules::{OwnStep, Policy};
+use directory_rules::{Listed, OwnStep, Policy};
 use silo_address::{GrainId, SiloAddress};
 
 /// What a line of a silo's process asks for (`docs/RULES.md#lines-of-a-silos-process`).
@@ -22,6 +22,11 @@ pub enum Asked<'a> {
     Dead {
         version: u64,
         silo: SiloAddress,
+    },
+    /// The silo is told the view of a version, in place of all changes up to it.
+    Begin {
+        version: u64,
+        rows: Vec<Listed>,
     },
     /// The silo sees a version.
     See {

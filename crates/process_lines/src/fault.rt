@@ -9,7 +9,7 @@ use thiserror::Error;
 
 /// What each command is written as.
 const COMMANDS: &str =
-    "joined VERSION SILO [token=TOKEN] PLACE.., leaving VERSION SILO, dead VERSION SILO, see VERSION, wake GRAIN, close GRAIN, cancel GRAIN, offer GRAIN SILO, find GRAIN, forget GRAIN, nudge, nudge GRAIN, nudge ranges, letter FROM TO VERSION KIND and what its kind says, ping WORD, owner GRAIN, place GRAIN POLICY, status, show or dump";
+    "joined VERSION SILO [token=TOKEN] PLACE.., leaving VERSION SILO, dead VERSION SILO, view VERSION SILO:STATUS:PLACES.., see VERSION, wake GRAIN, close GRAIN, cancel GRAIN, offer GRAIN SILO, find GRAIN, forget GRAIN, nudge, nudge GRAIN, nudge ranges, letter FROM TO VERSION KIND and what its kind says, ping WORD, owner GRAIN, place GRAIN POLICY, status, show or dump";
 
 /// The fault of a line: the first that it has, in the order of `docs/RULES.md#lines-of-a-silos-process`.
 #[derive(Clone, Copy, Debug, PartialEq, Eq, Error)]
@@ -50,9 +50,15 @@ pub enum LineFault {
     /// A word should be a digest.
     #[error("a digest is 64 digits from 0 to 9 and a to f")]
     Digest,
+    /// A word should say whether a report is its silo's last.
+    #[error("a report is the last or there are more: last or more")]
+    End,
     /// A word should be a number of its range.
     #[error("a number is at most 18446744073709551615, a place at most 4294967295, in decimal digits without a leading zero")]
     NotANumber,
+    /// A word should list a silo of a view.
+    #[error("a silo of a view is written SILO:STATUS, or SILO:STATUS:PLACE,PLACE.. with its places, and a status is active, leaving or dead")]
+    Listed,
 }
 
 impl LineFault {
@@ -72,7 +78,7 @@ impl LineFault {
         }
     }
 
-    /// The number by which users know the fault: 921 to 931, 101 to 103 of a silo, 111 to 113 of a grain.
+    /// The number by which users know the fault: 921 to 933, 101 to 103 of a silo, 111 to 113 of a grain.
     pub fn number(self) -> u16
         ensures { result ≡ line_fault_number self }
     {
@@ -89,7 +95,9 @@ impl LineFault {
             LineFault::Activation => 929,
             LineFault::Range => 928,
             LineFault::Digest => 930,
+            LineFault::End => 932,
             LineFault::NotANumber => 923,
+            LineFault::Listed => 933,
         }
     }
 }
@@ -100,7 +108,7 @@ pub enum LineError {
     /// The line has a fault.
     #[error("{0}")]
     Fault(LineFault),
-    /// Memory ran out for the entries of a page or a report, or for the places of a join.
+    /// Memory ran out for the entries of a page or a report, for the silos of a view, or for the places of a join.
     #[error("out of memory")]
     OutOfMemory,
 }

@@ -11,6 +11,7 @@ ghost use Rattle.process_lines.specs.Known.{other_commands};
 ghost use Rattle.process_lines.specs.Memory.{LineNeedsMemory, WordsNeedMemory};
 
 use crate::changes::{dead, joined, leaving};
+use crate::listed::a_view;
 use crate::questions::{dump, figures, owner, ping, place, show};
 use crate::steps::{see, step_under};
 use crate::{Asked, LineError, LineFault, read_letter};
@@ -30,6 +31,9 @@ pub(crate) fn asked_under<'a>(
     if name == b"joined".as_slice() {
         return joined(alloc, words);
     }
+    if name == b"view".as_slice() {
+        return a_view(alloc, words);
+    }
     if name == b"letter".as_slice() {
         return letter(alloc, hashing, words);
     }
@@ -37,7 +41,7 @@ pub(crate) fn asked_under<'a>(
     Ok(asked)
 }
 
-/// What is asked for under a name that isn't that of a join or a letter.
+/// What is asked for under a name that isn't that of a join, a view or a letter.
 fn asked_without_memory<'a>(name: &[u8], words: &'a [u8]) -> Result<Asked<'a>, LineFault>
     ensures { told (λ asked. Some (asked_of asked)) result ≡ rule.asked_if_known (lookup (bytes_eq name.now) (other_commands ++ rule.step_commands)) (words_in words.now) }
 {

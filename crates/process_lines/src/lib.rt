@@ -9,6 +9,7 @@ mod fault;
 mod head;
 mod kinds;
 mod known;
+mod listed;
 mod questions;
 mod read;
 mod reading;

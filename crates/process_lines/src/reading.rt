@@ -11,13 +11,12 @@ use hash_ring::Hashing;
 use script_lines::{is_remark, is_text, split_word};
 use std::alloc::Global;
 
-/// How many bytes a line may have.
+/// How many bytes a line may have, its end not counted.
 pub const LONGEST_LINE: usize = 16_777_216;
 
 /// Reads a line of a silo's process, given without its end, grains being hashed so: what it asks for, nothing, or its first
-/// fault. Memory may run out only at a join with places, or at a page or a report that tells an entry, and that it does is told only where
-/// the line has no fault.
-/// (`docs/RULES.md#lines-of-a-silos-process`)
+/// fault. Memory may run out only at a join with places, a view with silos, or a page or a report that tells an entry, and that it
+/// does is told only where the line has no fault (`docs/RULES.md#lines-of-a-silos-process`).
 #[tactic(auto, unfolding(process_rules::specs::ReadLine::read_silo_line))]
 pub fn read_line<'a>(
     alloc: Global,

@@ -1,22 +1,25 @@
 //! Letters of transfers and recoveries.
 
-ghost use Rattle.std.specs.Prelude.{◌≡◌, true, IsErrOf};
+ghost use Rattle.std.specs.Prelude.{◌≡◌, [], ◌∷◌, true, IsErrOf};
 ghost use Rattle.directory_rules.specs.State as letters;
 ghost use Rattle.texts.specs.Words.{words_in};
 ghost use Rattle.process_rules.specs.ReadLetter as rule;
-ghost use Rattle.process_lines.specs.Made.{OfARange};
+ghost use Rattle.process_lines.specs.Made.{OfARange, after_in};
 ghost use Rattle.process_lines.specs.ReadAs.{Reads, head_of, told};
 ghost use Rattle.process_lines.specs.Short.{HasEntries};
 
 use crate::entries::{are_pairs, entries_in};
 use crate::head::Head;
-use crate::words::{FourWords, digest_word, four_words, number_word, range_word};
+use crate::words::{
+    FourWords, digest_word, four_words, grain_word, last_word, number_word, range_word,
+};
 use crate::{LineError, LineFault};
 use directory_letters::{Body, Letter};
 use range_recovery::Report;
 use ring_range::RingRange;
 use script_lines::{only_two_words, only_word, split_word};
 use seal_snapshot::Page;
+use silo_address::GrainId;
 use std::alloc::Global;
 
 /// A range and the number of a page.
@@ -58,11 +61,44 @@ pub(crate) fn a_done(head: Result<Head, LineFault>, words: &[u8]) -> Result<Lett
     Ok(head.letter(Body::Done(range)))
 }
 
+/// A range, and perhaps the grain behind which is asked.
 pub(crate) fn a_query(head: Result<Head, LineFault>, words: &[u8]) -> Result<Letter, LineFault>
-    ensures { told (λ letter. letter) result ≡ rule.a_range letters.Query_letter (told head_of head) (words_in words.now) }
+    ensures { told (λ letter. letter) result ≡ rule.a_query (told head_of head) (words_in words.now) }
 {
-    let (head, range) = a_range(head, words)?;
-    Ok(head.letter(Body::Query(range)))
+    let Some((range, behind)) = split_word(words) else {
+        return Err(LineFault::WordCount);
+    };
+    let Some((after, behind)) = split_word(behind) else {
+        return a_first_query(head, range);
+    };
+    match split_word(behind) {
+        None => a_further_query(head, range, after),
+        Some(_) => Err(LineFault::WordCount),
+    }
+}
+
+/// A query from the start of a range on.
+fn a_first_query(head: Result<Head, LineFault>, range: &[u8]) -> Result<Letter, LineFault>
+    ensures { told (λ letter. letter) result ≡ rule.a_query (told head_of head) (range.now ∷ []) }
+{
+    let head = head?;
+    let range = range_word(range)?;
+    let after = None;
+    Ok(head.letter(Body::Query { range, after }))
+}
+
+/// A query behind a grain.
+fn a_further_query(
+    head: Result<Head, LineFault>,
+    range: &[u8],
+    after: &[u8],
+) -> Result<Letter, LineFault>
+    ensures { told (λ letter. letter) result ≡ rule.a_query (told head_of head) (range.now ∷ after.now ∷ []) }
+{
+    let head = head?;
+    let range = range_word(range)?;
+    let after = Some(grain_word(after)?);
+    Ok(head.letter(Body::Query { range, after }))
 }
 
 pub(crate) fn a_behind(head: Result<Head, LineFault>, words: &[u8]) -> Result<Letter, LineFault>
@@ -119,7 +155,9 @@ fn page_of(
     Ok(head.letter(Body::Page(page)))
 }
 
-/// A range and the entries.
+/// A range, perhaps the grain behind which is told, whether it is the silo's last, and the entries. The grain stands there where the words
+/// behind the range are pairs.
+#[tactic(auto, using(crate::proofs::Forms::reports))]
 pub(crate) fn a_report(
     alloc: Global,
     head: Result<Head, LineFault>,
@@ -131,12 +169,45 @@ pub(crate) fn a_report(
     let Some((range, behind)) = split_word(words) else {
         return Err(LineError::Fault(LineFault::WordCount));
     };
-    if !are_pairs(behind) {
+    let Some((first, others)) = split_word(behind) else {
         return Err(LineError::Fault(LineFault::WordCount));
+    };
+    if !are_pairs(behind) {
+        return report_of(alloc, head, range, Ok(None), first, others);
     }
+    let Some((last, entries)) = split_word(others) else {
+        return Err(LineError::Fault(LineFault::WordCount));
+    };
+    report_of(alloc, head, range, after_word(first), last, entries)
+}
+
+/// The grain behind which is told.
+fn after_word(word: &[u8]) -> Result<Option<GrainId>, LineFault>
+    ensures { told (λ after. after) result ≡ after_in word.now }
+{
+    let grain = grain_word(word)?;
+    Ok(Some(grain))
+}
+
+/// A report whose entries are pairs of words.
+fn report_of(
+    alloc: Global,
+    head: Result<Head, LineFault>,
+    range: &[u8],
+    after: Result<Option<GrainId>, LineFault>,
+    last: &[u8],
+    entries: &[u8],
+) -> Result<Letter, LineError>
+    ensures reads { Reads (λ letter. letter) result
+        (rule.report_behind (told head_of head) range.now (told (λ after. after) after) last.now (words_in entries.now)) }
+    ensures memory { IsErrOf result LineError.OutOfMemory → HasEntries
+        (rule.report_behind (told head_of head) range.now (told (λ after. after) after) last.now (words_in entries.now)) }
+{
     let head = head?;
     let range = range_word(range)?;
-    let entries = entries_in(alloc, behind)?;
-    let report = Report::new(head.version, range, head.from, entries);
+    let after = after?;
+    let last = last_word(last)?;
+    let entries = entries_in(alloc, entries)?;
+    let report = Report::new(head.version, range, head.from, after, entries, last);
     Ok(head.letter(Body::Report(report)))
 }

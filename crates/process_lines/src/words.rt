@@ -17,6 +17,9 @@ use script_lines::{only_three_words, split_word};
 use silo_address::{ActivationError, ActivationId, Entry, GrainId, SiloAddress};
 use texts::number_up_to;
 
+/// The highest place.
+const HIGHEST_PLACE: u64 = 4_294_967_295;
+
 /// Four words, and what stands behind them.
 #[derive(Clone, Copy)]
 pub(crate) struct FourWords<'a> {
@@ -84,6 +87,16 @@ pub fn number_word(word: &[u8]) -> Result<u64, LineFault>
     }
 }
 
+/// Reads a place: a number up to 2^32 - 1, else 923.
+pub(crate) fn place_word(word: &[u8]) -> Result<u32, LineFault>
+    ensures { told (λ place. place) result ≡ script.hash_word word.now }
+{
+    match number_up_to(word, HIGHEST_PLACE) {
+        Ok(place) => Ok(place as u32),
+        Err(_) => Err(LineFault::NotANumber),
+    }
+}
+
 /// Reads the name of a policy that a silo can follow by itself.
 pub(crate) fn own_policy_word(word: &[u8]) -> Result<Policy, LineFault>
     ensures { told (λ policy. policy) result ≡ own_policy_word word.now }
@@ -138,6 +151,19 @@ fn spelled(digest: [u8; 32], word: &[u8]) -> Result<[u8; 32], LineFault>
     } else {
         Err(LineFault::Digest)
     }
+}
+
+/// Reads whether a report is its silo's last.
+pub(crate) fn last_word(word: &[u8]) -> Result<bool, LineFault>
+    ensures { told (λ last. last) result ≡ rule.last_word word.now }
+{
+    if word == b"last".as_slice() {
+        return Ok(true);
+    }
+    if word == b"more".as_slice() {
+        return Ok(false);
+    }
+    Err(LineFault::End)
 }
 
 /// A digest's text.

@@ -12,7 +12,7 @@ ghost use Rattle.directory_letters.specs.LetterModel.{body_of};
 ghost use Rattle.script_rules.specs.Lines.{kind_word};
 ghost use Rattle.script_lines.specs.Printed.{printed};
 ghost use Rattle.script_lines.specs.Spaced.{spaced, BeginsWith};
-ghost use Rattle.process_rules.specs.LetterText.{act_words, body_words, entries_words, entry_words, letter_line, letter_words, previous_words, reply_words, why_words};
+ghost use Rattle.process_rules.specs.LetterText.{act_words, after_words, body_words, end_word, entries_words, entry_words, letter_line, letter_words, previous_words, reply_words, why_words};
 
 use crate::words::digest_text;
 use directory_letters::{Body, Letter};
@@ -24,7 +24,7 @@ use script_lines::{
     push_silo, push_word,
 };
 use seal_snapshot::Page;
-use silo_address::{ActivationId, Entry};
+use silo_address::{ActivationId, Entry, GrainId};
 use std::alloc::AllocError;
 
 /// Writes a letter's line (`docs/RULES.md#lines-of-a-silos-process`). Fails only when memory runs out.
@@ -74,11 +74,9 @@ fn push_body(out: &mut Vec<u8>, body: &Body) -> Result<(), AllocError>
         Body::Reply { number, reply } => push_numbered_reply(out, *number, reply),
         Body::Ask { range, page } => push_ask(out, range, *page),
         Body::Page(page) => push_page(out, page),
-        Body::Missing(range)
-        | Body::Done(range)
-        | Body::Query(range)
-        | Body::Behind(range)
-        | Body::Ahead(range) => push_range(out, range),
+        Body::Missing(range) | Body::Done(range) | Body::Behind(range) | Body::Ahead(range) =>
+            push_range(out, range),
+        Body::Query { range, after } => push_query(out, range, *after),
         Body::Report(report) => push_report(out, report),
         Body::Offer(entry) => push_placed(out, entry),
     }
@@ -215,11 +213,45 @@ fn push_page_front(out: &mut Vec<u8>, page: &Page) -> Result<(), AllocError>
     Ok(())
 }
 
+fn push_query(
+    out: &mut Vec<u8>,
+    range: &RingRange,
+    after: Option<GrainId>,
+) -> Result<(), AllocError>
+    ensures written { OnOk result (out.new.items ≡ out.old.items ++ spaced (range_text range.now ∷ after_words after)) }
+    ensures kept { BeginsWith out.old.items out.new.items }
+{
+    push_range(out, range)?;
+    push_after(out, after)?;
+    Ok(())
+}
+
+/// The grain behind which is asked or told, if there is one.
+fn push_after(out: &mut Vec<u8>, after: Option<GrainId>) -> Result<(), AllocError>
+    ensures written { OnOk result (out.new.items ≡ out.old.items ++ spaced (after_words after)) }
+    ensures kept { BeginsWith out.old.items out.new.items }
+{
+    match after {
+        Some(grain) => push_grain(out, &grain),
+        None => Ok(()),
+    }
+}
+
+/// Whether a report is its silo's last.
+fn end_word(last: bool) -> &'static [u8]
+    ensures { result.now ≡ end_word last }
+{
+    if last { b"last" } else { b"more" }
+}
+
 fn push_report(out: &mut Vec<u8>, report: &Report) -> Result<(), AllocError>
-    ensures written { OnOk result (out.new.items ≡ out.old.items ++ spaced (range_text report.now.range ∷ entries_words report.now.entries)) }
+    ensures written { OnOk result (out.new.items ≡ out.old.items ++ spaced
+        (range_text report.now.range ∷ (after_words report.now.after ++ (end_word report.now.last ∷ entries_words report.now.entries)))) }
     ensures kept { BeginsWith out.old.items out.new.items }
 {
     push_range(out, &report.range())?;
+    push_after(out, report.after())?;
+    push_word(out, end_word(report.is_last()))?;
     push_entries(out, report.entries())?;
     Ok(())
 }

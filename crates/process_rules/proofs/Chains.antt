@@ -73,6 +73,31 @@ module _ {A B C D X : Type 0} (make : A → B → C → D → X) where
       let rest = three_gave (make a) y z w v is in (a, rest.0, rest.1, rest.2, refl, rest.3, rest.4, rest.5, rest.6)
   four_gave (Err fault) y z w v is = cc is
 
+module _ {A B C D E X : Type 0} (make : A → B → C → D → E → X) where
+  pub five_again : (x : Result A ℕ) (y : Result B ℕ) (z : Result C ℕ) (w : Result D ℕ) (v : Result E ℕ) (a : A) (b : B) (c : C) (d : D) (e : E)
+      → x ≡ Ok a → y ≡ Ok b → z ≡ Ok c → w ≡ Ok d → v ≡ Ok e
+      → (x >>= λ p. y >>= λ q. z >>= λ r. w >>= λ s. v >>= λ t. Ok (make p q r s t)) ≡ Ok (make a b c d e)
+  five_again x y z w v a b c d e first second third fourth fifth =
+      ap (λ i. i >>= λ p. y >>= λ q. z >>= λ r. w >>= λ s. v >>= λ t. Ok (make p q r s t)) first
+      ∙ four_again (make a) y z w v b c d e second third fourth fifth
+
+  pub five_said : (x : Result A ℕ) (y : Result B ℕ) (z : Result C ℕ) (w : Result D ℕ) (v : Result E ℕ) (a : A) (b : B) (c : C) (d : D) (e : E)
+      → IsSaid x a → IsSaid y b → IsSaid z c → IsSaid w d → IsSaid v e
+      → IsSaid (x >>= λ p. y >>= λ q. z >>= λ r. w >>= λ s. v >>= λ t. Ok (make p q r s t)) (make a b c d e)
+  five_said (Ok p) y z w v a b c d e first second third fourth fifth =
+      subst (λ m. IsSaid (y >>= λ q. z >>= λ r. w >>= λ s. v >>= λ t. Ok (make p q r s t)) (make m b c d e)) first
+      (four_said (make p) y z w v b c d e second third fourth fifth)
+  five_said (Err fault) y z w v a b c d e first second third fourth fifth = tt
+
+  pub five_gave : (x : Result A ℕ) (y : Result B ℕ) (z : Result C ℕ) (w : Result D ℕ) (v : Result E ℕ) (i : X)
+      → (x >>= λ p. y >>= λ q. z >>= λ r. w >>= λ s. v >>= λ t. Ok (make p q r s t)) ≡ Ok i
+      → (a : A) × (b : B) × (c : C) × (d : D) × (e : E) × (x ≡ Ok a) × (y ≡ Ok b) × (z ≡ Ok c) × (w ≡ Ok d) × (v ≡ Ok e) ×
+      (make a b c d e ≡ i)
+  five_gave (Ok a) y z w v i is =
+      let rest = four_gave (make a) y z w v i is in
+      (a, rest.0, rest.1, rest.2, rest.3, refl, rest.4, rest.5, rest.6, rest.7, rest.8)
+  five_gave (Err fault) y z w v i is = cc is
+
 module _ {A B C D E F X : Type 0} (make : A → B → C → D → E → F → X) where
   pub six_again : (x : Result A ℕ) (y : Result B ℕ) (z : Result C ℕ) (w : Result D ℕ) (v : Result E ℕ) (u : Result F ℕ) (a : A) (b : B)
       (c : C) (d : D) (e : E) (f : F)

@@ -17,13 +17,14 @@ use Rattle.directory_rules.specs.State.{Letter, Body, Request_letter, Reply_lett
 use Rattle.directory_rules.specs.Letter.{kind_of, act_kind, reply_kind}
 use Rattle.script_rules.specs.Script.{grain_word, number_word, ◌>>=◌}
 use Rattle.process_rules.specs.LetterText.{entry_words, entries_words, act_words, why_words, reply_words, body_words}
-use Rattle.process_rules.specs.ReadLetter.{activation_word, range_word, digest_word, entry_of_words, entries_in, Head, letter_of, request_of, a_number_and_an_entry, a_number, retry_for, a_retry, page_for, a_range, report_for, reply_of, form_of}
+use Rattle.process_rules.specs.ReadLetter.{activation_word, range_word, digest_word, entry_of_words, entries_in, Head, letter_of, request_of, a_number_and_an_entry, a_number, retry_for, a_retry, page_for, a_range, reply_of, form_of}
 use Rattle.process_rules.specs.Told.{IsEntry, IsAct, IsReply, IsToldBody}
 use Rattle.process_rules.proofs.Chains.{IsSaid, is_said, one_said, two_said, three_said, four_said, six_said}
 use Rattle.process_rules.proofs.WordsAgain.{grain_again, digest_again, pairs_again}
 use Rattle.process_rules.proofs.Numbers.{number_said}
 use Rattle.process_rules.proofs.WordsSaid.{activation_said, range_said, entry_said, entries_said}
-use Rattle.process_rules.proofs.FormsAgain.{first_register, next_register, find_made, reply_made, retry_made, ask_made, page_made, range_made, report_made, offer_made}
+use Rattle.process_rules.proofs.ReportForms.{query_form_said, report_form_said}
+use Rattle.process_rules.proofs.FormsAgain.{first_register, next_register, find_made, reply_made, retry_made, ask_made, page_made, range_made, offer_made}
 
 grain_said : (grain : Grain) → IsGrain grain → IsSaid (grain_word (grain_text grain)) grain
 grain_said grain is = is_said (grain_word (grain_text grain)) grain (grain_again grain is)
@@ -124,21 +125,19 @@ module _ (Fits : ℕ → Type 0) (hashing : Hashing) (head : Head) (read : Resul
       (entries_said Fits page.entries is.entries)))
   body_said Lies (Missing_letter range) is = range_form_said Missing_letter range
   body_said Lies (Done_letter range) is = range_form_said Done_letter range
-  body_said Lies (Query_letter range) is = range_form_said Query_letter range
+  body_said Lies (Query_letter range after) is = query_form_said Fits head read reads range after is.1
   body_said Lies (Report_letter report) is =
-      subst (λ (b : Bool). IsSaid (report_for b read (range_text report.range) (entries_words report.entries))
-      (letter_of head (Report_letter report)))
-      (sym (pairs_again report.entries))
-      (same_letter _ (report_made head report.range report.entries) (letter_of head (Report_letter report))
+      same_letter (form_of hashing (kind_of (Report_letter report)) read (body_words (Report_letter report)))
+      (letter_of head (Report_letter (record report { version = head.version; silo = head.from }))) (letter_of head (Report_letter report))
       (λ i. letter_of head (Report_letter (record {
         version = sym is.version i;
         range = report.range;
         silo = sym is.silo i;
+        after = report.after;
         entries = report.entries;
+        last = report.last;
       })))
-      (three_said report_made read (range_word (range_text report.range)) (entries_in (entries_words report.entries)) head report.range
-      report.entries
-      reads (range_said report.range) (entries_said Fits report.entries is.entries)))
+      (report_form_said Fits head read reads report.range report.after report.last report.entries is.after is.entries)
   body_said Lies (Behind_letter range) is = range_form_said Behind_letter range
   body_said Lies (Ahead_letter range) is = range_form_said Ahead_letter range
   body_said Lies (Offer_letter entry) is =

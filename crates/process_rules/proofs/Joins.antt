@@ -1,20 +1,16 @@
 -- A process that was started with a token is told of its silo's join by a line that carries it, and by no other.
-use Rattle.std.proofs.Common.{◌≡◌, ◌≢◌, ℕ, Bool, true, false, IsSome, List, [], ◌∷◌, Option, Some, None, is_some, Result, Ok, Err, refl, ap, sym, ◌∙◌, subst}
+use Rattle.std.proofs.Common.{◌≡◌, ◌≢◌, ℕ, Bool, true, false, List, [], ◌∷◌, Option, Some, None, is_some, Result, Ok, Err, refl, ap, sym, ◌∙◌, subst}
 use Rattle.std.specs.Prelude.{⊤, ◌&&◌, ◌+◌, ◌==◌, cond, not, nat_le}
-use Rattle.std.specs.Option.{option_map}
 use Rattle.std.proofs.lemmas.Slice.Eq.{bytes_eq-Decides}
 use Rattle.std.proofs.lemmas.Bool.Decides.{not_from_Decides}
 use Rattle.texts.specs.Words.{sentence}
-use Rattle.silo_address.specs.Silo.{Silo, IsSameEndpoint, silo_eq}
+use Rattle.silo_address.specs.Silo.{Silo, silo_eq}
 use Rattle.silo_address.proofs.Same.{Decides-silo}
 use Rattle.membership_view.specs.declared.status.Status.{Status}
-use Rattle.membership_view.specs.declared.status.Status.TheVariants.{Dead}
-use Rattle.membership_view.specs.Views.{ViewsValue, view_at, status_at}
+use Rattle.membership_view.specs.Views.{ViewsValue, status_at}
 use Rattle.membership_view.specs.Changes as change
-use Rattle.membership_view.specs.Step.{Joins, Leaves, Dies}
 use Rattle.membership_view.specs.Whole.{IsViews}
-use Rattle.membership_view.proofs.Changes.{changes_are_steps}
-use Rattle.membership_view.proofs.Order.{Decides-shares}
+use Rattle.membership_view.proofs.Absent.{absent_stays, newest_absent}
 use Rattle.hash_ring.specs.Places.{PlacesValue}
 use Rattle.directory_rules.specs.Settings.{Settings}
 use Rattle.directory_rules.specs.declared.effect.Effect.{Effect}
@@ -25,16 +21,19 @@ use Rattle.directory_rules.specs.State.{Letter}
 use Rattle.directory_rules.specs.Step.{Stepped, silently}
 use Rattle.script_rules.specs.Lines.{happening_words, refusal_line}
 use Rattle.silo_rules.specs.declared.news.News.TheVariants.{Known}
-use Rattle.silo_rules.specs.Known.{is_known}
-use Rattle.directory_rules.specs.Membership.{Change, Join, Leave, Die, Membership, barred_by, changed, joined, placed, replaced_by, with_places, with_views}
+use Rattle.silo_rules.specs.Known.{is_before, is_known}
+use Rattle.silo_rules.specs.Begun.{told_view}
+use Rattle.silo_rules.proofs.Begun.{told_view_is}
+use Rattle.silo_rules.proofs.Lawful.{stays_whole}
+use Rattle.directory_rules.specs.Membership.{Change, Join, Leave, Die, Listed, Membership, barred_by, changed, joined, placed, replaced_by, with_places, with_views}
 use Rattle.silo_rules.specs.SiloValue.{SiloValue, own_status, told_of_its_join}
 use Rattle.silo_rules.specs.Steps.{unless_barred, does, receives, seen, sees}
 use Rattle.silo_rules.specs.Told.{Heard, heard_by, told}
 use Rattle.silo_rules.specs.Whole.{IsWhole}
-use Rattle.process_rules.specs.ReadLine.{Asked, Joined, Leaving, See, Do, Receive, Ping, Owner, Place, Figures, Show, Dump}
+use Rattle.process_rules.specs.ReadLine.{Asked, Joined, Leaving, Begin, See, Do, Receive, Ping, Owner, Place, Figures, Show, Dump}
 use Rattle.process_rules.specs.ReadLine as line
 use Rattle.process_rules.specs.Happened.{news_words, received_words}
-use Rattle.process_rules.specs.Answer.{printing, heard, told_so, stepped, received_so, carries, answered, answered_as}
+use Rattle.process_rules.specs.Answer.{printing, heard, told_so, begun, stepped, received_so, carries, answered, answered_as}
 use Rattle.process_rules.specs.OutputLaws.{CarriesItsJoin}
 use Rattle.process_rules.proofs.StaysWhole.{silo_kept}
 
@@ -49,11 +48,6 @@ abbrev IsAbsent : Membership → Silo → Type 0
 IsAbsent m own = status_at m.views m.views.version own ≡ None
 
 module _ (settings : Settings) (m next : Membership) (own : Silo) (whole : IsViews m.views) (absent : IsAbsent m own) where
-  other_than : (silo : Silo) → IsSome (status_at m.views m.views.version silo) → own ≢ silo
-  other_than silo there same =
-      let gone : false ≡ true = subst (λ (o : Option Status). is_some o ≡ true) (ap (λ (t : Silo). status_at m.views m.views.version t) (sym same) ∙ absent) there in
-      cc gone
-
   by_places : (views : ViewsValue) (o : Result PlacesValue ℕ) → with_places o views ≡ Ok next → views ≡ next.views
   by_places views (Err number) is = absurd (cc (is))
   by_places views (Ok places) is =
@@ -69,32 +63,13 @@ module _ (settings : Settings) (m next : Membership) (own : Silo) (whole : IsVie
   other_views (Ok views) is =
       let same : record { views = views; places = m.places } ≡ next = cc (is) in ap (λ (n : Membership). Ok n.views) same
 
-  absent_by_join : (silo : Silo) → silo ≢ own → Joins silo (view_at m.views m.views.version) (view_at next.views next.views.version)
-      → IsAbsent next own
-  absent_by_join silo other step = by (change.shares_endpoint silo own) (Decides-shares silo own)
-    where
-      by : (shares : Bool) → (shares ≡ true → IsSameEndpoint silo own) × (IsSameEndpoint silo own → shares ≡ true) → IsAbsent next own
-      by true decides =
-          step.older own (decides.0 refl) (λ same. other (sym same)) ∙ ap (λ (o : Option Status). option_map (λ _. Dead) o) absent
-      by false decides = step.others own (not_from_Decides false decides refl) ∙ absent
-
-  absent_by_leave : (silo : Silo) → Leaves silo (view_at m.views m.views.version) (view_at next.views next.views.version)
-      → IsAbsent next own
-  absent_by_leave silo step = step.others own (other_than silo (ap (λ (o : Option Status). is_some o) step.was)) ∙ absent
-
-  absent_by_death : (silo : Silo) → Dies silo (view_at m.views m.views.version) (view_at next.views next.views.version) → IsAbsent next own
-  absent_by_death silo step = step.others own (other_than silo step.was) ∙ absent
-
   still_absent : (it : Change) → IsNotItsJoin own it → changed settings m it ≡ Ok next → IsAbsent next own
   still_absent (Join silo stated) other is =
-      absent_by_join silo other (changes_are_steps m.views (change.Join silo) next.views
-      (record { whole = whole; is = join_views silo stated (change.after_join m.views silo) is }))
+      absent_stays m.views next.views whole own absent (change.Join silo) other (join_views silo stated (change.after_join m.views silo) is)
   still_absent (Leave silo) other is =
-      absent_by_leave silo (changes_are_steps m.views (change.Leave silo) next.views
-      (record { whole = whole; is = other_views (change.after m.views (change.Leave silo)) is }))
+      absent_stays m.views next.views whole own absent (change.Leave silo) tt (other_views (change.after m.views (change.Leave silo)) is)
   still_absent (Die silo) other is =
-      absent_by_death silo (changes_are_steps m.views (change.Die silo) next.views
-      (record { whole = whole; is = other_views (change.after m.views (change.Die silo)) is }))
+      absent_stays m.views next.views whole own absent (change.Die silo) tt (other_views (change.after m.views (change.Die silo)) is)
 
 -- ---- a silo that wasn't told of its join yet
 abbrev IsUntold : SiloValue → Type 0
@@ -107,14 +82,21 @@ module _ (s : SiloValue) (whole : IsWhole s) (untold : IsUntold s) where
       by (nat_le version s.membership.views.version) (is_known s.membership version it) (version == s.membership.views.version + 1)
       (changed s.node.settings s.membership it) refl so
     where
-      by : (old known next : Bool) (made : Result Membership ℕ) → changed s.node.settings s.membership it ≡ made
-          → cond old (cond known (Ok (record { membership = s.membership; news = Known })) (Err 207))
-          (cond (not next) (Err 206) (heard_by made (replaced_by s.membership it))) ≡ Ok heard
+      again : (before known : Bool)
+          → ◌≡◌ {A = Result Heard ℕ} (cond before (Err 212) (cond known (Ok (record { membership = s.membership; news = Known })) (Err 207)))
+          (Ok heard)
           → IsUntold (record s { membership = heard.membership })
-      by true true next made at told_so =
+      again true known told_so = absurd (cc (told_so))
+      again false false told_so = absurd (cc (told_so))
+      again false true told_so =
           let same : record { membership = s.membership; news = Known } ≡ heard = cc (told_so) in
           subst (λ (h : Heard). IsUntold (record s { membership = h.membership })) same untold
-      by true false next made at told_so = absurd (cc (told_so))
+
+      by : (old known next : Bool) (made : Result Membership ℕ) → changed s.node.settings s.membership it ≡ made
+          → cond old (cond (is_before s.membership version) (Err 212) (cond known (Ok (record { membership = s.membership; news = Known })) (Err 207)))
+          (cond (not next) (Err 206) (heard_by made (replaced_by s.membership it))) ≡ Ok heard
+          → IsUntold (record s { membership = heard.membership })
+      by true known next made at told_so = again (is_before s.membership version) known told_so
       by false known false made at told_so = absurd (cc (told_so))
       by false known true (Err number) at told_so = absurd (cc (told_so))
       by false known true (Ok m) at told_so =
@@ -132,6 +114,15 @@ module _ (s : SiloValue) (whole : IsWhole s) (untold : IsUntold s) where
 
   told_untold : (version : ℕ) (it : Change) → IsNotItsJoin s.node.host.silo it → IsUntold (told_so version it s).silo
   told_untold version it other = by_heard version it (told s.node.settings s.membership version it) (heard_untold version it other)
+
+  -- nor is it in a view with which it begins
+  begun_untold : (version : ℕ) (rows : List Listed) (outcome : Result Membership ℕ)
+      → told_view s.node.settings s.membership s.node.host.silo version rows ≡ outcome → IsUntold (begun outcome version s).silo
+  begun_untold version rows (Err number) is = untold
+  begun_untold version rows (Ok m) is =
+      let its = told_view_is s.node.settings s.membership s.node.host.silo version rows m is in
+      let kept = stays_whole.begins s s.node.host.silo version rows m whole is in
+      newest_absent m.views kept.membership.whole s.node.host.silo its.later
 
   -- it takes no step
   by_refusal : (happened : Effect → List (List ℕ)) (outcome : Result Stepped ℕ) → outcome ≡ Err 901
@@ -169,6 +160,8 @@ module _ (s : SiloValue) (whole : IsWhole s) (untold : IsUntold s) where
   answered_untold (Joined version silo token places) other = told_untold version (Join silo places) other
   answered_untold (Leaving version silo) other = told_untold version (Leave silo) tt
   answered_untold (line.Dead version silo) other = told_untold version (Die silo) tt
+  answered_untold (Begin version rows) other =
+      begun_untold version rows (told_view s.node.settings s.membership s.node.host.silo version rows) refl
   answered_untold (See version) other =
       by_refusal (λ effect. happening_words (Saw s.node.host.silo version effect)) (sees s version)
       (ap (λ (o : Option Status). unless_barred (barred_by o) (seen s version)) untold)
@@ -225,6 +218,7 @@ joins_by_its_token token asked s whole before after = by asked after
         by_join version silo stated places (silo_eq silo s.node.host.silo) (carries stated token) refl refl after
     by (Leaving version silo) after = by_other (Leaving version silo) tt after
     by (line.Dead version silo) after = by_other (line.Dead version silo) tt after
+    by (Begin version rows) after = by_other (Begin version rows) tt after
     by (See version) after = by_other (See version) tt after
     by (Do step) after = by_other (Do step) tt after
     by (Receive letter) after = by_other (Receive letter) tt after

@@ -17,7 +17,9 @@ use Rattle.process_rules.specs.Told.{IsNumber, IsTold}
 use Rattle.process_rules.proofs.Chains.{three_again, three_gave}
 use Rattle.process_rules.proofs.WordsAgain.{number_again, number_gave, silo_again, silo_gave}
 use Rattle.process_rules.proofs.WordsTold.{number_told, silo_told}
-use Rattle.process_rules.proofs.FormsAgain.{head_in, body_again, form_gave}
+use Rattle.process_rules.proofs.FormsAgain.{body_again}
+use Rattle.process_rules.proofs.FormsGave.{form_gave}
+use Rattle.process_rules.proofs.Given.{head_in}
 
 -- ---- kinds
 pub kind_again : (kind : LetterKind) → kind_among kinds (kind_word kind) ≡ Some kind

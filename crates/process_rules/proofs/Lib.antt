@@ -3,7 +3,10 @@ mod WordsAgain
 mod WordsTold
 mod Numbers
 mod WordsSaid
+pub mod Given
+pub mod ReportForms
 pub mod FormsAgain
+pub mod FormsGave
 pub mod LettersAgain
 pub mod LineWords
 pub mod LinesAgain

@@ -35,7 +35,7 @@ use Rattle.directory_rules.specs.State.{Letter, Body, Request_letter, Reply_lett
 use Rattle.directory_rules.specs.Letter.{kind_of}
 use Rattle.script_rules.specs.Lines.{kind_word}
 use Rattle.script_rules.specs.Script.{is_text}
-use Rattle.process_rules.specs.LetterText.{entry_words, entries_words, previous_words, act_words, why_words, reply_words, body_words, letter_words, letter_line}
+use Rattle.process_rules.specs.LetterText.{entry_words, entries_words, previous_words, after_words, end_word, act_words, why_words, reply_words, body_words, letter_words, letter_line}
 use Rattle.process_rules.specs.Told.{IsActivation, IsEntry, IsDigest, IsAct, IsWhy, IsReply, IsToldBody, IsLetterWith}
 use Rattle.process_rules.proofs.Numbers.{decimal_some, decimal_visible}
 
@@ -250,6 +250,18 @@ module _ (Fits : ℕ → Type 0) where
   reply_whole reply.Nothing is = none
   reply_whole (reply.Retry why) is = why_whole why is
 
+  after_then : (after : Option Grain) (words : List (List ℕ)) → IfSome after IsGrain → AreWhole words → AreWhole (after_words after ++ words)
+  after_then None words is are = are
+  after_then (Some grain) words is are = cons (grain_text grain) words (grain_whole grain is) are
+
+  after_whole : (after : Option Grain) → IfSome after IsGrain → AreWhole (after_words after)
+  after_whole None is = none
+  after_whole (Some grain) is = cons (grain_text grain) [] (grain_whole grain is) none
+
+  end_whole : (last : Bool) → IsWhole (end_word last)
+  end_whole true = whole_by (codes "last") refl
+  end_whole false = whole_by (codes "more") refl
+
   range_alone : (range : Range) → AreWhole (range_text range ∷ [])
   range_alone range = cons (range_text range) [] (range_whole range) none
 
@@ -272,9 +284,13 @@ module _ (Fits : ℕ → Type 0) where
         (cons (encode_lower page.digest) entries (digest_whole page.digest is.digest) (entries_whole page.entries is.entries))))
     body_whole hashing from version (Missing_letter range) is = range_alone range
     body_whole hashing from version (Done_letter range) is = range_alone range
-    body_whole hashing from version (Query_letter range) is = range_alone range
+    body_whole hashing from version (Query_letter range after) is =
+        cons (range_text range) (after_words after) (range_whole range) (after_whole after is.1)
     body_whole hashing from version (Report_letter report) is =
-        cons (range_text report.range) (entries_words report.entries) (range_whole report.range) (entries_whole report.entries is.entries)
+        let behind : List (List ℕ) = end_word report.last ∷ entries_words report.entries in
+        cons (range_text report.range) (after_words report.after ++ behind) (range_whole report.range)
+        (after_then report.after behind is.after
+        (cons (end_word report.last) (entries_words report.entries) (end_whole report.last) (entries_whole report.entries is.entries)))
     body_whole hashing from version (Behind_letter range) is = range_alone range
     body_whole hashing from version (Ahead_letter range) is = range_alone range
     body_whole hashing from version (Offer_letter entry) is = entry_whole entry is

@@ -1,5 +1,5 @@
 -- Whatever a line asks for is in its range.
-use Rattle.std.proofs.Common.{arith, ◌≡◌, ℕ, ◌<◌, Bool, true, false, List, [], ◌∷◌, Option, Some, None, Result, Ok, Err, refl, subst, length}
+use Rattle.std.proofs.Common.{arith, ◌≡◌, ℕ, ◌<◌, Bool, true, false, List, [], ◌∷◌, ◌++◌, Option, Some, None, Result, Ok, Err, refl, subst, length}
 use Rattle.std.specs.Prelude.{⊤, All, IfOk, bytes_eq, cond, nat_le, nat_lt}
 use Rattle.std.specs.List.{list_all}
 use Rattle.std.specs.Map.{lookup}
@@ -7,19 +7,21 @@ use Rattle.std.proofs.lemmas.Bool.{leb-true}
 use Rattle.std.proofs.lemmas.List.Elements.{All-nil, All-cons}
 use Rattle.texts.specs.declared.NumberError.TheVariants as number_fault
 use Rattle.texts.specs.Numeral.{is_numeral, numeral_value}
-use Rattle.texts.specs.Words.{words_in}
+use Rattle.texts.specs.Words.{words_in, pieces_at}
 use Rattle.silo_address.specs.Silo.{Silo, IsSilo}
 use Rattle.silo_address.specs.Grain.{Grain, IsGrain}
 use Rattle.ring_range.specs.Range.{circle}
 use Rattle.hash_ring.specs.declared.hashing.Hashing.{Hashing}
+use Rattle.membership_view.specs.declared.status.Status.{Status}
+use Rattle.directory_rules.specs.Membership.{Listed}
 use Rattle.directory_rules.specs.declared.own_step.OwnStep.{OwnStep}
 use Rattle.directory_rules.specs.declared.own_step.OwnStep.TheVariants as own
 use Rattle.directory_rules.specs.OwnStep.{IsOwnStep}
 use Rattle.script_rules.specs.Script.{silo_word, grain_word, number_word, number_or_fault, hash_word, places_in, Grammar, no_word, a_grain, a_part, ranges_word, a_grain_and_a_silo, is_text, is_remark, ◌>>=◌}
 use Rattle.process_rules.specs.ReadLetter.{read_letter}
-use Rattle.process_rules.specs.ReadLine.{Asked, Joined, Leaving, Dead, See, Do, Receive, Owner, Place, Figures, Show, Dump, a_word, token_in, behind_token, a_join, a_version_and_a_silo, a_version, own_policy_word, a_grain_and_a_policy, a_letter, a_step, step_commands, commands, longest_line, asked_if_known, asked_of_words, read_silo_line}
+use Rattle.process_rules.specs.ReadLine.{Asked, Joined, Leaving, Dead, Begin, See, Do, Receive, Owner, Place, Figures, Show, Dump, a_word, token_in, behind_token, a_join, a_version_and_a_silo, a_version, a_view, colon, comma, status_named, listed_as, listed_of, listed_word, listed_in, own_policy_word, a_grain_and_a_policy, a_letter, a_step, step_commands, commands, longest_line, asked_if_known, asked_of_words, read_silo_line}
 use Rattle.process_rules.specs.Told.{IsNumber, IsTold}
-use Rattle.process_rules.specs.InRange.{IsInRange}
+use Rattle.process_rules.specs.InRange.{IsInRange, IsListed}
 use Rattle.process_rules.proofs.LettersAgain.{was_told}
 use Rattle.process_rules.proofs.WordsTold.{number_told, silo_told, grain_told}
 
@@ -79,6 +81,33 @@ all_in [] = All-nil IsHash
 all_in (word ∷ words) =
     two_in IsHash (All IsHash) (All IsHash) more (hash_word word) (places_in words)
     (λ place places is are. All-cons IsHash place places is are) (hash_in word) (all_in words)
+
+-- ---- the silos of a view
+abbrev listed_with : Status → Silo → List ℕ → Listed
+listed_with status silo places = record { silo = silo; status = status; places = places }
+
+as_listed_in : (status : Option Status) (silo : List ℕ) (places : List (List ℕ)) → IfOk (listed_as status silo places) IsListed
+as_listed_in None silo places = tt
+as_listed_in (Some status) silo places =
+    two_in IsSilo (All IsHash) IsListed (listed_with status) (silo_word silo) (places_in places) (λ s p first second. (first, second))
+    (silo_in silo) (all_in places)
+
+cut_in : (pieces : List (List ℕ)) → IfOk (listed_of pieces) IsListed
+cut_in [] = tt
+cut_in (one ∷ []) = tt
+cut_in (one ∷ two ∷ []) = tt
+cut_in (host ∷ port ∷ status ∷ []) = as_listed_in (status_named status) (host ++ colon ∷ port) []
+cut_in (host ∷ port ∷ status ∷ places ∷ []) = as_listed_in (status_named status) (host ++ colon ∷ port) (pieces_at comma places)
+cut_in (one ∷ two ∷ three ∷ four ∷ five ∷ pieces) = tt
+
+abbrev one_more : Listed → List Listed → List Listed
+one_more one others = one ∷ others
+
+all_listed_in : (words : List (List ℕ)) → IfOk (listed_in words) (All IsListed)
+all_listed_in [] = All-nil IsListed
+all_listed_in (word ∷ words) =
+    two_in IsListed (All IsListed) (All IsListed) one_more (listed_word word) (listed_in words)
+    (λ one others is are. All-cons IsListed one others is are) (cut_in (pieces_at colon word)) (all_listed_in words)
 
 -- ---- what stands behind a name
 module _ {A : Type 0} (Is : A → Type 0) where
@@ -145,6 +174,12 @@ module _ (hashing : Hashing) where
   version_asks (version ∷ []) = one_in IsNumber (IsInRange hashing) See (number_word version) (λ v is. is) (number_in version)
   version_asks (one ∷ two ∷ words) = tt
 
+  view_asks : Asks a_view
+  view_asks [] = tt
+  view_asks (version ∷ words) =
+      two_in IsNumber (All IsListed) (IsInRange hashing) Begin (number_word version) (listed_in words) (λ v rows first second. (first, second))
+      (number_in version) (all_listed_in words)
+
   step_asks : (grammar : Grammar OwnStep) → Makes IsOwnStep grammar → Asks (a_step grammar)
   step_asks grammar makes words = one_in IsOwnStep (IsInRange hashing) Do (grammar words) (λ step is. is) (makes words)
 
@@ -197,14 +232,17 @@ module _ (hashing : Hashing) where
       (
         change_asks Dead (λ v s first second. (first, second)),
         (
-          version_asks,
+          view_asks,
           (
-            letter_asks,
+            version_asks,
             (
-              word_asks,
+              letter_asks,
               (
-                grain_makes (IsInRange hashing) Owner (λ g is. is),
-                (policy_asks, (none_asks Figures tt, (none_asks Show tt, (none_asks Dump tt, steps_ask)))),
+                word_asks,
+                (
+                  grain_makes (IsInRange hashing) Owner (λ g is. is),
+                  (policy_asks, (none_asks Figures tt, (none_asks Show tt, (none_asks Dump tt, steps_ask)))),
+                ),
               ),
             ),
           ),

@@ -17,7 +17,7 @@ use Rattle.process_rules.specs.Told.{IsLetterWith}
 use Rattle.process_rules.proofs.Chains.{IsSaid, is_said, three_said}
 use Rattle.process_rules.proofs.WordsAgain.{silo_again}
 use Rattle.process_rules.proofs.Numbers.{number_said}
-use Rattle.process_rules.proofs.FormsAgain.{head_in}
+use Rattle.process_rules.proofs.Given.{head_in}
 use Rattle.process_rules.proofs.FormsSaid.{body_said}
 use Rattle.process_rules.proofs.LettersAgain.{head_with, kind_again}
 use Rattle.process_rules.proofs.LineWords.{line_is_text, line_words}

@@ -12,15 +12,16 @@ use Rattle.directory_rules.specs.declared.own_step.OwnStep.{OwnStep}
 use Rattle.directory_rules.specs.Input.{Does}
 use Rattle.directory_rules.specs.State.{Letter}
 use Rattle.directory_rules.specs.Step.{Stepped}
-use Rattle.directory_rules.specs.Membership.{Change, Join, Leave, Die}
+use Rattle.directory_rules.specs.Membership.{Change, Join, Leave, Die, Listed, Membership}
 use Rattle.silo_rules.specs.SiloValue.{SiloValue, own_status}
 use Rattle.silo_rules.specs.Steps.{does, sees, receives}
 use Rattle.silo_rules.specs.Told.{Heard, told}
+use Rattle.silo_rules.specs.Begun.{told_view}
 use Rattle.silo_rules.specs.Whole.{IsWhole}
 use Rattle.silo_rules.proofs.Lawful.{stays_whole}
-use Rattle.process_rules.specs.ReadLine.{Asked, Joined, Leaving, Dead, See, Do, Receive, Ping, Owner, Place, Figures, Show, Dump}
+use Rattle.process_rules.specs.ReadLine.{Asked, Joined, Leaving, Dead, Begin, See, Do, Receive, Ping, Owner, Place, Figures, Show, Dump}
 use Rattle.process_rules.specs.Happened.{news_words, received_words}
-use Rattle.process_rules.specs.Answer.{Answered, printing, unless_dead, heard, told_so, stepped, seen_so, done_so, is_anothers_join, answered, answered_as}
+use Rattle.process_rules.specs.Answer.{Answered, printing, unless_dead, heard, told_so, begun, stepped, seen_so, done_so, is_anothers_join, answered, answered_as}
 use Rattle.process_rules.specs.Output.{answered_to}
 
 pub silo_kept : (own : Option Status) (it : Answered) → it.silo ≡ (unless_dead own it).silo
@@ -39,6 +40,11 @@ heard_whole version change s (Ok it) whole is =
 
 told_whole : (version : ℕ) (change : Change) (s : SiloValue) → IsWhole s → IsWhole (told_so version change s).silo
 told_whole version change s whole = heard_whole version change s (told s.node.settings s.membership version change) whole refl
+
+begun_whole : (version : ℕ) (rows : List Listed) (s : SiloValue) (outcome : Result Membership ℕ) → IsWhole s
+    → told_view s.node.settings s.membership s.node.host.silo version rows ≡ outcome → IsWhole (begun outcome version s).silo
+begun_whole version rows s (Err number) whole is = whole
+begun_whole version rows s (Ok m) whole is = stays_whole.begins s s.node.host.silo version rows m whole is
 
 step_whole : (happened : Effect → List (List ℕ)) (s : SiloValue) (outcome : Result Stepped ℕ) → IsWhole s
     → ((it : Stepped) → outcome ≡ Ok it → IsWhole (record s { node = it.node })) → IsWhole (stepped happened outcome s).silo
@@ -67,6 +73,8 @@ unfolding answered
 answered_whole (Joined version silo token places) s whole = told_whole version (Join silo places) s whole
 answered_whole (Leaving version silo) s whole = told_whole version (Leave silo) s whole
 answered_whole (Dead version silo) s whole = told_whole version (Die silo) s whole
+answered_whole (Begin version rows) s whole =
+    begun_whole version rows s (told_view s.node.settings s.membership s.node.host.silo version rows) whole refl
 answered_whole (See version) s whole = seen_whole version s whole
 answered_whole (Do step) s whole = done_whole step s whole
 answered_whole (Receive letter) s whole = received_by letter s (silo_eq letter.to s.node.host.silo) whole

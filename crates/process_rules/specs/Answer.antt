@@ -1,5 +1,6 @@
 -- What a silo's process answers to what a line asks for: the lines that it prints, and the silo after it.
 use Rattle.std.specs.Prelude.{ℕ, Bool, true, false, ◌&&◌, not, List, [], ◌∷◌, ◌++◌, map, codes, bytes_eq, if◌then◌else◌, Option, Some, None, Result, Ok, Err}
+use Rattle.std.specs.Fmt.{decimal}
 use Rattle.texts.specs.Words.{sentence}
 use Rattle.silo_address.specs.Silo.{Silo, silo_eq}
 use Rattle.membership_view.specs.declared.status.Status.{Status}
@@ -11,13 +12,14 @@ use Rattle.directory_rules.specs.Input.{Does}
 use Rattle.directory_rules.specs.State.{Letter}
 use Rattle.directory_rules.specs.Step.{Stepped}
 use Rattle.silo_rules.specs.declared.news.News.{News}
-use Rattle.directory_rules.specs.Membership.{Change, Join, Leave, Die}
+use Rattle.directory_rules.specs.Membership.{Change, Join, Leave, Die, Listed, Membership}
 use Rattle.silo_rules.specs.SiloValue.{SiloValue, own_status}
 use Rattle.silo_rules.specs.Steps.{does, sees, receives}
 use Rattle.silo_rules.specs.Told.{Heard, told}
+use Rattle.silo_rules.specs.Begun.{told_view}
 use Rattle.script_rules.specs.Lines.{happening_words, refusal_line}
 use Rattle.process_rules.specs.LetterText.{letter_line}
-use Rattle.process_rules.specs.ReadLine.{Asked, Joined, Leaving, Dead, See, Do, Receive, Ping, Owner, Place, Figures, Show, Dump}
+use Rattle.process_rules.specs.ReadLine.{Asked, Joined, Leaving, Dead, Begin, See, Do, Receive, Ping, Owner, Place, Figures, Show, Dump}
 use Rattle.process_rules.specs.Happened.{news_words, received_words}
 use Rattle.process_rules.specs.Show.{show_lines, dump_line, grain_owner_line, grain_place_line, figures_line}
 
@@ -49,6 +51,15 @@ heard (Ok it) version change s = after_news version change it.news (record s { m
 -- the silo is told a change
 abbrev pub told_so : (version : ℕ) → Change → SiloValue → Answered
 told_so version change s = heard (told s.node.settings s.membership version change) version change s
+
+-- what begins with a view, or its refusal
+abbrev pub begun : Result Membership ℕ → (version : ℕ) → SiloValue → Answered
+begun (Err number) version s = printing (refusal_line number ∷ []) s
+begun (Ok m) version s = printing (sentence (codes "view" ∷ decimal version ∷ codes "begins" ∷ []) ∷ []) (record s { membership = m })
+
+-- the silo is told the view of a version in place of all changes up to it
+abbrev pub begun_so : (version : ℕ) → List Listed → SiloValue → Answered
+begun_so version rows s = begun (told_view s.node.settings s.membership s.node.host.silo version rows) version s
 
 -- ---- Steps: what happened, and then a line for each letter sent, in order; or the refusal.
 abbrev pub stepped : (Effect → List (List ℕ)) → Result Stepped ℕ → SiloValue → Answered
@@ -86,6 +97,7 @@ unfoldable pub answered : Asked → SiloValue → Answered
 answered (Joined version silo token places) s = told_so version (Join silo places) s
 answered (Leaving version silo) s = told_so version (Leave silo) s
 answered (Dead version silo) s = told_so version (Die silo) s
+answered (Begin version rows) s = begun_so version rows s
 answered (See version) s = seen_so version s
 answered (Do step) s = done_so step s
 answered (Receive letter) s = received_so letter s

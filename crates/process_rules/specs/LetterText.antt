@@ -1,10 +1,10 @@
 -- A letter as a line: `letter FROM TO VERSION KIND`, and what a letter of that kind says.
-use Rattle.std.specs.Prelude.{ℕ, List, [], ◌∷◌, ◌++◌, flat_map, codes, Option, Some, None}
+use Rattle.std.specs.Prelude.{ℕ, Bool, true, false, List, [], ◌∷◌, ◌++◌, flat_map, codes, Option, Some, None}
 use Rattle.std.specs.Fmt.{decimal}
 use Rattle.hex.specs.Hex.{encode_lower}
 use Rattle.texts.specs.Words.{sentence}
 use Rattle.silo_address.specs.SiloText.{silo_text}
-use Rattle.silo_address.specs.Grain.{grain_text}
+use Rattle.silo_address.specs.Grain.{Grain, grain_text}
 use Rattle.silo_address.specs.declared.ActivationId.{ActivationId}
 use Rattle.silo_address.specs.declared.Entry.{Entry}
 use Rattle.silo_address.specs.ActivationText.{activation_text}
@@ -55,6 +55,16 @@ reply_words (reply.Found entry) = entry_words entry
 reply_words reply.Nothing = []
 reply_words (reply.Retry why) = why_words why
 
+-- the grain behind which a query asks or a report tells, if there is one
+abbrev pub after_words : Option Grain → List (List ℕ)
+after_words None = []
+after_words (Some grain) = grain_text grain ∷ []
+
+-- whether a report is its silo's last
+abbrev pub end_word : Bool → List ℕ
+end_word true = codes "last"
+end_word false = codes "more"
+
 -- what a letter says, but for its kind, and for what is its sender's, its version's or a grain's hash
 abbrev pub body_words : Body → List (List ℕ)
 body_words (Request_letter request) = decimal request.number ∷ act_words request.act
@@ -64,8 +74,9 @@ body_words (Page_letter page) =
     range_text page.range ∷ decimal page.page ∷ decimal page.pages ∷ encode_lower page.digest ∷ entries_words page.entries
 body_words (Missing_letter range) = range_text range ∷ []
 body_words (Done_letter range) = range_text range ∷ []
-body_words (Query_letter range) = range_text range ∷ []
-body_words (Report_letter report) = range_text report.range ∷ entries_words report.entries
+body_words (Query_letter range after) = range_text range ∷ after_words after
+body_words (Report_letter report) =
+    range_text report.range ∷ (after_words report.after ++ (end_word report.last ∷ entries_words report.entries))
 body_words (Behind_letter range) = range_text range ∷ []
 body_words (Ahead_letter range) = range_text range ∷ []
 body_words (Offer_letter entry) = entry_words entry

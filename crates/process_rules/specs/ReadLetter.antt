@@ -5,6 +5,7 @@ use Rattle.std.specs.Map.{lookup}
 use Rattle.hex.specs.Hex.{decode_sized, encode_lower}
 use Rattle.hex.specs.declared.error.FromHexError.{FromHexError}
 use Rattle.silo_address.specs.Silo.{Silo}
+use Rattle.silo_address.specs.Grain.{Grain}
 use Rattle.silo_address.specs.Numbers.{silo_error_number}
 use Rattle.silo_address.specs.declared.activation.ActivationError.{ActivationError}
 use Rattle.silo_address.specs.declared.activation.ActivationError.TheVariants as activation
@@ -59,6 +60,10 @@ digest_or_fault word (Err fault) = Err 930
 
 abbrev pub digest_word : List ℕ → Result (List ℕ) ℕ
 digest_word word = digest_or_fault word (decode_sized word 32)
+
+-- whether a report is its silo's last: 932 where the word is neither `last` nor `more`
+abbrev pub last_word : List ℕ → Result Bool ℕ
+last_word word = if bytes_eq word (codes "last") then Ok true else (if bytes_eq word (codes "more") then Ok false else Err 932)
 
 -- a grain and its activation
 abbrev pub entry_of_words : List ℕ → List ℕ → Result Entry ℕ
@@ -231,14 +236,34 @@ a_range of head (range ∷ []) = do
   Ok (letter_of head (of range))
 a_range of head words = Err 922
 
--- a range and the entries, once it is known that these are pairs
-abbrev pub report_for : Bool → Result Head ℕ → (range : List ℕ) → List (List ℕ) → Result Letter ℕ
-report_for false head range words = Err 922
-report_for true head range words = do
+-- a range, and perhaps the grain behind which is asked
+abbrev pub a_query : Form
+a_query head (range ∷ []) = do
   head ← head
   range ← range_word range
+  Ok (letter_of head (Query_letter range None))
+a_query head (range ∷ after ∷ []) = do
+  head ← head
+  range ← range_word range
+  after ← grain_word after
+  Ok (letter_of head (Query_letter range (Some after)))
+a_query head words = Err 922
+
+-- a range, what is read of the grain behind which is told, whether it is the last, and the entries
+abbrev pub report_behind : Result Head ℕ → (range : List ℕ) → Result (Option Grain) ℕ → (last : List ℕ) → List (List ℕ) → Result Letter ℕ
+report_behind head range after last words = do
+  head ← head
+  range ← range_word range
+  after ← after
+  last ← last_word last
   entries ← entries_in words
-  Ok (letter_of head (Report_letter (record { version = head.version; range = range; silo = head.from; entries = entries })))
+  Ok (letter_of head (Report_letter (record { version = head.version; range = range; silo = head.from; after = after; entries = entries; last = last })))
+
+-- the grain stands there where the words behind the range are pairs: it and the next word, and those of each entry
+abbrev pub report_for : (pairs : Bool) → Result Head ℕ → (range : List ℕ) → List (List ℕ) → Result Letter ℕ
+report_for true head range (after ∷ last ∷ words) = report_behind head range (grain_word after >>= λ grain. Ok (Some grain)) last words
+report_for false head range (last ∷ words) = report_behind head range (Ok None) last words
+report_for pairs head range words = Err 922
 
 abbrev pub a_report : Form
 a_report head (range ∷ words) = report_for (are_pairs words) head range words
@@ -274,7 +299,7 @@ form_of hashing kind.Ask = an_ask
 form_of hashing kind.Page = a_page
 form_of hashing kind.Missing = a_range Missing_letter
 form_of hashing kind.Done = a_range Done_letter
-form_of hashing kind.Query = a_range Query_letter
+form_of hashing kind.Query = a_query
 form_of hashing kind.Report = a_report
 form_of hashing kind.Behind = a_range Behind_letter
 form_of hashing kind.Ahead = a_range Ahead_letter

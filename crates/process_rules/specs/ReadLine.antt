@@ -1,16 +1,20 @@
 -- What a line of a silo's process asks for, or the number of its first fault. It is a function of the line alone: what a letter to
 -- another silo says is read as well.
-use Rattle.std.specs.Prelude.{ℕ, nat_lt, Bool, List, [], ◌∷◌, length, map, take, drop, codes, bytes_eq, if◌then◌else◌, Option, Some, None, Result, Ok, Err}
+use Rattle.std.specs.Prelude.{ℕ, nat_lt, Bool, List, [], ◌∷◌, ◌++◌, find, length, map, take, drop, codes, bytes_eq, if◌then◌else◌, Option, Some, None, Result, Ok, Err}
 use Rattle.std.specs.List.{list_all}
 use Rattle.std.specs.Map.{lookup}
-use Rattle.texts.specs.Words.{words_in}
+use Rattle.texts.specs.Words.{words_in, pieces_at}
 use Rattle.silo_address.specs.Silo.{Silo}
 use Rattle.silo_address.specs.Grain.{Grain}
+use Rattle.membership_view.specs.declared.status.Status.{Status}
+use Rattle.membership_view.specs.declared.status.Status.TheVariants as status
 use Rattle.hash_ring.specs.declared.hashing.Hashing.{Hashing}
+use Rattle.directory_rules.specs.Membership.{Listed}
 use Rattle.directory_rules.specs.declared.policy.Policy.{Policy}
 use Rattle.directory_rules.specs.declared.policy.Policy.TheVariants.{LeastHeld}
 use Rattle.directory_rules.specs.declared.own_step.OwnStep.{OwnStep}
 use Rattle.directory_rules.specs.State.{Letter}
+use Rattle.script_rules.specs.Show.{status_word}
 use Rattle.script_rules.specs.Script.{silo_word, grain_word, number_word, places_in, policy_word, Grammar, no_word, a_grain, own_steps, is_text, is_remark, ◌>>=◌}
 use Rattle.process_rules.specs.ReadLetter.{read_letter}
 
@@ -21,6 +25,8 @@ pub data Asked : Type 0 where
   Joined : (version : ℕ) → Silo → (token : Option (List ℕ)) → (places : List ℕ) → Asked
   Leaving : (version : ℕ) → Silo → Asked
   Dead : (version : ℕ) → Silo → Asked
+  -- or the view of a version, in place of all changes up to it
+  Begin : (version : ℕ) → List Listed → Asked
   -- it sees a version, or does what its application asks of it
   See : (version : ℕ) → Asked
   Do : OwnStep → Asked
@@ -76,6 +82,53 @@ a_version_and_a_silo of (version ∷ silo ∷ []) = do
   Ok (of version silo)
 a_version_and_a_silo of words = Err 922
 
+-- ---- The silos of a view, each in one word: SILO:STATUS, and places behind a further colon, separated by commas.
+abbrev pub colon : ℕ
+colon = 58
+
+abbrev pub comma : ℕ
+comma = 44
+
+-- the status that the word names
+abbrev pub status_named : List ℕ → Option Status
+status_named word = find (λ status. bytes_eq word (status_word status)) (status.Active ∷ status.Leaving ∷ status.Dead ∷ [])
+
+-- a silo, its status and its places, once the status is known: 933 where it names none
+abbrev pub listed_as : Option Status → (silo : List ℕ) → (places : List (List ℕ)) → Result Listed ℕ
+listed_as None silo places = Err 933
+listed_as (Some status) silo places = do
+  silo ← silo_word silo
+  places ← places_in places
+  Ok (record { silo = silo; status = status; places = places })
+
+-- by what stands between its colons, of which one is the silo's own: 933 where these are too few or too many
+abbrev pub listed_of : List (List ℕ) → Result Listed ℕ
+listed_of (host ∷ port ∷ status ∷ []) = listed_as (status_named status) (host ++ colon ∷ port) []
+listed_of (host ∷ port ∷ status ∷ places ∷ []) = listed_as (status_named status) (host ++ colon ∷ port) (pieces_at comma places)
+listed_of pieces = Err 933
+
+-- a silo of a view
+abbrev pub listed_word : List ℕ → Result Listed ℕ
+listed_word word = listed_of (pieces_at colon word)
+
+-- each of these words is one
+abbrev pub listed_in : List (List ℕ) → Result (List Listed) ℕ
+listed_in [] = Ok []
+listed_in (word ∷ words) = do
+  one ← listed_word word
+  others ← listed_in words
+  Ok (one ∷ others)
+
+-- a version, and any number of silos
+abbrev pub a_view : Grammar Asked
+a_view (version ∷ words) = do
+  version ← number_word version
+  rows ← listed_in words
+  Ok (Begin version rows)
+a_view words = Err 922
+
+-- ---- Further lines.
+
 -- a version
 abbrev pub a_version : Grammar Asked
 a_version (version ∷ []) = do
@@ -121,6 +174,7 @@ commands hashing =
     (codes "joined", a_join)
     ∷ (codes "leaving", a_version_and_a_silo Leaving)
     ∷ (codes "dead", a_version_and_a_silo Dead)
+    ∷ (codes "view", a_view)
     ∷ (codes "see", a_version)
     ∷ (codes "letter", a_letter hashing)
     ∷ (codes "ping", a_word)

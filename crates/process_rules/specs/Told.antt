@@ -82,6 +82,7 @@ module _ (Fits : ℕ → Type 0) where
       pub version : report.version ≡ stated
       pub range : Lies report.range
       pub silo : report.silo ≡ from
+      pub after : IfSome report.after IsGrain
       pub entries : All IsEntry report.entries
 
     -- what a letter from that silo and of that version says
@@ -92,7 +93,7 @@ module _ (Fits : ℕ → Type 0) where
     IsToldBody hashing from version (Page_letter page) = IsToldPage version page
     IsToldBody hashing from version (Missing_letter range) = Lies range
     IsToldBody hashing from version (Done_letter range) = Lies range
-    IsToldBody hashing from version (Query_letter range) = Lies range
+    IsToldBody hashing from version (Query_letter range after) = Lies range × IfSome after IsGrain
     IsToldBody hashing from version (Report_letter report) = IsToldReport from version report
     IsToldBody hashing from version (Behind_letter range) = Lies range
     IsToldBody hashing from version (Ahead_letter range) = Lies range

@@ -1,10 +1,11 @@
 -- An Active silo has a point on the current ring, so each hash has an owner; and the plan changes neither views nor places.
-use Rattle.std.proofs.Common.{arith, ◌≡◌, refl, sym, subst, List, []}
+use Rattle.std.proofs.Common.{arith, ◌≡◌, refl, sym, subst, ◌∙◌, List, []}
 use Rattle.std.specs.Prelude.{⊤, IsSome, Contains, slice_index, Option, Some, None}
 use Rattle.membership_view.specs.declared.status.Status.TheVariants.{Active}
-use Rattle.membership_view.specs.Views.{row_of}
+use Rattle.membership_view.specs.Views.{row_of, status_at}
 use Rattle.membership_view.specs.declared.row.Row.{Row}
 use Rattle.membership_view.proofs.Kept.{has_row}
+use Rattle.membership_view.proofs.Said.{views_say_statuses}
 use Rattle.hash_ring.specs.declared.point.Point.{Point}
 use Rattle.hash_ring.specs.Places.{places_of}
 use Rattle.hash_ring.specs.Ring.{points_of}
@@ -41,9 +42,11 @@ active_silos_own settings events are named has =
     let places = (reached settings events are (events_name_hashes events named)).places in
     let some = (places.each has.silo its.0 its.1).some in
     let p : Point = record { place = slice_index its.0 0; silo = has.silo; index = 0 } in
+    let is_there : IsSome (status_at world.views world.views.version has.silo) = subst (λ o. IsSome o) (sym has.active) refl in
+    let said = views_say_statuses world.views whole has.silo world.views.version (omega arith) is_there in
     let of_view : Contains (points_of (current_view world) world.places) p =
     (points_are (current_view world) (view_by_address world.views world.views.version whole) world.places p).1
-    (record { active = has.active; its_places = its.0; has = its.1; within = some; at = refl }) in
+    (record { active = said ∙ has.active; its_places = its.0; has = its.1; within = some; at = refl }) in
     let on_ring : Contains (current_ring world) p = (is_sorted_anew (points_of (current_view world) world.places)).same.back p of_view in
     rings_have_owners world (λ none. none_in_none p (subst (λ (points : List Point). Contains points p) none on_ring))
 

@@ -16,7 +16,7 @@ use Rattle.directory_rules.specs.Mail.{fresh_letter}
 use Rattle.directory_rules.specs.Happens.{least_deliverable}
 use Rattle.directory_facts.proofs.Entries.{found_so, same_key}
 use Rattle.directory_rules.proofs.Peopled.{peopled_after}
-use Rattle.progress_rules.specs.Plan.{and_then, settled, round, IsSettledPiece}
+use Rattle.progress_rules.specs.Plan.{settled}
 use Rattle.progress_rules.specs.Plan as plan
 use Rattle.progress_rules.specs.ComeBack.{AreSettled}
 use Rattle.progress_rules.specs.Second.{Flies}

@@ -8,7 +8,7 @@ use Rattle.silo_address.proofs.Same.{Decides-silo}
 use Rattle.directory_rules.specs.declared.act.Act.{Act}
 use Rattle.directory_rules.specs.Answer.{is_numbered}
 use Rattle.directory_rules.specs.Host as host
-use Rattle.directory_rules.specs.State.{Host, Letter, Node, World, Accepted}
+use Rattle.directory_rules.specs.State.{Letter, Node, World, Accepted}
 use Rattle.directory_rules.specs.Laws.{requests_of, AreNumbered}
 use Rattle.directory_rules.specs.Event.{Deliver, Do}
 use Rattle.directory_rules.specs.Step.{Stepped}

@@ -10,7 +10,8 @@ use Rattle.progress_rules.specs.Worked.{LimitsCompute, PlanComputes}
 use Rattle.progress_rules.specs.Hasty.{HastyNudgesWait, PartNudgesDoNot}
 use Rattle.progress_rules.specs.RoomWorked.{BoundIsReached}
 use Rattle.progress_rules.specs.Reversed.{ReversedNeedsTwo}
-use Rattle.progress_rules.specs.Wrong.{ComesBackAlone, QueryOfTheVersionIsBehind, ReportIsNotStruckOff}
+use Rattle.progress_rules.specs.Paged.{PagesReachTheBound}
+use Rattle.progress_rules.specs.Wrong.{ComesBackAlone, ComesBackByPages, PageIsNotAskedOn, QueryOfTheVersionIsBehind, ReportIsNotStruckOff, ReportsFromTheStart}
 
 pub plan_computed : PlanComputes
 unfolding run happens cut_parts stated_hash digits sha256 hash_after compress rounds schedule first_words digest_bytes
@@ -47,3 +48,19 @@ never_reported = record { none = refl; unsettled = refl }
 pub never_struck_off : ReportIsNotStruckOff
 unfolding run happens cut_parts stated_hash digits sha256 hash_after compress rounds schedule first_words digest_bytes
 never_struck_off = record { none = refl; unsettled = refl }
+
+pub pages_computed : PagesReachTheBound
+unfolding run happens cut_parts stated_hash digits sha256 hash_after compress rounds schedule first_words digest_bytes
+pages_computed = refl
+
+pub comes_back_by_pages : ComesBackByPages
+unfolding run happens cut_parts stated_hash digits sha256 hash_after compress rounds schedule first_words digest_bytes
+comes_back_by_pages = record { none = refl; settled = refl }
+
+pub not_asked_on : PageIsNotAskedOn
+unfolding run happens cut_parts stated_hash digits sha256 hash_after compress rounds schedule first_words digest_bytes
+not_asked_on = record { none = refl; unsettled = refl }
+
+pub from_the_start : ReportsFromTheStart
+unfolding run happens cut_parts stated_hash digits sha256 hash_after compress rounds schedule first_words digest_bytes
+from_the_start = record { none = refl; unsettled = refl }

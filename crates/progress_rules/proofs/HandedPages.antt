@@ -1,4 +1,5 @@
--- What the letters of a transfer say of the node that sends them: a page is on its shelf, and who has a snapshot whole awaits it no more.
+-- What the letters of a transfer say of the node that sends them: a page is on its shelf, who has a snapshot whole awaits it no more, and a
+-- report is of what is firm there.
 use Rattle.std.proofs.Common.{arith, ◌≡◌, refl, sym, ap, subst, ◌∙◌, ℕ, ◌<◌, ◌≤◌, List, [], ◌∷◌, ◌++◌, ◌⊎◌, inl, inr}
 use Rattle.std.specs.Prelude.{⊤, Bool, true, false, cond, not, ◌||◌, nat_lt, find, filter, All, Option, Some, None, Ok}
 use Rattle.std.specs.List.{list_any}
@@ -14,16 +15,16 @@ use Rattle.directory_rules.specs.declared.act.Act.TheVariants as act
 use Rattle.directory_rules.specs.declared.effect.Effect.{Effect}
 use Rattle.directory_rules.specs.declared.effect.Effect.TheVariants as effect
 use Rattle.directory_rules.specs.declared.piece_state.PieceState.TheVariants as state
-use Rattle.directory_rules.specs.State.{Table, Snapshot, Page, Letter, Body, Page_letter, Done_letter, Node}
+use Rattle.directory_rules.specs.State.{Table, Snapshot, Page, Report, Letter, Body, Page_letter, Done_letter, Report_letter, Node}
 use Rattle.directory_rules.specs.Table.{table_of}
 use Rattle.directory_rules.specs.Snapshot.{ShelfAnswer, Hands_page, Is_behind, is_snapshot, has_snapshot, shelf_answer, shelf_without}
 use Rattle.directory_rules.specs.Host as host
 use Rattle.directory_rules.specs.Host.{next_held, entry_of}
-use Rattle.directory_rules.specs.Sent.{request_letters, all_requests, requests_of_grain, all_wants}
+use Rattle.directory_rules.specs.Sent.{query_to, request_letters, all_requests, requests_of_grain, all_wants}
 use Rattle.directory_rules.specs.Step.{Stepped, silently, sight, started}
 use Rattle.directory_rules.specs.Sight.{is_next}
 use Rattle.directory_rules.specs.Input.{Input, Does, Receives, step}
-use Rattle.directory_rules.specs.Transfer.{answer_to, with_settled, with_gathering, turned_to_recovery}
+use Rattle.directory_rules.specs.Transfer.{answer_to, report_of, with_settled, with_gathering, with_recovery, turned_to_recovery}
 use Rattle.directory_rules.specs.declared.own_step.OwnStep.TheVariants.{Wake, Close, Cancel, Find, Forget, Nudge, NudgeGrain, NudgeRanges, Offer}
 use Rattle.directory_rules.proofs.Cases.{on_bool}
 use Rattle.directory_facts.proofs.Ways.{Ways}
@@ -41,10 +42,17 @@ pub record IsPast (version : ℕ) (range : Range) (node : Node) : Type 0 where
   pub reached : version ≤ node.view.version
   pub awaits_not : version ≡ node.view.version → (giver : Silo) → AwaitsFrom node range giver → ⊥
 
+-- a report is of what the node has firm in a range, behind a grain
+pub record IsReportOf (node : Node) (report : Report) : Type 0 where
+  pub range : Range
+  pub behind : Option Grain
+  pub is : report ≡ report_of node range behind
+
 abbrev pub Tells : Body → Letter → (node after : Node) → Type 0
 Tells (Done_letter range) letter node after = (letter.from ≡ node.host.silo) × IsPast letter.version range after
 Tells (Page_letter page) letter node after = (letter.from ≡ node.host.silo) × (page.version ≤ after.view.version)
     × (has_snapshot after.shelf page.version page.range letter.to ≡ true)
+Tells (Report_letter report) letter node after = IsReportOf node report
 Tells body letter node after = ⊤
 
 -- the input is the word that the snapshot is whole
@@ -95,6 +103,7 @@ any_left p q (x ∷ xs) there =
 question_tells : (body : Body) (letter : Letter) (node after : Node) → is_question body ≡ true → Tells body letter node after
 question_tells (Done_letter range) letter node after asks = absurd (cc (asks))
 question_tells (Page_letter page) letter node after asks = absurd (cc (asks))
+question_tells (Report_letter report) letter node after asks = absurd (cc (asks))
 question_tells body letter node after asks = tt
 
 module _ (node : Node) where
@@ -236,7 +245,9 @@ module _ (node : Node) where
     forgoes = λ letter range body there. forgone letter range body;
     lags = λ letter range. sends (Receives letter) node _ _ refl refl (one_tells node _ tt);
     passed = λ letter range. sends (Receives letter) node _ _ refl refl (one_tells node _ tt);
-    reports = λ letter range body seen. sends (Receives letter) node _ _ refl refl (one_tells node _ tt);
+    reports = λ letter range after body seen. sends (Receives letter) node _ _ refl refl
+        (one_tells node (answer_to letter node (Report_letter (report_of node range after)))
+        (record { range = range; behind = after; is = refl }));
     gathers =
         λ letter page gathering taken is. sends (Receives letter) (with_gathering node gathering) _ _ refl refl
         (one_tells (with_gathering node gathering) _ tt);
@@ -245,6 +256,8 @@ module _ (node : Node) where
     drops = λ letter page gathering taken is. silent (Receives letter) (with_gathering node gathering) _ refl refl;
     turns = λ letter range piece body has awaits. sends (Receives letter) (turned_to_recovery node range) _ _ refl refl
         (ask_tell (turned_to_recovery node range) _ (query_questions (turned_to_recovery node range) range));
+    continues = λ letter report recovery taken is. sends (Receives letter) (with_recovery node recovery) _ _ refl refl
+        (one_tells (with_recovery node recovery) (query_to (with_recovery node recovery) report.range report.silo) tt);
     collects = λ letter report recovery taken is. silent (Receives letter) _ _ refl refl;
     completes = λ letter report table taken is. silent (Receives letter) _ _ refl refl;
     takes_over = λ letter entry body seen may. begins (Receives letter) entry.grain (Some entry.activation);

@@ -202,11 +202,12 @@ module _ (node : Node) (is : IsWithin node.settings node.host) where
     forgoes = λ letter range body there. stays;
     lags = λ letter range. stays;
     passed = λ letter range. stays;
-    reports = λ letter range body seen. stays;
+    reports = λ letter range after body seen. stays;
     gathers = λ letter page gathering taken so. stays;
     installs = λ letter page entries taken so. stays;
     drops = λ letter page gathering taken so. stays;
     turns = λ letter range piece body has awaits. stays;
+    continues = λ letter report recovery taken so. stays;
     collects = λ letter report recovery taken so. stays;
     completes = λ letter report table taken so. stays;
     takes_over = λ letter entry body seen may. (refl, begun node.settings node.host is entry.grain (Some entry.activation) may.room);

@@ -10,14 +10,14 @@ use Rattle.std.proofs.lemmas.List.Elements.{All-nil, All-cons, All-head, All-tai
 use Rattle.silo_address.specs.Silo.{Silo, silo_eq}
 use Rattle.silo_address.proofs.Same.{Decides-silo}
 use Rattle.membership_view.specs.declared.status.Status.{Status}
-use Rattle.membership_view.specs.View.{ViewValue, status_of}
+use Rattle.membership_view.specs.View.{ViewValue}
 use Rattle.membership_view.specs.Views.{ViewsValue, view_at, status_at}
 use Rattle.membership_view.specs.Whole.{IsViews}
 use Rattle.membership_view.specs.Step.{Joins}
 use Rattle.membership_view.specs.Changes as change
 use Rattle.membership_view.specs.Laws.{Accepts}
 use Rattle.membership_view.proofs.Kept.{whole-after}
-use Rattle.membership_view.proofs.Unchanged.{versions_rise, views_stay, rows_stay}
+use Rattle.membership_view.proofs.Unchanged.{versions_rise, statuses_stay, rows_stay}
 use Rattle.membership_view.proofs.Changes.{changes_are_steps}
 use Rattle.ring_range.specs.Range.{Range}
 use Rattle.hash_ring.specs.Places.{PlacesValue}
@@ -78,9 +78,9 @@ known_on : (views : ViewsValue) → IsViews views → (way : change.Change) (nex
 known_on views whole way next is silo known =
     let accepts : Accepts views way next = record { whole = whole; is = is } in
     let rises = versions_rise views way next accepts in
-    let same = views_stay views way next accepts views.version (omega arith) in
+    let same = statuses_stay views way next accepts views.version (omega arith) silo in
     rows_stay next (whole-after views whole way next is) silo views.version next.version (omega (arith, rises)) (omega arith)
-    (subst (λ (v : ViewValue). IsSome (status_of v silo)) (sym same) known)
+    (subst (λ (o : Option Status). IsSome o) (sym same) known)
 
 nobody : (o : Option Status) → o ≡ None → IsSome o → ⊥
 nobody None none some = cc (some)
@@ -189,7 +189,7 @@ module _ (settings : Settings) (are : AreSettings settings) (events : List Event
           → (node : Node) × (node_of f other ≡ Some node) × GoesFrom f node later
       nodes o other later known there = elim (joining_node f peopled silo next added o other later there) [
         | inl its ↦
-            let none = newcomer silo f.views next step_is in
+            let none = newcomer silo f.views next peopled.whole step_is in
             let some : IsSome (status_at f.views f.views.version silo) = subst (λ s. IsSome (status_at f.views f.views.version s)) its.0 known in
             absurd (nobody (status_at f.views f.views.version silo) none some)
         | inr was ↦ (later, was, stays_same f later)

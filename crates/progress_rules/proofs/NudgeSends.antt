@@ -11,13 +11,14 @@ use Rattle.ring_range.specs.Range.{Range}
 use Rattle.directory_rules.specs.declared.act.Act.{Act}
 use Rattle.directory_rules.specs.declared.piece_state.PieceState.{PieceState}
 use Rattle.directory_rules.specs.declared.piece_state.PieceState.TheVariants as state
-use Rattle.directory_rules.specs.State.{Piece, Letter, Body, Request_letter, Query_letter, Node, World}
+use Rattle.directory_rules.specs.State.{Piece, Letter, Body, Request_letter, Node, World}
 use Rattle.directory_rules.specs.Host as host
 use Rattle.directory_rules.specs.Host.{outstanding}
-use Rattle.directory_rules.specs.Sent.{letter_to, letter_if_owned, owner_by, hash_of, request_of, request_letters, recovery_of, wants_by, all_requests, all_wants}
+use Rattle.directory_rules.specs.Sent.{query_to, letter_if_owned, owner_by, hash_of, request_of, request_letters, recovery_of, wants_by, all_requests, all_wants}
 use Rattle.directory_rules.specs.Step.{Stepped, having_nudged}
 use Rattle.directory_rules.specs.Happens.{node_of, with_node}
-use Rattle.progress_rules.specs.Room.{is_question, is_offer, fresh_with, over_pieces, requests_out, missing_of, awaits_one, pages_shelved}
+use Rattle.progress_rules.specs.Room.{is_question, is_offer, fresh_with, over_pieces, requests_out, awaits_one, pages_shelved}
+use Rattle.progress_rules.proofs.AreTold.{Base, left_by}
 use Rattle.progress_rules.proofs.Resting.{IsResting}
 use Rattle.progress_rules.proofs.Flights.{stepped_world}
 use Rattle.progress_rules.proofs.Answering.{node_facts}
@@ -46,26 +47,32 @@ owned_one None node body = omega arith
 owned_one (Some owner) node body = omega arith
 
 -- ---- wants
+-- how many reports a piece awaits
+abbrev pub awaited_of : Node → PieceState → Range → ℕ
+awaited_of node state.Settled range = 0
+awaited_of node (state.Awaiting from) range = 0
+awaited_of node state.Recovering range = length (recovery_of node range).awaiting
+
 wants_many : (its : PieceState) (node : Node) (range : Range)
-    → length (wants_by its node range) ≡ missing_of node its range + awaits_one its range
+    → length (wants_by its node range) ≡ awaited_of node its range + awaits_one its range
 wants_many state.Settled node range = refl
 wants_many (state.Awaiting from) node range = refl
 wants_many state.Recovering node range =
-    let all = length-map (recovery_of node range).awaiting (λ silo. letter_to silo node (Query_letter range)) in omega (arith, all)
+    let all = length-map (recovery_of node range).awaiting (query_to node range) in omega (arith, all)
 
 -- how many letters a nudge sends at most
 abbrev pub asked_by_nudge : Node → ℕ
-asked_by_nudge node = length (outstanding node.host) + (over_pieces (missing_of node) node + over_pieces awaits_one node)
+asked_by_nudge node = length (outstanding node.host) + (over_pieces (awaited_of node) node + over_pieces awaits_one node)
 
-pub all_wants_many : (node : Node) → length (all_wants node) ≡ over_pieces (missing_of node) node + over_pieces awaits_one node
+pub all_wants_many : (node : Node) → length (all_wants node) ≡ over_pieces (awaited_of node) node + over_pieces awaits_one node
 all_wants_many node =
     let all = length-flat_map (λ (e : ℕ × Piece). wants_by e.1.state node e.1.range) node.holding.pieces in
     let values = by_values (λ (p : Piece). length (wants_by p.state node p.range)) node.holding.pieces in
-    let parts = sum_plus (λ (p : Piece). length (wants_by p.state node p.range)) (λ (p : Piece). missing_of node p.state p.range) (λ (p : Piece). awaits_one p.state p.range)
+    let parts = sum_plus (λ (p : Piece). length (wants_by p.state node p.range)) (λ (p : Piece). awaited_of node p.state p.range) (λ (p : Piece). awaits_one p.state p.range)
     (λ p. wants_many p.state node p.range) (values_of node.holding.pieces) in
     omega (arith, all, values, parts)
 
-module _ (n : ℕ) (world : World) (r : IsResting world) (silo : Silo) (node : Node) (its : node_of world silo ≡ Some node) where
+module _ (b : Base) (world : World) (r : IsResting world) (silo : Silo) (node : Node) (its : node_of world silo ≡ Some node) where
   abbrev renewed : Node
   renewed = record node { host = host.renewed node.host }
 
@@ -96,10 +103,10 @@ module _ (n : ℕ) (world : World) (r : IsResting world) (silo : Silo) (node : N
   questions = All-append IsQuestion (all_requests renewed) (all_wants renewed) (request_questions renewed) (want_questions renewed)
 
   -- each letter that it sends has an answer
-  pub potential_grows : potential n nudged_world ≤ potential n world + length nudged_step.letters
+  pub potential_grows : potential b nudged_world ≤ potential b world + length nudged_step.letters
   potential_grows =
-      let over = over_stepped world silo node nudged_step its (λ (x : Node). need (due_to world x) n x) (λ (x : Node). need (due_to nudged_world x) n x) (nodes_sorted world r)
-      (λ x. need_less (due_to nudged_world x) (due_to world x) n x (λ giver range.
+      let over = over_stepped world silo node nudged_step its (λ (x : Node). need (due_to world x) (left_by b) x) (λ (x : Node). need (due_to nudged_world x) (left_by b) x) (nodes_sorted world r)
+      (λ x. need_less (due_to nudged_world x) (due_to world x) (left_by b) x (λ giver range.
       shelved_less world silo node nudged_step its (λ to version range. le_same (pages_shelved (Some node) to version range)) giver
       x.host.silo x.view.version range)) in
       let asks = fresh_after is_question (with_node world silo renewed) nudged_step.letters in

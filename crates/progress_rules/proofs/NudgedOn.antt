@@ -12,7 +12,7 @@ use Rattle.range_moves.specs.Arcs.{owner_silo}
 use Rattle.directory_rules.specs.declared.act.Act.{Act}
 use Rattle.directory_rules.specs.declared.act.Request.{Request}
 use Rattle.directory_rules.specs.Host as host
-use Rattle.directory_rules.specs.State.{Host, Letter, Request_letter, Node, World, Accepted}
+use Rattle.directory_rules.specs.State.{Letter, Request_letter, Node, World, Accepted}
 use Rattle.directory_rules.specs.Host.{outstanding, grain_of}
 use Rattle.directory_rules.specs.Answer.{last_served, is_numbered}
 use Rattle.directory_rules.specs.Event.{Do}
@@ -24,6 +24,7 @@ use Rattle.directory_rules.specs.Happens.{happens, node_of}
 use Rattle.directory_rules.specs.Laws.{is_live, AreNumbered}
 use Rattle.directory_rules.specs.declared.own_step.OwnStep.TheVariants.{Nudge}
 use Rattle.directory_rules.proofs.Cases.{on_bool}
+use Rattle.directory_rules.proofs.People.{live_said}
 use Rattle.directory_facts.proofs.Carried.{Everywhere}
 use Rattle.directory_facts.proofs.Reached.{everywhere, found_node}
 use Rattle.directory_headline.proofs.Settings.{owner_active}
@@ -130,7 +131,9 @@ module _ (world : World) (silo : Silo) (nd : Node) (those : List (Silo × Node))
   owner_lives h owner owns =
       let c = rest_carried world n.rests in
       let active = owner_active world.views world.views.version world.places h owner c.facts.peopled.whole owns in
-      c.facts.peopled.live owner ∙ ap (λ (o : Option Status). is_live o) active
+      c.facts.peopled.live owner
+      ∙ sym (live_said world.views c.facts.peopled.whole world.views.version (omega arith) owner)
+      ∙ ap (λ (o : Option Status). is_live o) active
 
   owner_is : (act : Act) → owner_by node (hash_of node act) ≡ owner_in world act
   owner_is act = owner_seen world n.rests silo s.node s.its act

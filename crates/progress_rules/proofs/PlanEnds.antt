@@ -20,7 +20,7 @@ use Rattle.directory_rules.specs.declared.own_step.OwnStep.TheVariants.{Nudge}
 use Rattle.directory_rules.proofs.FreshLetters.{AtMost, find_in, next_delivered}
 use Rattle.directory_facts.proofs.Lookups.{lookup_first}
 use Rattle.progress_rules.specs.Plan as plan
-use Rattle.progress_rules.specs.Plan.{then_on, and_then, in_turn, is_behind, sights, nudge_events, delivering, ended, settled_within}
+use Rattle.progress_rules.specs.Plan.{then_on, and_then, in_turn, is_behind, sights, delivering, ended, settled_within}
 use Rattle.progress_rules.proofs.Flights.{IsStep, IsDelivery, stepped_world, lives}
 use Rattle.progress_rules.proofs.Flights as flight
 use Rattle.progress_rules.proofs.Synced.{saw, keys_silos}

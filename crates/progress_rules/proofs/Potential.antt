@@ -19,29 +19,30 @@ use Rattle.directory_rules.proofs.Cases.{on_bool}
 use Rattle.progress_rules.specs.Room.{is_question, is_offer, fresh_with, over_nodes, pages_shelved}
 use Rattle.progress_rules.proofs.Flights.{stepped_world, its_node, other_node}
 use Rattle.progress_rules.proofs.Sums.{le_same}
-use Rattle.progress_rules.proofs.Falls.{need_of, need}
+use Rattle.progress_rules.proofs.AreTold.{Base, left_by}
+use Rattle.progress_rules.proofs.Falls.{Left, need_of, need}
 
 -- the pages that are due to a node
 abbrev pub due_to : World → Node → Silo → Range → ℕ
 due_to world node giver range = pages_shelved (node_of world giver) node.host.silo node.view.version range
 
 -- what the fresh letters and the pieces of a world stand for, where there are so many silos
-abbrev pub potential : ℕ → World → ℕ
-potential n world =
-    fresh_with is_question world + 2 * fresh_with is_offer world + over_nodes (λ node. need (due_to world node) n node) world
+abbrev pub potential : Base → World → ℕ
+potential b world =
+    fresh_with is_question world + 2 * fresh_with is_offer world + over_nodes (λ node. need (due_to world node) (left_by b) node) world
 
 -- the fewer are due the less is needed
-pub need_less : (less more : Silo → Range → ℕ) (n : ℕ) (node : Node)
+pub need_less : (less more : Silo → Range → ℕ) (left : Left) (node : Node)
     → ((giver : Silo) (range : Range) → less giver range ≤ more giver range)
-    → need less n node ≤ need more n node
-need_less less more n node le =
-    sum_by-le-sum_by (λ (p : Piece). need_of less n node p.state p.range) (λ (p : Piece). need_of more n node p.state p.range)
+    → need less left node ≤ need more left node
+need_less less more left node le =
+    sum_by-le-sum_by (λ (p : Piece). need_of less left node p.state p.range) (λ (p : Piece). need_of more left node p.state p.range)
     (values_of node.holding.pieces) (λ p. by p.state p.range)
   where
-    by : (its : PieceState) (range : Range) → need_of less n node its range ≤ need_of more n node its range
+    by : (its : PieceState) (range : Range) → need_of less left node its range ≤ need_of more left node its range
     by state.Settled range = le_same 0
     by (state.Awaiting giver) range = let here = le giver range in omega (arith, here)
-    by state.Recovering range = le_same 0
+    by state.Recovering range = le_same (need_of less left node state.Recovering range)
 
 ones : {X : Type 0} (xs : List X) → sum_by (λ x. 1) xs ≡ length xs
 ones [] = refl

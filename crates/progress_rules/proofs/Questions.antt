@@ -9,9 +9,9 @@ use Rattle.ring_range.specs.Range.{Range}
 use Rattle.directory_rules.specs.declared.act.Act.{Act}
 use Rattle.directory_rules.specs.declared.piece_state.PieceState.{PieceState}
 use Rattle.directory_rules.specs.declared.piece_state.PieceState.TheVariants as state
-use Rattle.directory_rules.specs.State.{Piece, Letter, Body, Request_letter, Ask_letter, Query_letter, Offer_letter, Node}
+use Rattle.directory_rules.specs.State.{Piece, Letter, Body, Request_letter, Ask_letter, Offer_letter, Node}
 use Rattle.directory_rules.specs.Host.{outstanding, requests_about}
-use Rattle.directory_rules.specs.Sent.{letter_to, letter_if_owned, owner_by, hash_of, request_of, request_letters, gathering_of, recovery_of, query_letters, wants_by, all_requests, requests_of_grain, all_wants}
+use Rattle.directory_rules.specs.Sent.{letter_to, letter_if_owned, owner_by, hash_of, request_of, request_letters, gathering_of, recovery_of, query_to, query_letters, wants_by, all_requests, requests_of_grain, all_wants}
 use Rattle.progress_rules.specs.Room.{is_question, is_offer}
 use Rattle.progress_rules.proofs.FreshWith.{sent_with}
 
@@ -54,7 +54,7 @@ grain_questions node grain =
 
 pub query_questions : (node : Node) (range : Range) → All IsQuestion (query_letters node range)
 query_questions node range =
-    All-map IsQuestion (λ silo. letter_to silo node (Query_letter range)) (recovery_of node range).awaiting (λ k d below. refl)
+    All-map IsQuestion (query_to node range) (recovery_of node range).awaiting (λ k d below. refl)
 
 wanted_questions : (its : PieceState) (node : Node) (range : Range) → All IsQuestion (wants_by its node range)
 wanted_questions state.Settled node range = All-nil IsQuestion

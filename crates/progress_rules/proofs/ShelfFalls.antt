@@ -18,7 +18,7 @@ use Rattle.directory_facts.specs.Pieces.{HasPieces}
 use Rattle.progress_rules.specs.Room.{pages_of, pages_shelved}
 use Rattle.progress_rules.proofs.Sums.{le_same}
 use Rattle.progress_rules.proofs.Waits.{is_one}
-use Rattle.progress_rules.proofs.Falls.{need, Falls, quietly, nothing, answers}
+use Rattle.progress_rules.proofs.Falls.{Left, need, Falls, quietly, nothing, answers}
 
 -- ---- shelves
 -- what two snapshots are for
@@ -92,7 +92,7 @@ handed false (Some x) number page is =
     same : Hands_page (page_of x number) ≡ Hands_page page → page ≡ page_of x number
     same it = sym (cc (it))
 
-module _ (due : Silo → Range → ℕ) (n : ℕ) (hashing : Hashing) (node : Node) (has : HasPieces hashing node) (letter : Letter) where
+module _ (due : Silo → Range → ℕ) (left : Left) (hashing : Hashing) (node : Node) (has : HasPieces hashing node) (letter : Letter) where
   -- ---- the previous owner
   pub shelf_same : (silo : Silo) (version : ℕ) (range : Range)
       → pages_shelved (Some node) silo version range ≤ pages_shelved (Some node) silo version range
@@ -100,22 +100,22 @@ module _ (due : Silo → Range → ℕ) (n : ℕ) (hashing : Hashing) (node : No
 
   pub ask_falls : (range : Range) (number : ℕ) (answer : ShelfAnswer)
       → shelf_answer node.shelf node.view.version letter.version range letter.from number ≡ answer
-      → Falls due n node (Ask_letter range number) (asked_by answer letter range node)
+      → Falls due left node (Ask_letter range number) (asked_by answer letter range node)
   ask_falls range number (Hands_page page) is =
-      answers due n node (Ask_letter range number) letter (Page_letter page) effect.Page (le_same 1) refl refl
+      answers due left node (Ask_letter range number) letter (Page_letter page) effect.Page (le_same 1) refl refl
   ask_falls range number Has_none is =
-      answers due n node (Ask_letter range number) letter (Missing_letter range) effect.Missing (le_same 1) refl refl
+      answers due left node (Ask_letter range number) letter (Missing_letter range) effect.Missing (le_same 1) refl refl
   ask_falls range number Is_behind is =
-      answers due n node (Ask_letter range number) letter (Behind_letter range) effect.Behind (le_same 1) refl refl
+      answers due left node (Ask_letter range number) letter (Behind_letter range) effect.Behind (le_same 1) refl refl
 
-  pub done_falls : (range : Range) → Falls due n node (Done_letter range) (done node letter range)
+  pub done_falls : (range : Range) → Falls due left node (Done_letter range) (done node letter range)
   done_falls range =
-      on_bool (λ b. Falls due n node (Done_letter range)
+      on_bool (λ b. Falls due left node (Done_letter range)
       (cond b (silently (record node { shelf = shelf_without node.shelf letter.version range letter.from }) effect.Deleted)
       (silently node effect.Ignored))) (has_snapshot node.shelf letter.version range letter.from)
-      (λ t. quietly due n node (Done_letter range) (record node { shelf = shelf_without node.shelf letter.version range letter.from })
-      effect.Deleted (le_same (need due n node))
+      (λ t. quietly due left node (Done_letter range) (record node { shelf = shelf_without node.shelf letter.version range letter.from })
+      effect.Deleted (le_same (need due left node))
       (le_same (length (requests_of node.host)))
       (λ silo version other. fewer_found (is_snapshot version other silo) (is_snapshot letter.version range letter.from)
       (λ x y. one_test version letter.version other range silo letter.from x y) node.shelf) refl refl)
-      (λ f. nothing due n node (Done_letter range) effect.Ignored)
+      (λ f. nothing due left node (Done_letter range) effect.Ignored)

@@ -19,6 +19,7 @@ use Rattle.progress_rules.specs.Room.{letters_needed, events_needed, ComesBackUn
 use Rattle.progress_rules.proofs.Synced.{IsSeeing, synced_seen}
 use Rattle.progress_rules.proofs.All.{comes_back_unowned}
 use Rattle.progress_rules.proofs.ActiveOwns.{comes_back_where_active}
+use Rattle.progress_rules.proofs.AreTold.{base_of}
 use Rattle.progress_rules.proofs.RoundThrough.{HasRoom, round_through}
 use Rattle.progress_rules.proofs.RoundSends.{round_within}
 use Rattle.progress_rules.proofs.PlanSends.{first_sends, first_events, still_asked, before_first, before_second, all_sends, all_events, round_settles, seen_rests}
@@ -53,18 +54,18 @@ module _ (settings : Settings) (events : List Event) (seen : World) (are : AreSe
   plan_through suffice letters_fit events_fit =
       let r = seen_rests settings events seen are named synced_is in
       let same : seen.settings ≡ settings = ap (λ (x : World). x.settings) s.is ∙ settings_stay settings s.events in
-      let n = length seen.nodes in
-      let sends = all_sends seen in
-      let comes = all_events seen in
+      let b = base_of seen in
+      let sends = all_sends seen r in
+      let comes = all_events seen r in
       let room : HasRoom (first_sends seen) (first_events seen) seen.settings = subst (HasRoom (first_sends seen) (first_events seen)) (sym same)
       (record { letters = omega (arith, sends, letters_fit); events_fit = omega (arith, comes, events_fit); numbers = suffice }) in
-      let first = round_through n (first_sends seen) (still_asked seen) (first_events seen) seen (before_first seen r) room in
-      let kept = (round_within n (first_sends seen) (still_asked seen) (first_events seen) seen first.0 (before_first seen r) first.1).kept in
-      let before = before_second n (first_sends seen) (still_asked seen) (first_events seen) first.0 kept (round_settles seen first.0 r first.1) in
-      let more : HasRoom (first_sends seen + 2 * still_asked seen) (first_events seen + n + 2 * still_asked seen) first.0.settings =
-      subst (HasRoom (first_sends seen + 2 * still_asked seen) (first_events seen + n + 2 * still_asked seen)) (sym (first.2 ∙ same))
+      let first = round_through b (first_sends seen) (still_asked seen) (first_events seen) seen (before_first seen r) room in
+      let kept = (round_within b (first_sends seen) (still_asked seen) (first_events seen) seen first.0 (before_first seen r) first.1).kept in
+      let before = before_second b (first_sends seen) (still_asked seen) (first_events seen) first.0 kept (round_settles seen first.0 r first.1) in
+      let more : HasRoom (first_sends seen + 2 * still_asked seen) (first_events seen + length seen.nodes + 2 * still_asked seen) first.0.settings =
+      subst (HasRoom (first_sends seen + 2 * still_asked seen) (first_events seen + length seen.nodes + 2 * still_asked seen)) (sym (first.2 ∙ same))
       (record { letters = omega (arith, sends, letters_fit); events_fit = omega (arith, comes, events_fit); numbers = suffice }) in
-      let second = round_through n (first_sends seen + 2 * still_asked seen) (still_asked seen) (first_events seen + n + 2 * still_asked seen) first.0 before more in
+      let second = round_through b (first_sends seen + 2 * still_asked seen) (still_asked seen) (first_events seen + length seen.nodes + 2 * still_asked seen) first.0 before more in
       (second.0, ap (λ x. and_then (and_then x round) round) synced_is ∙ ap (λ x. and_then x round) first.1 ∙ second.1)
 
   -- the plan is that of the world where each live silo has seen the current view

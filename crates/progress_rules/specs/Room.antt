@@ -1,14 +1,21 @@
 -- How many letters the plan needs, counted where each live silo has seen the current view.
-use Rattle.std.specs.Prelude.{◌≡◌, ℕ, ◌+◌, ◌*◌, ◌-◌, ◌≤◌, ◌&&◌, Bool, true, false, List, All, length, sum_by, count_by, find, Option, Some, None, Ok}
+use Rattle.std.specs.Prelude.{◌≡◌, ℕ, ◌+◌, ◌*◌, ◌-◌, ◌/◌, ◌≤◌, ◌==◌, ◌&&◌, if◌then◌else◌, Bool, true, false, List, [], ◌∷◌, All, length, sum_by, count_by, find, Option, Some, None, Ok}
 use Rattle.std.specs.Map.{values_of}
 use Rattle.silo_address.specs.Silo.{Silo}
-use Rattle.ring_range.specs.Range.{Range}
+use Rattle.silo_address.specs.Grain.{Grain}
+use Rattle.ring_range.specs.Range.{Range, holds}
+use Rattle.hash_ring.specs.declared.Hashing.{Hashing}
+use Rattle.hash_ring.specs.Hash.{hash_grain}
+use Rattle.directory_rules.specs.declared.held.Held.{Held}
 use Rattle.directory_rules.specs.declared.piece_state.PieceState.{PieceState}
 use Rattle.directory_rules.specs.declared.piece_state.PieceState.TheVariants.{Settled, Awaiting, Recovering}
 use Rattle.directory_rules.specs.Settings.{Settings, AreSettings}
 use Rattle.directory_rules.specs.State.{Snapshot, Body, Request_letter, Reply_letter, Ask_letter, Page_letter, Missing_letter, Done_letter, Query_letter, Report_letter, Behind_letter, Ahead_letter, Offer_letter, Node, World}
 use Rattle.directory_rules.specs.Snapshot.{page_count, is_snapshot}
+use Rattle.directory_rules.specs.Recovery.{told_by}
 use Rattle.directory_rules.specs.Host.{outstanding}
+use Rattle.directory_rules.specs.Members.{members_of}
+use Rattle.directory_rules.specs.Standing.{stands_behind}
 use Rattle.directory_rules.specs.Sent.{gathering_of, recovery_of}
 use Rattle.directory_rules.specs.Event.{Event, IsEvent}
 use Rattle.directory_rules.specs.Happens.{node_of}
@@ -25,7 +32,7 @@ is_question (Ask_letter range page) = true
 is_question (Page_letter page) = false
 is_question (Missing_letter range) = false
 is_question (Done_letter range) = false
-is_question (Query_letter range) = true
+is_question (Query_letter range after) = true
 is_question (Report_letter report) = false
 is_question (Behind_letter range) = false
 is_question (Ahead_letter range) = false
@@ -39,7 +46,7 @@ is_offer (Ask_letter range page) = false
 is_offer (Page_letter page) = false
 is_offer (Missing_letter range) = false
 is_offer (Done_letter range) = false
-is_offer (Query_letter range) = false
+is_offer (Query_letter range after) = false
 is_offer (Report_letter report) = false
 is_offer (Behind_letter range) = false
 is_offer (Ahead_letter range) = false
@@ -61,14 +68,44 @@ over_pieces count node = sum_by (λ piece. count piece.state piece.range) (value
 abbrev pub requests_out : World → ℕ
 requests_out world = over_nodes (λ node. length (outstanding node.host)) world
 
+-- in how many reports so many entries are told, where one has no more than that: in one where there are none
+abbrev pub report_count : (size entries : ℕ) → ℕ
+report_count size entries = if entries == 0 then 1 else (entries + (size - 1)) / size
+
+-- how many of the activations are of grains that are hashed into the range and stand there behind a grain, be they firm or not
+abbrev pub held_behind : Hashing → List (Grain × Held) → Range → (after : Option Grain) → ℕ
+held_behind hashing held range after =
+    count_by (λ e. holds range (hash_grain hashing e.0) && stands_behind (hash_grain hashing) (range ∷ []) after e.0) held
+
+-- what a silo holds; nothing where it isn't live
+abbrev pub all_held : Option Node → List (Grain × Held)
+all_held None = []
+all_held (Some node) = node.host.held
+
+-- the reports that a silo has still to send of a range, behind what it has told: no fewer than are wanted for what is firm, since nothing that
+-- was firm there goes, and nothing gets firm, before the range is settled
+abbrev pub reports_left : World → Silo → Range → (after : Option Grain) → ℕ
+reports_left world silo range after =
+    report_count world.settings.report_size (held_behind world.settings.hashing (all_held (node_of world silo)) range after)
+
 -- the reports that a piece misses
-abbrev pub missing_of : Node → PieceState → Range → ℕ
-missing_of node Settled range = 0
-missing_of node (Awaiting from) range = 0
-missing_of node Recovering range = length (recovery_of node range).awaiting
+abbrev pub missing_of : World → Node → PieceState → Range → ℕ
+missing_of world node Settled range = 0
+missing_of world node (Awaiting from) range = 0
+missing_of world node Recovering range =
+    sum_by (λ silo. reports_left world silo range (told_by silo (recovery_of node range))) (recovery_of node range).awaiting
 
 abbrev pub reports_missing : World → ℕ
-reports_missing world = over_nodes (λ node. over_pieces (missing_of node) node) world
+reports_missing world = over_nodes (λ node. over_pieces (missing_of world node) node) world
+
+-- those that all members of the view would send for a piece that awaits a snapshot
+abbrev pub instead_of : World → Node → PieceState → Range → ℕ
+instead_of world node Settled range = 0
+instead_of world node (Awaiting from) range = sum_by (λ silo. reports_left world silo range None) (members_of node.view)
+instead_of world node Recovering range = 0
+
+abbrev pub reports_instead : World → ℕ
+reports_instead world = over_nodes (λ node. over_pieces (instead_of world node) node) world
 
 -- the pieces that await a snapshot
 abbrev pub awaits_one : PieceState → Range → ℕ
@@ -100,12 +137,12 @@ pages_awaited world = over_nodes (λ node. over_pieces (pages_left world node) n
 
 -- ---- the bounds
 -- So many letters the plan needs at most. Each question that is fresh, or that a nudge sends, is a letter and has an answer; an offer makes
--- a request; a page is asked for and answered; where there is no snapshot, each live silo is asked; and in the second round what is still
--- outstanding is asked once more.
+-- a request; a page is asked for and answered, and so is a report; where there is no snapshot, each member is asked for all of its own; and in
+-- the second round what is still outstanding is asked once more.
 abbrev pub letters_needed : World → ℕ
 letters_needed world =
     fresh_with is_question world + 2 * fresh_with is_offer world + 2 * requests_out world + 2 * reports_missing world + 2 * snapshots_awaited world + 2 * pages_awaited world
-    + 2 * snapshots_awaited world * length world.nodes + 2 * (requests_out world + fresh_with is_offer world)
+    + 2 * reports_instead world + 2 * (requests_out world + fresh_with is_offer world)
 
 -- and so many events: each live silo is nudged twice, and each letter comes that is fresh or is sent
 abbrev pub events_needed : World → ℕ

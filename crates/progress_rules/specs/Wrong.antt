@@ -13,6 +13,7 @@ use Rattle.directory_rules.specs.Run.{world_after, run_from_start}
 use Rattle.directory_rules.specs.declared.own_step.OwnStep.TheVariants.{Nudge}
 use Rattle.directory_rules.specs.Worked.{silo_a}
 use Rattle.progress_rules.specs.Worked.{few_letters, all_settled}
+use Rattle.progress_rules.specs.Paged.{small_reports, paged_events}
 
 -- what a silo makes of a letter
 abbrev pub Taking : Type 0
@@ -38,7 +39,7 @@ run_by take world (event ∷ events) = run_by take (world_after (happens_by take
 -- ---- the wrong takings
 -- a query at the version that the silo has seen is answered `behind`
 abbrev pub is_behind_at : Body → Node → Letter → Stepped
-is_behind_at (Query_letter range) node letter = if letter.version == node.view.version then answering letter node (Behind_letter range) Behind else received node letter
+is_behind_at (Query_letter range after) node letter = if letter.version == node.view.version then answering letter node (Behind_letter range) Behind else received node letter
 is_behind_at body node letter = received node letter
 
 abbrev pub query_of_the_version_is_behind : Taking
@@ -51,6 +52,22 @@ keeps_awaiting body node letter = received node letter
 
 abbrev pub report_is_not_struck_off : Taking
 report_is_not_struck_off node letter = keeps_awaiting letter.body node letter
+
+-- a report that isn't its silo's last is taken, and the silo isn't asked on
+abbrev pub asks_no_more : Body → Node → Letter → Stepped
+asks_no_more (Report_letter report) node letter = if report.last then received node letter else silently (received node letter).node More
+asks_no_more body node letter = received node letter
+
+abbrev pub page_is_not_asked_on : Taking
+page_is_not_asked_on node letter = asks_no_more letter.body node letter
+
+-- whatever grain a query asks behind, it is reported from the start of the range on
+abbrev pub tells_from_the_start : Body → Node → Letter → Stepped
+tells_from_the_start (Query_letter range after) node letter = received node (record letter { body = Query_letter range None })
+tells_from_the_start body node letter = received node letter
+
+abbrev pub reports_from_the_start : Taking
+reports_from_the_start node letter = tells_from_the_start letter.body node letter
 
 -- ---- a run that shows it
 -- so often a silo that is alone is nudged, and all letters come: its query, and the answer
@@ -79,3 +96,39 @@ QueryOfTheVersionIsBehind = ComesNeverBack query_of_the_version_is_behind
 
 abbrev pub ReportIsNotStruckOff : Type 0
 ReportIsNotStruckOff = ComesNeverBack report_is_not_struck_off
+
+-- ---- and one of reports that have one entry each
+-- the least letter that may be delivered comes, again and again, so often at most
+abbrev pub come_next : Taking → Option ℕ → World → (World → World) → World
+come_next take None world next = world
+come_next take (Some number) world next = next (world_after (happens_by take world (Deliver number)) world)
+
+abbrev pub come_all : Taking → (most : ℕ) → World → World
+come_all take zero world = world
+come_all take (suc most) world = come_next take (least_deliverable world) world (λ next. come_all take most next)
+
+-- so often the silo is nudged, and then all letters come
+abbrev pub nudged_often : Taking → (often : ℕ) → World → World
+nudged_often take zero world = world
+nudged_often take (suc often) world = nudged_often take often (come_all take 20 (run_by take world (Do silo_a Nudge ∷ [])))
+
+abbrev pub paged : World
+paged = (run_from_start small_reports paged_events).world
+
+-- no letter is to come then, and not all is settled
+pub record WaitsAfter (take : Taking) (often : ℕ) : Type 0 where
+  pub none : least_deliverable (nudged_often take often paged) ≡ None
+  pub unsettled : all_settled (nudged_often take often paged) ≡ false
+
+-- by the rule all is settled after one nudge
+pub record ComesBackByPages : Type 0 where
+  pub none : least_deliverable (nudged_often received 1 paged) ≡ None
+  pub settled : all_settled (nudged_often received 1 paged) ≡ true
+
+-- two rounds aren't enough any more
+abbrev pub PageIsNotAskedOn : Type 0
+PageIsNotAskedOn = WaitsAfter page_is_not_asked_on 2
+
+-- and here none ever are
+abbrev pub ReportsFromTheStart : Type 0
+ReportsFromTheStart = WaitsAfter reports_from_the_start 12

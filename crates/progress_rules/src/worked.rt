@@ -3,6 +3,7 @@
 ghost use Rattle.progress_rules.specs.Worked.{LimitsCompute, PlanComputes};
 ghost use Rattle.progress_rules.specs.Hasty.{HastyNudgesWait, PartNudgesDoNot};
 ghost use Rattle.progress_rules.specs.RoomWorked.{BoundIsReached};
+ghost use Rattle.progress_rules.specs.Paged.{PagesReachTheBound};
 ghost use Rattle.progress_rules.specs.Reversed.{ReversedNeedsTwo};
 
 /// Two silos, of which one has a range that isn't settled, an activation that asks, and a find that waits, its first letter lost: after
@@ -24,6 +25,12 @@ pub fn hasty_nudges_wait()
 /// bound lets, six.
 pub fn bound_is_reached()
     ensures { BoundIsReached }
+{}
+
+/// A silo that has to recover what it holds itself, three activations, by reports of one entry each: the plan sends just as many letters as
+/// the bound lets, three queries and three reports.
+pub fn pages_reach_the_bound()
+    ensures { PagesReachTheBound }
 {}
 
 /// A silo with two registrations outstanding at one owner, of which the later comes first: after a round one waits still, and after another

@@ -5,3 +5,4 @@ pub mod Marks
 pub mod Reported
 pub mod Told
 pub mod Reports
+pub mod LastGrains

@@ -3,6 +3,7 @@ use Rattle.std.specs.Prelude.{◌≡◌, ℕ, ◌<◌, Bool, true, false, not, i
 use Rattle.std.specs.BTreeSet.{insert_key}
 use Rattle.std.specs.List.Sorted.{IsStrictlySortedBy}
 use Rattle.silo_address.specs.Silo.{Silo, silo_eq, silo_cmp}
+use Rattle.directory_rules.specs.State.{Recovery}
 use Rattle.directory_rules.specs.Recovery.{is_among}
 use Rattle.range_recovery.specs.declared.awaited.Awaited.{Awaited}
 
@@ -16,6 +17,10 @@ pub record AreAwaited (silos : AwaitedValue) : Type 0 where
   pub awaiting_in_order : IsStrictlySortedBy silo_cmp silos.awaiting
   pub reported_in_order : IsStrictlySortedBy silo_cmp silos.reported
   pub apart : (silo : Silo) → Contains silos.awaiting silo → ¬ (Contains silos.reported silo)
+
+-- those of a recovery
+abbrev pub silos_in : Recovery → AwaitedValue
+silos_in recovery = record { awaiting = recovery.awaiting; reported = recovery.reported }
 
 -- whether the silo has reported; nothing where it was never awaited
 abbrev pub has_reported : AwaitedValue → Silo → Option Bool

@@ -1,4 +1,4 @@
-ghost use Rattle.std.specs.Prelude.{◌≡◌, ◌+◌, ◌<◌, ◌≤◌, fold, length, vec_len, vec_capacity, OnOk, OnErr};
+ghost use Rattle.std.specs.Prelude.{◌≡◌, ◌+◌, ◌<◌, ◌≤◌, fold, length, vec_len, vec_capacity, IfOk, OnOk, OnErr};
 ghost use Rattle.directory_rules.specs.Recovery.{with_reported};
 ghost use Rattle.range_recovery.specs.Gathered.{without_grains};
 
@@ -6,18 +6,20 @@ use grain_table::Table;
 use silo_address::{Entry, GrainId};
 use std::alloc::{AllocError, Global};
 
-/// Puts in the entries of a report, each whose grain has none yet. What was put in is taken out again when memory runs out.
+/// Puts in the entries of a report, each whose grain has none yet: the grains that are new. What was put in is taken out again when
+/// memory runs out.
 pub(crate) fn gather(
     alloc: Global,
     gathered: &mut Table,
     entries: &[Entry],
-) -> Result<(), AllocError>
+) -> Result<Vec<GrainId>, AllocError>
     ensures gathered { OnOk result (gathered.new.entries ≡ fold with_reported gathered.old.entries entries.now) }
+    ensures new { IfOk result (λ new. without_grains new.items gathered.new.entries ≡ gathered.old.entries) }
     ensures unchanged { OnErr result (gathered.new.entries ≡ gathered.old.entries) }
 {
     let mut new = Vec::with_capacity(alloc, entries.len())?;
     match gather_each(gathered, entries, &mut new) {
-        Ok(()) => Ok(()),
+        Ok(()) => Ok(new),
         Err(fault) => {
             take_out(gathered, new);
             Err(fault)
@@ -57,8 +59,8 @@ fn gather_one(gathered: &mut Table, entry: &Entry, new: &mut Vec<GrainId>) -> Re
     Ok(())
 }
 
-// Takes out grains, from the last one to the first.
-fn take_out(gathered: &mut Table, mut grains: Vec<GrainId>)
+/// Takes out grains, from the last one to the first.
+pub(crate) fn take_out(gathered: &mut Table, mut grains: Vec<GrainId>)
     ensures { gathered.new.entries ≡ without_grains grains.items gathered.old.entries }
 {
     while let Some(grain) = grains.pop() {

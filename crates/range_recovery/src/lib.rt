@@ -12,4 +12,4 @@ mod silos;
 pub use error::RecoveryError;
 pub use progress::RecoveryProgress;
 pub use recovery::Recovery;
-pub use report::Report;
+pub use report::{Report, same_grain};

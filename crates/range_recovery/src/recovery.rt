@@ -1,19 +1,20 @@
-ghost use Rattle.std.specs.Prelude.{◌≡◌, ◌↔◌, ◌==◌, ◌&&◌, length, IsTrue, IfOk, IfErr, OnOk, OnErr, Ok, if◌then◌else◌};
+ghost use Rattle.std.specs.Prelude.{◌≡◌, ◌↔◌, ◌==◌, ◌&&◌, IsTrue, IfOk, IfErr, OnOk, OnErr, Ok, Some, true, false};
 ghost use Rattle.ring_range.specs.Range.{range_eq};
-ghost use Rattle.directory_rules.specs.Recovery.{new_recovery, recovered, with_report};
+ghost use Rattle.directory_rules.specs.Recovery.{new_recovery, recovered, told_by, with_last, with_more, with_report};
+ghost use Rattle.range_recovery.specs.Silos.{has_reported, silos_in};
 ghost use Rattle.range_recovery.specs.Kept.{IsRecovery};
-ghost use Rattle.range_recovery.specs.declared.progress.RecoveryProgress.TheVariants.{Complete, More};
-ghost use Rattle.range_recovery.specs.Progress.{Reaches, Refuses, RefusesOrLacksMemory, progress_of};
+ghost use Rattle.range_recovery.specs.Progress.{Reaches, Refuses, RefusesOrLacksMemory, after_one_more, progress_of};
 
-use crate::gather::gather;
+use crate::gather::{gather, take_out};
 use crate::silos::AwaitedSilos;
 use crate::{RecoveryError, RecoveryProgress, Report};
 use directory_rules::Settings;
 use grain_table::Table;
 use membership_view::View;
 use ring_range::RingRange;
-use silo_address::SiloAddress;
+use silo_address::{GrainId, SiloAddress};
 use std::alloc::{AllocError, Global};
+use std::collections::BTreeMap;
 use std::marker::Model;
 
 /// What an owner has been reported so far of a range that nobody hands over (`docs/RULES.md#recovery`).
@@ -23,6 +24,7 @@ pub struct Recovery {
     version: u64,
     range: RingRange,
     silos: AwaitedSilos,
+    told: BTreeMap<SiloAddress, GrainId>,
     gathered: Table,
 }
 
@@ -31,7 +33,7 @@ impl Model for Recovery {
 
     ghost Value = { RecoveryValue };
 
-    ghost view = { λ r. record { version = r.version; range = r.range; awaiting = r.silos.awaiting; reported = r.silos.reported; gathered = r.gathered.entries } };
+    ghost view = { λ r. record { version = r.version; range = r.range; awaiting = r.silos.awaiting; reported = r.silos.reported; told = r.told.entries; gathered = r.gathered.entries } };
 }
 
 impl Recovery {
@@ -51,6 +53,7 @@ impl Recovery {
             version: view.version(),
             range,
             silos,
+            told: BTreeMap::new(alloc),
             gathered: Table::new(alloc, settings.hashing()),
         })
     }
@@ -69,11 +72,18 @@ impl Recovery {
         self.range
     }
 
-    /// The silos that haven't reported yet, by address. Fails only when memory runs out.
+    /// The silos whose last report is missing, by address. Fails only when memory runs out.
     pub fn awaiting(&self, alloc: Global) -> Result<Vec<SiloAddress>, AllocError>
         ensures { IfOk result (λ silos. silos.items ≡ self.now.awaiting) }
     {
         self.silos.awaiting(alloc)
+    }
+
+    /// Up to which grain the silo has told, where it is awaited and has told of any.
+    pub fn told_by(&self, silo: &SiloAddress) -> Option<GrainId>
+        ensures { result ≡ told_by silo.now self.now }
+    {
+        self.told.get(silo).copied()
     }
 
     /// What was reported so far.
@@ -84,7 +94,8 @@ impl Recovery {
     }
 
     /// What would come of the report. Refuses by 751 one of another version or range, then by 752 one of a silo that was never
-    /// awaited, then by 753 one of a silo that has reported.
+    /// awaited, then by 753 one of a silo that has told all, then by 754 one that doesn't go on behind the grain up to which its
+    /// silo has told.
     pub fn progress_with(&self, report: &Report) -> Result<RecoveryProgress, RecoveryError>
         ensures judged { IfOk result (λ progress. progress_of (recovered self.now report.now) ≡ Ok progress) }
         ensures refused { IfErr result (Refuses self.now report.now) }
@@ -92,12 +103,30 @@ impl Recovery {
         if !self.is_asked_for(report) {
             return Err(RecoveryError::WrongVersion);
         }
-        self.silos.whole();
         let silo = report.silo();
         match self.silos.has_reported(&silo) {
-            Some(false) => Ok(self.after_one_more()),
+            Some(false) => self.progress_of_awaited(report),
             Some(true) => Err(RecoveryError::Twice),
             None => Err(RecoveryError::Stranger),
+        }
+    }
+
+    // What would come of the report of a silo that is awaited.
+    fn progress_of_awaited(&self, report: &Report) -> Result<RecoveryProgress, RecoveryError>
+        requires asked { ((report.now.version == self.now.version) && range_eq report.now.range self.now.range) ≡ true }
+        requires waits { has_reported (silos_in self.now) report.now.silo ≡ Some false }
+        ensures judged { IfOk result (λ progress. progress_of (recovered self.now report.now) ≡ Ok progress) }
+        ensures refused { IfErr result (Refuses self.now report.now) }
+    {
+        self.silos.whole();
+        let goes_on = report.after() == self.told_by(&report.silo());
+        if !goes_on {
+            return Err(RecoveryError::OutOfTurn);
+        }
+        if report.is_last() {
+            Ok(self.after_one_more())
+        } else {
+            Ok(RecoveryProgress::Continues)
         }
     }
 
@@ -110,7 +139,7 @@ impl Recovery {
 
     // How far the recovery is when one more silo has reported.
     fn after_one_more(&self) -> RecoveryProgress
-        ensures { result ≡ (if length self.now.awaiting == 1 then Complete else More) }
+        ensures { result ≡ after_one_more self.now }
     {
         if self.silos.missing() == 1 {
             RecoveryProgress::Complete
@@ -120,7 +149,8 @@ impl Recovery {
     }
 
     /// Takes a report: of each grain that has no entry yet the first one. Refuses by 751 one of another version or range, then by
-    /// 752 one of a silo that was never awaited, then by 753 one of a silo that has reported.
+    /// 752 one of a silo that was never awaited, then by 753 one of a silo that has told all, then by 754 one that doesn't go on behind
+    /// the grain up to which its silo has told.
     pub fn take(&mut self, report: &Report) -> Result<RecoveryProgress, RecoveryError>
         ensures reached { IfOk result (λ progress. Reaches progress self.new (recovered self.old report.now)) }
         ensures taken { OnOk result (self.new ≡ with_report self.old report.now) }
@@ -130,12 +160,45 @@ impl Recovery {
         ensures unchanged { OnErr result (self.new ≡ self.old) }
     {
         let progress = self.progress_with(report)?;
-        match gather(self.alloc, &mut self.gathered, report.entries()) {
-            Ok(()) => {
-                self.silos.mark(&report.silo());
-                Ok(progress)
-            }
+        let taken = if report.is_last() {
+            self.take_last(report)
+        } else {
+            self.take_more(report)
+        };
+        match taken {
+            Ok(()) => Ok(progress),
             Err(_) => Err(RecoveryError::OutOfMemory),
+        }
+    }
+
+    // Takes the last report of a silo that is awaited.
+    fn take_last(&mut self, report: &Report) -> Result<(), AllocError>
+        requires waits { has_reported (silos_in self.old) report.now.silo ≡ Some false }
+        ensures taken { OnOk result (self.new ≡ with_last self.old report.now) }
+        ensures unchanged { OnErr result (self.new ≡ self.old) }
+    {
+        let _new = gather(self.alloc, &mut self.gathered, report.entries())?;
+        let silo = report.silo();
+        self.silos.mark(&silo);
+        self.told.remove(&silo);
+        Ok(())
+    }
+
+    // Takes another report: its silo has told up to its last entry. What was gathered is taken out again when memory runs out.
+    fn take_more(&mut self, report: &Report) -> Result<(), AllocError>
+        ensures taken { OnOk result (self.new ≡ with_more self.old report.now) }
+        ensures unchanged { OnErr result (self.new ≡ self.old) }
+    {
+        let new = gather(self.alloc, &mut self.gathered, report.entries())?;
+        let Some(last) = report.last_grain() else {
+            return Ok(());
+        };
+        match self.told.insert(report.silo(), last) {
+            Ok(_) => Ok(()),
+            Err(_) => {
+                take_out(&mut self.gathered, new);
+                Err(AllocError)
+            }
         }
     }
 
@@ -151,6 +214,7 @@ impl Recovery {
         ensures { IsRecovery self.now }
     {
         self.silos.whole();
+        let _told = self.told.len();
         let gathered = &self.gathered;
         gathered.whole();
     }
@@ -160,12 +224,14 @@ impl Recovery {
         ensures { IfOk result (λ recovery. recovery ≡ self.now) }
     {
         let silos = self.silos.copy()?;
+        let told = self.told.clone()?;
         let gathered = self.gathered.copy()?;
         Ok(Recovery {
             alloc: self.alloc,
             version: self.version,
             range: self.range,
             silos,
+            told,
             gathered,
         })
     }
@@ -177,6 +243,14 @@ impl Recovery {
         other.version == self.version
             && self.range.same(&other.range)
             && self.silos.same(&other.silos)
+            && same_told(&self.told, &other.told)
             && self.gathered.has_same_entries(&other.gathered)
     }
+}
+
+// Whether both say the same of each silo.
+fn same_told(one: &BTreeMap<SiloAddress, GrainId>, other: &BTreeMap<SiloAddress, GrainId>) -> bool
+    ensures { IsTrue result ↔ (one.now.entries ≡ other.now.entries) }
+{
+    *one == *other
 }

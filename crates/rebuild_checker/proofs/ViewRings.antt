@@ -1,5 +1,5 @@
 -- The ring of a view is what is left of all points, in order, of those silos that are Active there.
-use Rattle.std.proofs.Common.{◌≡◌, ◌⊎◌, inl, inr, Bool, true, false, not, List, [], ◌∷◌, ◌++◌, length, map, Option, Some, None, option_and_then, refl, sym, ◌∙◌, ap, subst}
+use Rattle.std.proofs.Common.{◌≡◌, ◌⊎◌, inl, inr, Bool, true, false, not, List, [], ◌∷◌, ◌++◌, length, map, Option, Some, None, refl, sym, ◌∙◌, ap, subst}
 use Rattle.std.specs.Prelude.{ℕ, filter, flat_map}
 use Rattle.std.specs.Option.{option_map, option_map_or}
 use Rattle.std.specs.List.Sorted.{IsStrictlySortedBy, IsPermutation, IsSorted}
@@ -17,8 +17,10 @@ use Rattle.membership_view.specs.declared.row.Row.{Row}
 use Rattle.membership_view.specs.declared.status.Status.{Status}
 use Rattle.membership_view.specs.declared.status.Status.TheVariants.{Active}
 use Rattle.membership_view.specs.Row.{is_active, status_in}
-use Rattle.membership_view.specs.View.{ViewValue, IsByAddress}
-use Rattle.texts.proofs.Entries.{lookup-picked, sorted-picked}
+use Rattle.membership_view.specs.View.{ViewValue, IsByAddress, is_outlived}
+use Rattle.membership_view.specs.Views.{rows_in}
+use Rattle.membership_view.proofs.Listed.{sorted_listed}
+use Rattle.texts.proofs.Entries.{sorted-picked}
 use Rattle.hash_ring.specs.declared.point.Point.{Point}
 use Rattle.hash_ring.specs.Places.{PlacesValue, places_of, places_for}
 use Rattle.hash_ring.specs.Point.{point_cmp, point_eq}
@@ -34,8 +36,8 @@ use Rattle.dump_rules.specs.Dump.{DumpNode, DumpRow, DumpValue}
 use Rattle.dump_rules.specs.DumpShape.{is_dump}
 use Rattle.dump_rules.specs.Verdict.{dump_view, dump_places, has_its_ring, row_in_dump}
 use Rattle.rebuild_checker.specs.Rings.{row_points, points_by_row, all_points}
-use Rattle.rebuild_checker.specs.Rows.{row_of_silo}
-use Rattle.rebuild_checker.proofs.Rows.{rows_rise}
+use Rattle.rebuild_checker.specs.Rows.{is_serving, row_of_silo}
+use Rattle.rebuild_checker.proofs.Rows.{active_alone, active_told, rows_rise}
 
 -- ---- Each row's places.
 abbrev its_places : DumpValue → DumpRow → List ℕ
@@ -99,10 +101,11 @@ all_sorted dump is points sorted its moved in_order =
 
 -- ---- Of all points those of a view.
 view_rises : (dump : DumpValue) → is_dump dump ≡ true → (version : ℕ) → IsByAddress (dump_view dump version)
-view_rises dump is version = sorted-picked silo_cmp_total (status_in version) (map row_in_dump dump.rows) (rows_rise dump is)
+view_rises dump is version =
+    sorted_listed (rows_in version (map row_in_dump dump.rows))
+    (sorted-picked silo_cmp_total (status_in version) (map row_in_dump dump.rows) (rows_rise dump is))
 
-active_among : (version : ℕ) (row : Option Row) → option_map_or (λ status. is_active status) (option_and_then (status_in version) row) false
-    ≡ true
+active_among : (version : ℕ) (row : Option Row) → option_map_or (λ r. is_serving version r) row false ≡ true
     → option_map_or (λ status. is_active status) (option_map (λ (r : Row). Active) row) false ≡ true
 active_among version None active = active
 active_among version (Some row) active = refl
@@ -111,9 +114,10 @@ active_in_everyone : (dump : DumpValue) → is_dump dump ≡ true → (version :
     → is_active_in (dump_view dump version) silo ≡ true → is_active_in (everyone dump) silo ≡ true
 active_in_everyone dump is version silo active =
     let is_one : Option Status → Bool = λ o. option_map_or (λ status. is_active status) o false in
-    ap is_one (lookup-map_values (λ (r : Row). Active) (is_at (silo_cmp silo)) (map row_in_dump dump.rows))
-    ∙ active_among version (row_of_silo dump silo)
-    (sym (ap is_one (lookup-picked silo_cmp_total (status_in version) silo (map row_in_dump dump.rows) (rows_rise dump is))) ∙ active)
+    let rows = (everyone dump).rows in
+    active_alone (lookup (is_at (silo_cmp silo)) rows) (is_outlived silo rows)
+    ∙ ap is_one (lookup-map_values (λ (r : Row). Active) (is_at (silo_cmp silo)) (map row_in_dump dump.rows))
+    ∙ active_among version (row_of_silo dump silo) (sym (active_told dump is version silo) ∙ active)
 
 pub ring_left : (dump : DumpValue) → is_dump dump ≡ true → (version : ℕ)
     → filter (λ point. is_active_in (dump_view dump version) point.silo) (all_points dump) ≡ sorted_ring (dump_view dump version)

@@ -1,24 +1,35 @@
 //! What the rows of a dump say of a silo in a version.
 
-ghost use Rattle.std.specs.Prelude.{◌≡◌, IsTrue};
+ghost use Rattle.std.specs.Prelude.{◌≡◌, IsTrue, slice_get};
 ghost use Rattle.std.specs.Option.{option_map};
 ghost use Rattle.membership_view.specs.Row.{has_come};
 ghost use Rattle.hash_ring.specs.Ring.{is_active_in};
 ghost use Rattle.directory_rules.specs.Members.{is_dead_in};
 ghost use Rattle.dump_rules.specs.DumpShape.{is_dump};
 ghost use Rattle.dump_rules.specs.Verdict.{dump_view, row_in_dump, unless_never};
-ghost use Rattle.rebuild_checker.specs.Rows.{is_serving, row_of_silo};
+ghost use Rattle.rebuild_checker.specs.Rows.{is_outlived_row, is_serving, row_of_silo};
 
 use dumps::{Dump, ListedRow};
 use silo_address::SiloAddress;
 
-/// Whether the silo is Dead in the current version. Its row is found by halves.
+/// Whether the silo is Dead in the current version: by its row, or, where it has none, by that of a newer silo of its endpoint. Its row is
+/// found by halves.
 pub(crate) fn is_dead(dump: &Dump, silo: &SiloAddress) -> bool
     requires { IsTrue (is_dump dump.now) }
     ensures { result ≡ is_dead_in (dump_view dump.now dump.now.current) silo.now }
 {
-    match row_of(dump, silo) {
-        Some(row) => has_come(row.dead, dump.current),
+    match dump.rows.binary_search_by_key(silo, |row| row.silo) {
+        Ok(index) => has_come(dump.rows[index].dead, dump.current),
+        Err(index) => is_outlived_at(dump, index, silo),
+    }
+}
+
+/// Whether the row at that index, where the silo's would be, is of a newer silo of its endpoint.
+fn is_outlived_at(dump: &Dump, index: usize, silo: &SiloAddress) -> bool
+    ensures { result ≡ is_outlived_row (slice_get dump.now.rows index) dump.now.current silo.now }
+{
+    match dump.rows.get(index) {
+        Some(row) => silo.same_endpoint(&row.silo) && row.joined <= dump.current,
         None => false,
     }
 }

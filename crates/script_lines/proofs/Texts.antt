@@ -1,59 +1,56 @@
 -- Texts written part by part.
-use Rattle.std.proofs.Common.{◌≡◌, ℕ, List, [], ◌∷◌, ◌++◌, ◌∙◌, ap, sym, refl, append_assoc, codes, slice_index}
+use Rattle.std.proofs.Common.{◌≡◌, ℕ, ◌<◌, ◌≤◌, ◌+◌, ◌-◌, List, [], ◌∷◌, ◌++◌, ◌∙◌, ap, sym, refl, append_assoc, slice_index, drop, set, length, arith}
+use Rattle.std.proofs.lemmas.Fmt.{decimal_digit, length-decimal-le}
+use Rattle.std.proofs.lemmas.List.{drop-set, length-set}
 use Rattle.std.specs.Fmt.{decimal}
-use Rattle.silo_address.specs.Marks.{at_sign, colon, dot, exclamation_mark}
-use Rattle.silo_address.specs.Silo.{Silo}
+use Rattle.silo_address.specs.Marks.{at_sign, colon, dot}
+use Rattle.silo_address.specs.Silo.{IsSilo, Silo}
 use Rattle.silo_address.specs.SiloText.{silo_text}
-use Rattle.silo_address.specs.ActivationText.{activation_text}
-use Rattle.silo_address.specs.declared.activation.ActivationId.{ActivationId}
 use Rattle.ring_range.specs.Range.{Range}
 use Rattle.ring_range.specs.Text.{plus_sign, range_text}
 use Rattle.texts.specs.Words.{space}
-use Rattle.script_rules.specs.Lines.{span_text}
-use Rattle.directory_rules.specs.declared.outcome.Span.{Span}
 use Rattle.script_lines.specs.Spaced.{spaced}
 use Rattle.script_lines.proofs.SpacedWords.{behind_the_mark}
 
--- how a silo's text begins: the four bytes of its IP address, and a colon
-abbrev ip_text : List ℕ → List ℕ
-ip_text ip =
-    decimal (slice_index ip 0) ++ dot ∷ (decimal (slice_index ip 1) ++ dot ∷
-    (decimal (slice_index ip 2) ++ dot ∷ (decimal (slice_index ip 3) ++ colon ∷ [])))
+-- a mark in front of what stands at the end
+pub mark_put : (bytes : List ℕ) (end mark : ℕ) → 0 < end → end ≤ length bytes
+    → drop (end - 1) (set bytes (end - 1) mark) ≡ mark ∷ drop end bytes
+mark_put bytes end mark some within =
+    let next : end - 1 + 1 ≡ end = omega arith in
+    rw (drop-set bytes (end - 1) mark (omega arith), next) refl
 
--- the parts of a silo's text, with a mark behind them
-pub silo_parts : (silo : Silo) (mark : ℕ)
-    → ip_text silo.ip ++ (decimal silo.port ++ at_sign ∷ (decimal silo.generation ++ mark ∷ [])) ≡ silo_text silo ++ mark ∷ []
-silo_parts silo mark = simp append_assoc refl
+-- a digit and a mark in front of it
+pub digit_put : (bytes : List ℕ) (end digit mark : ℕ) → digit < 10 → 1 < end → end ≤ length bytes
+    → drop (end - 2) (set (set bytes (end - 1) mark) (end - 2) (48 + digit)) ≡ decimal digit ++ mark ∷ drop end bytes
+digit_put bytes end digit mark small some within =
+    let next : end - 2 + 1 ≡ end - 1 = omega arith in
+    let long = length-set bytes (end - 1) mark in
+    rw (
+      drop-set (set bytes (end - 1) mark) (end - 2) (48 + digit) (omega arith),
+      next,
+      mark_put bytes end mark (omega arith) within,
+      decimal_digit digit small,
+    ) refl
 
--- the parts written one behind the other are the text
-pub silo_written : (before ip port after : List ℕ) (silo : Silo) (mark : ℕ)
-    → ip ≡ before ++ ip_text silo.ip → port ≡ ip ++ (decimal silo.port ++ at_sign ∷ [])
-    → after ≡ port ++ (decimal silo.generation ++ mark ∷ [])
-    → after ≡ before ++ (silo_text silo ++ mark ∷ [])
-silo_written before ip port after silo mark first second third =
-    behind_the_mark ip port after (decimal silo.port) (decimal silo.generation ++ mark ∷ []) at_sign second third
-    ∙ (ap (λ t. t ++ (decimal silo.port ++ at_sign ∷ (decimal silo.generation ++ mark ∷ []))) first
-    ∙ (append_assoc before (ip_text silo.ip) (decimal silo.port ++ at_sign ∷ (decimal silo.generation ++ mark ∷ []))
-    ∙ ap (λ t. before ++ t) (silo_parts silo mark)))
+-- how many digits the numbers of a silo take at most
+pub short_generation : (written : ℕ) (silo : Silo) → IsSilo silo → written ≡ silo.generation → length (decimal written) ≤ 10
+short_generation written silo is same =
+    let below = is.generation_below in length-decimal-le 10 written (omega arith) (omega arith) (omega arith)
 
--- an activation: its silo, an exclamation mark, its count
-pub activation_written : (before silo after : List ℕ) (activation : ActivationId)
-    → silo ≡ before ++ (silo_text activation.silo ++ exclamation_mark ∷ []) → after ≡ silo ++ (decimal activation.count ++ space ∷ [])
-    → after ≡ before ++ spaced (activation_text activation ∷ [])
-unfolding spaced
-activation_written before silo after activation first second =
-    behind_the_mark before silo after (silo_text activation.silo) (decimal activation.count ++ space ∷ []) exclamation_mark first second
-    ∙ ap (λ t. before ++ t) (sym (append_assoc (silo_text activation.silo) (exclamation_mark ∷ decimal activation.count) (space ∷ [])))
+pub short_port : (written : ℕ) (silo : Silo) → IsSilo silo → written ≡ silo.port → length (decimal written) ≤ 5
+short_port written silo is same = let below = is.port_below in length-decimal-le 5 written (omega arith) (omega arith) (omega arith)
 
--- a span: its first number, two dots, its last number
-pub span_written : (before first dots after : List ℕ) (span : Span)
-    → first ≡ before ++ (decimal span.first ++ dot ∷ []) → dots ≡ first ++ dot ∷ [] → after ≡ dots ++ (decimal span.last ++ space ∷ [])
-    → after ≡ before ++ spaced (span_text span ∷ [])
-unfolding spaced
-span_written before first dots after span one two three =
-    behind_the_mark before first after (decimal span.first) (dot ∷ (decimal span.last ++ space ∷ [])) dot one
-    (behind_the_mark first dots after [] (decimal span.last ++ space ∷ []) dot two three)
-    ∙ ap (λ t. before ++ t) (sym (append_assoc (decimal span.first) (codes ".." ++ decimal span.last) (space ∷ [])))
+pub short_byte : (written k : ℕ) (silo : Silo) → IsSilo silo → written ≡ slice_index silo.ip k → length (decimal written) ≤ 3
+short_byte written k silo is same = let below = is.bytes k in length-decimal-le 3 written (omega arith) (omega arith) (omega arith)
+
+-- a silo's six numbers, each put with its mark in front of the one behind it, are its text
+pub silo_put : (silo : Silo) (mark : ℕ) (rest generation port fourth third second first : List ℕ)
+    → generation ≡ decimal silo.generation ++ mark ∷ rest → port ≡ decimal silo.port ++ at_sign ∷ generation
+    → fourth ≡ decimal (slice_index silo.ip 3) ++ colon ∷ port → third ≡ decimal (slice_index silo.ip 2) ++ dot ∷ fourth
+    → second ≡ decimal (slice_index silo.ip 1) ++ dot ∷ third → first ≡ decimal (slice_index silo.ip 0) ++ dot ∷ second
+    → first ≡ silo_text silo ++ mark ∷ rest
+silo_put silo mark rest generation port fourth third second first one two three four five six =
+    rw (six, five, four, three, two, one) (simp append_assoc refl)
 
 -- a range: its start, a plus, its size
 pub range_written : (before start after : List ℕ) (range : Range)

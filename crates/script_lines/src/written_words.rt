@@ -11,7 +11,9 @@ ghost use Rattle.ring_range.specs.Text.{range_text};
 ghost use Rattle.script_rules.specs.Lines.{entry_words, span_text};
 ghost use Rattle.script_lines.specs.Spaced.{spaced, BeginsWith};
 
-use crate::marked::{push_marked, push_marked_number, push_marked_silo};
+use crate::marked::{
+    push_marked, push_marked_activation, push_marked_number, push_marked_silo, push_marked_span,
+};
 use directory_rules::Span;
 use ring_range::RingRange;
 use silo_address::{ActivationId, Entry, GrainId, SiloAddress};
@@ -55,14 +57,12 @@ pub fn push_silo(out: &mut Vec<u8>, silo: &SiloAddress) -> Result<(), AllocError
 }
 
 /// An activation.
-#[tactic(auto, using(crate::proofs::WrittenPieces::part_by_part))]
+#[tactic(auto, unfolding(crate::specs::Spaced::spaced))]
 pub fn push_activation(out: &mut Vec<u8>, activation: &ActivationId) -> Result<(), AllocError>
     ensures written { OnOk result (out.new.items ≡ out.old.items ++ spaced (activation_text activation.now ∷ [])) }
     ensures kept { BeginsWith out.old.items out.new.items }
 {
-    push_marked_silo(out, &activation.silo, b'!')?;
-    push_marked_number(out, activation.count, b' ')?;
-    Ok(())
+    push_marked_activation(out, activation, b' ')
 }
 
 /// A grain.
@@ -84,15 +84,12 @@ pub fn push_entry(out: &mut Vec<u8>, entry: &Entry) -> Result<(), AllocError>
 }
 
 /// The first and the last number, two dots between them.
-#[tactic(auto, using(crate::proofs::WrittenPieces::part_by_part))]
+#[tactic(auto, unfolding(crate::specs::Spaced::spaced))]
 pub(crate) fn push_span(out: &mut Vec<u8>, span: &Span) -> Result<(), AllocError>
     ensures written { OnOk result (out.new.items ≡ out.old.items ++ spaced (span_text span.now ∷ [])) }
     ensures kept { BeginsWith out.old.items out.new.items }
 {
-    push_marked_number(out, span.first, b'.')?;
-    out.push(b'.')?;
-    push_marked_number(out, span.last, b' ')?;
-    Ok(())
+    push_marked_span(out, span, b' ')
 }
 
 /// A range: its start, a plus, its size.

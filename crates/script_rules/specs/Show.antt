@@ -7,6 +7,7 @@ use Rattle.silo_address.specs.Grain.{Grain, grain_text}
 use Rattle.silo_address.specs.ActivationText.{activation_text}
 use Rattle.membership_view.specs.declared.status.Status.{Status}
 use Rattle.membership_view.specs.declared.status.Status.TheVariants.{Active, Leaving, Dead}
+use Rattle.membership_view.specs.Views.{known_now}
 use Rattle.ring_range.specs.Range.{Range}
 use Rattle.ring_range.specs.Text.{range_text}
 use Rattle.hash_ring.specs.declared.point.Point.{Point}
@@ -19,7 +20,7 @@ use Rattle.directory_rules.specs.declared.held.Phase.TheVariants.{Asking, Firm, 
 use Rattle.directory_rules.specs.declared.policy.Policy.{Policy}
 use Rattle.directory_rules.specs.State.{Letter, Node, World}
 use Rattle.directory_rules.specs.Letter.{kind_of}
-use Rattle.directory_rules.specs.World.{current_view, current_ring}
+use Rattle.directory_rules.specs.World.{current_ring}
 use Rattle.directory_rules.specs.Sight.{was_settled, entries_within}
 use Rattle.directory_rules.specs.Placement.{silo_for}
 use Rattle.directory_rules.specs.Happens.{node_of, absent_number}
@@ -88,7 +89,7 @@ range_lines world (point ∷ points) =
 -- the lines of `show`
 unfoldable pub show_lines : World → List (List ℕ)
 show_lines world =
-    (version_line world ∷ flat_map (λ e. silo_lines e.0 e.1 (node_of world e.0)) (current_view world).rows)
+    (version_line world ∷ flat_map (λ e. silo_lines e.0 e.1 (node_of world e.0)) (known_now world.views))
     ++ range_lines world (current_ring world)
 
 -- ---- `mail`: each letter in the mail, by its number.

@@ -1,5 +1,5 @@
 -- Where a search of a shelf ends, and what it tells of the whole shelf.
-use Rattle.std.proofs.Common.{◌≡◌, ◌⊎◌, ℕ, zero, suc, ◌<◌, ◌≤◌, Bool, true, false, not, cond, List, [], ◌∷◌, ◌++◌, length, get_or, take, drop, Option, Some, None, refl, sym, ◌∙◌, ap, inl, inr, arith, find, eqb-true, le-ltb}
+use Rattle.std.proofs.Common.{◌≡◌, ◌⊎◌, ℕ, zero, suc, ◌<◌, ◌≤◌, Bool, true, false, not, cond, List, [], ◌∷◌, ◌++◌, length, get_or, take, drop, Option, Some, None, refl, sym, ◌∙◌, ap, inl, inr, arith, find, subst, eqb-true, le-ltb}
 use Rattle.std.specs.List.{All, HoldsAt, filter, list_any}
 use Rattle.std.specs.List.Sorted.{IsPartitionPoint}
 use Rattle.std.specs.Prelude.{◌==◌, ◌&&◌, ◌||◌}
@@ -8,8 +8,12 @@ use Rattle.std.proofs.lemmas.List.Elements.{All-head, All-tail}
 use Rattle.silo_address.specs.Silo.{Silo, silo_eq}
 use Rattle.ring_range.specs.Range.{Range, range_eq}
 use Rattle.directory_rules.specs.State.{Snapshot}
-use Rattle.directory_rules.specs.Snapshot.{is_snapshot, shelf_answer, page_from, Has_none, Is_behind}
-use Rattle.seal_snapshot.specs.Shelf.{AreInOrder, IsAt, comes_before, is_before}
+use Rattle.std.specs.Prelude.{IfSome, nat_lt}
+use Rattle.directory_rules.specs.State.{Page as PageValue}
+use Rattle.directory_rules.specs.Snapshot.{ShelfAnswer as Answer, digest_of, is_snapshot, page_count, page_from, page_of, shelf_answer, Hands_page, Has_none, Is_behind}
+use Rattle.seal_snapshot.specs.Shelf.{AreInOrder, IsAt, IsDigestFor, TellsDigest, answer_of, comes_before, is_before}
+use Rattle.seal_snapshot.specs.declared.shelf_answer.ShelfAnswer.{ShelfAnswer}
+use Rattle.seal_snapshot.specs.declared.shelf_answer.ShelfAnswer.TheVariants.{Page, Missing, Behind}
 use Rattle.seal_snapshot.proofs.Order.{apart, ordered_at}
 
 module _ (version : ℕ) (range : Range) (to : Silo) where
@@ -137,3 +141,36 @@ pub answer_missing : (shelf : List Snapshot) (seen version : ℕ) (range : Range
     → All (λ s. is_snapshot version range asker s ≡ false) shelf → shelf_answer shelf seen version range asker page ≡ Has_none
 answer_missing shelf seen version range asker page new fail =
     answer_seen shelf seen version range asker page None new (find_none version range asker shelf fail)
+
+-- ---- a page tells the digest of its snapshot
+abbrev digest_in : Answer → List ℕ
+digest_in (Hands_page page) = page.digest
+digest_in Has_none = []
+digest_in Is_behind = []
+
+module _ (page : PageValue) (number : ℕ) where
+  digest_of_page : (s : Snapshot) (b : Bool) → Hands_page page ≡ cond b (Hands_page (page_of s number)) Has_none
+      → page.digest ≡ digest_of s.entries
+  digest_of_page s true is = ap digest_in is
+  digest_of_page s false is = cc
+
+  digest_found : (behind : Bool) (found : Option Snapshot) → Hands_page page ≡ cond behind Is_behind (page_from found number)
+      → IfSome found (λ s. page.digest ≡ digest_of s.entries)
+  digest_found true found is = cc
+  digest_found false None is = tt
+  digest_found false (Some s) is = digest_of_page s (nat_lt number (page_count (length s.entries))) is
+
+pub tells_digest : (shelf : List Snapshot) (seen version : ℕ) (range : Range) (asker : Silo) (number : ℕ) (answer : ShelfAnswer)
+    → answer_of answer ≡ shelf_answer shelf seen version range asker number → TellsDigest version range asker shelf answer
+tells_digest shelf seen version range asker number (Page page) is =
+    digest_found page number (nat_lt seen version) (find (is_snapshot version range asker) shelf) is
+tells_digest shelf seen version range asker number Missing is = tt
+tells_digest shelf seen version range asker number Behind is = tt
+
+-- what is the digest of the snapshot that was found is that of the one at its index
+pub digest_at : (version : ℕ) (range : Range) (to : Silo) (shelf : List Snapshot) (i : ℕ) (s : Snapshot) (digest : List ℕ) → AreInOrder shelf
+    → IsAt (is_snapshot version range to) shelf i → s ≡ get_or shelf i s → IsDigestFor version range to shelf digest
+    → digest ≡ digest_of s.entries
+digest_at version range to shelf i s digest order at here is =
+    subst (λ (found : Option Snapshot). IfSome found (λ snapshot. digest ≡ digest_of snapshot.entries))
+    (find_at version range to shelf i s order at.within at.passes here) is

@@ -1,9 +1,11 @@
 -- A shelf: snapshots in the order in which they were sealed, which is by version, and at one version by where their ranges
 -- begin.
-use Rattle.std.specs.Prelude.{◌≡◌, ◌==◌, ◌&&◌, ◌||◌, nat_lt, ℕ, ◌<◌, Bool, true, List, [], ◌∷◌, All, ⊤, length, slice_index_or, ◌-◌}
+use Rattle.std.specs.Prelude.{◌≡◌, ◌==◌, ◌&&◌, ◌||◌, nat_lt, ℕ, ◌<◌, Bool, true, List, [], ◌∷◌, All, ⊤, IfSome, find, length, slice_index_or, ◌-◌}
 use Rattle.std.specs.List.{HoldsAt}
 use Rattle.directory_rules.specs.State.{Snapshot}
-use Rattle.directory_rules.specs.Snapshot.{ShelfAnswer as Answer, Hands_page, Has_none, Is_behind}
+use Rattle.silo_address.specs.Silo.{Silo}
+use Rattle.ring_range.specs.Range.{Range}
+use Rattle.directory_rules.specs.Snapshot.{ShelfAnswer as Answer, Hands_page, Has_none, Is_behind, digest_of, is_snapshot}
 use Rattle.seal_snapshot.specs.declared.shelf_answer.ShelfAnswer.{ShelfAnswer}
 use Rattle.seal_snapshot.specs.declared.shelf_answer.ShelfAnswer.TheVariants.{Page, Missing, Behind}
 
@@ -30,6 +32,16 @@ Meets front behind =
 pub record IsAt (test : Snapshot → Bool) (shelf : List Snapshot) (index : ℕ) : Type 0 where
   pub within : index < length shelf
   pub passes : HoldsAt (λ snapshot. test snapshot ≡ true) shelf index
+
+-- the digest is that of the silo's snapshot of that version and range, if the shelf has it
+abbrev pub IsDigestFor : ℕ → Range → Silo → List Snapshot → (digest : List ℕ) → Type 0
+IsDigestFor version range to shelf digest = IfSome (find (is_snapshot version range to) shelf) (λ snapshot. digest ≡ digest_of snapshot.entries)
+
+-- a page that is handed over tells the digest of the asker's snapshot
+abbrev pub TellsDigest : ℕ → Range → Silo → List Snapshot → ShelfAnswer → Type 0
+TellsDigest version range asker shelf (Page page) = IsDigestFor version range asker shelf page.digest
+TellsDigest version range asker shelf Missing = ⊤
+TellsDigest version range asker shelf Behind = ⊤
 
 -- the answer, as the rule has it
 abbrev pub answer_of : ShelfAnswer → Answer

@@ -8,24 +8,26 @@ ghost use Rattle.seal_snapshot.specs.Progress.{IsRefused, IsRefusedOrLacksMemory
 ghost use Rattle.seal_snapshot.specs.Steps.{IsWanted, Rejects};
 
 use crate::lines::{copy_of, take_entries};
-use crate::page::same_entries;
+use crate::short::{add_short, same_short_entries};
 use crate::snapshot::PAGE_SIZE;
 use crate::whole::{Whole, same_wholes};
 use crate::{GatheringError, GatheringProgress, Page};
+use grain_table::ShortEntry;
 use ring_range::RingRange;
 use sha2::{Digest, Sha256};
-use silo_address::Entry;
 use std::alloc::{AllocError, Global};
 use std::marker::Model;
 
-/// What a new owner has of a snapshot so far: its pages, taken one after the other (`docs/RULES.md#transfer`).
+/// What a new owner has of a snapshot so far: its pages, taken one after the other, whose entries are kept short
+/// (`docs/RULES.md#transfer`).
 #[derive(Drop)]
 pub struct Gathering {
+    alloc: Global,
     version: u64,
     range: RingRange,
     next: u64,
     whole: Option<Whole>,
-    entries: Vec<Entry>,
+    entries: Vec<ShortEntry>,
     // It has taken the lines of the entries.
     hasher: Sha256,
 }
@@ -50,6 +52,7 @@ impl Gathering {
         ensures { result ≡ new_gathering version range }
     {
         Gathering {
+            alloc,
             version,
             range,
             next: 0,
@@ -81,7 +84,7 @@ impl Gathering {
     }
 
     /// The entries gathered so far, in the order of the pages.
-    pub fn entries(&self) -> &[Entry]
+    pub fn entries(&self) -> &[ShortEntry]
         ensures { result.now ≡ self.now.entries }
     {
         &self.entries
@@ -186,7 +189,7 @@ impl Gathering {
             pages: page.pages(),
             digest: page.digest(),
         };
-        match self.entries.extend_from_slice(page.entries()) {
+        match add_short(self.alloc, &mut self.entries, page.entries()) {
             Ok(()) => {
                 self.hasher = hasher;
                 self.next += 1;
@@ -211,7 +214,7 @@ impl Gathering {
 // ---- What is done with a gathering as a whole.
 impl Gathering {
     /// The entries gathered, in the order of the pages.
-    pub fn into_entries(self) -> Vec<Entry>
+    pub fn into_entries(self) -> Vec<ShortEntry>
         ensures { result.items ≡ self.entries }
     {
         self.entries
@@ -223,6 +226,7 @@ impl Gathering {
     {
         let entries = self.entries.clone()?;
         Ok(Gathering {
+            alloc: self.alloc,
             version: self.version,
             range: self.range,
             next: self.next,
@@ -240,7 +244,7 @@ impl Gathering {
             && other.next == self.next
             && self.range.same(&other.range)
             && same_wholes(&self.whole, &other.whole)
-            && same_entries(&self.entries, &other.entries)
+            && same_short_entries(&self.entries, &other.entries)
     }
 }
 

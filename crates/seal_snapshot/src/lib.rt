@@ -10,6 +10,7 @@ mod page;
 mod progress;
 mod shelf;
 mod shelf_answer;
+mod short;
 mod snapshot;
 mod whole;
 

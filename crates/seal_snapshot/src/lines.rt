@@ -6,16 +6,17 @@ ghost use Rattle.silo_address.specs.SiloText.{silo_text};
 ghost use Rattle.directory_rules.specs.Snapshot.{digest_line, digest_of};
 ghost use Rattle.seal_snapshot.specs.Lines.{Takes, ip_text};
 
+use grain_table::ShortEntry;
 use itoa::Buffer;
 use sha2::{Digest, Sha256};
 use silo_address::{ActivationId, Entry, SiloAddress};
 
 /// The digest of entries: the SHA-256 of their lines.
-pub(crate) fn digest_of(entries: &[Entry]) -> [u8; 32]
+pub(crate) fn digest_of(entries: &[ShortEntry]) -> [u8; 32]
     ensures { result ≡ digest_of entries.now }
 {
     let mut hasher = Sha256::new();
-    take_entries(&mut hasher, entries);
+    take_short_entries(&mut hasher, entries);
     hasher.finalize()
 }
 
@@ -35,12 +36,29 @@ pub(crate) fn take_entries(hasher: &mut Sha256, entries: &[Entry])
     }
 }
 
+// The same, of entries that are kept short.
+fn take_short_entries(hasher: &mut Sha256, entries: &[ShortEntry])
+    ensures { Takes hasher.old (flat_map digest_line entries.now) hasher.new }
+{
+    for entry in entries {
+        take_short_entry(hasher, entry);
+    }
+}
+
 // An entry's line: the grain, a space, the activation, a line feed.
 fn take_entry(hasher: &mut Sha256, entry: &Entry)
     ensures { Takes hasher.old (digest_line entry.now) hasher.new }
 {
     take_marked(hasher, entry.grain.as_bytes(), b' ');
     take_activation(hasher, &entry.activation, b'\n');
+}
+
+// The same, of an entry that is kept short.
+fn take_short_entry(hasher: &mut Sha256, entry: &ShortEntry)
+    ensures { Takes hasher.old (digest_line entry.now) hasher.new }
+{
+    take_marked(hasher, entry.text(), b' ');
+    take_activation(hasher, &entry.activation(), b'\n');
 }
 
 fn take_activation(hasher: &mut Sha256, activation: &ActivationId, mark: u8)

@@ -136,7 +136,7 @@ fn same_digests(one: &[u8; 32], other: &[u8; 32]) -> bool
     *one == *other
 }
 
-pub(crate) fn same_entries(one: &[Entry], other: &[Entry]) -> bool
+fn same_entries(one: &[Entry], other: &[Entry]) -> bool
     ensures { IsTrue result ↔ (one.now ≡ other.now) }
 {
     *one == *other

@@ -3,7 +3,7 @@ ghost use Rattle.std.specs.List.Sorted.{IsPartitionPoint};
 ghost use Rattle.directory_rules.specs.Members.{is_dead_in};
 ghost use Rattle.directory_rules.specs.Sight.{shelf_after};
 ghost use Rattle.directory_rules.specs.Snapshot.{has_snapshot, is_snapshot, page_from, shelf_answer, shelf_without};
-ghost use Rattle.seal_snapshot.specs.Shelf.{AreInOrder, IsAt, IsPageless, Meets, answer_of, is_before};
+ghost use Rattle.seal_snapshot.specs.Shelf.{AreInOrder, IsAt, IsDigestFor, IsPageless, Meets, TellsDigest, answer_of, is_before};
 
 use crate::{ShelfAnswer, Snapshot};
 use membership_view::{Status, View};
@@ -15,7 +15,7 @@ use std::mem;
 
 /// The snapshots that a silo keeps for their new owners, in the order in which they were sealed: by version, and at one
 /// version by where their ranges begin (`docs/RULES.md#pieces`). One of many is found by a search.
-#[derive(Clone, Drop)]
+#[derive(Drop)]
 pub struct Shelf {
     snapshots: Vec<Snapshot>,
 }
@@ -57,8 +57,8 @@ impl Shelf {
     }
 
     /// What a silo that has seen this version is answered when it asks for a page of its snapshot of a version and range: the
-    /// page, or that there is no such page, or that the version wasn't seen yet. Costs the page and a logarithm. Fails only
-    /// when memory runs out; an answer without a page needs none.
+    /// page, or that there is no such page, or that the version wasn't seen yet. Costs the page and a logarithm, and a walk over the
+    /// snapshot where its digest isn't kept yet. Fails only when memory runs out; an answer without a page needs none.
     pub fn answer(
         &self,
         alloc: Global,
@@ -70,6 +70,7 @@ impl Shelf {
     ) -> Result<ShelfAnswer, AllocError>
         ensures answered { IfOk result (λ answer. answer_of answer ≡ shelf_answer self.now seen version range.now asker.now page) }
         ensures pageless_succeeds { IsPageless (shelf_answer self.now seen version range.now asker.now page) → IsOk result }
+        ensures digest { IfOk result (TellsDigest version range.now asker.now self.now) }
     {
         if seen < version {
             return Ok(ShelfAnswer::Behind);
@@ -77,6 +78,31 @@ impl Shelf {
         match self.index_of(version, range, asker) {
             Some(index) => page_of(alloc, &self.snapshots[index], page),
             None => Ok(ShelfAnswer::Missing),
+        }
+    }
+
+    /// Whether the digest of the asker's snapshot of that version and range is kept, if there is such a snapshot: then each page
+    /// costs its own entries alone. It changes no answer whether it is.
+    pub fn keeps_digest(&self, version: u64, range: &RingRange, asker: &SiloAddress) -> bool {
+        match self.index_of(version, range, asker) {
+            Some(index) => self.snapshots[index].keeps_digest(),
+            None => true,
+        }
+    }
+
+    /// The digest of the asker's snapshot of that version and range, which a page of it tells, is kept from now on.
+    pub fn keep_digest(
+        &mut self,
+        version: u64,
+        range: &RingRange,
+        asker: &SiloAddress,
+        digest: [u8; 32],
+    )
+        requires { IsDigestFor version range.now asker.now self.old digest }
+        ensures { self.new ≡ self.old }
+    {
+        if let Some(index) = self.index_of(version, range, asker) {
+            self.snapshots[index].keep_digest(digest);
         }
     }
 
@@ -158,7 +184,8 @@ impl Shelf {
     pub fn copy(&self) -> Result<Shelf, AllocError>
         ensures { IfOk result (λ shelf. shelf ≡ self.now) }
     {
-        self.clone()
+        let snapshots = self.snapshots.clone()?;
+        Ok(Shelf { snapshots })
     }
 
     /// Whether both have the same snapshots.

@@ -56,10 +56,13 @@ digit_more bytes end value digit begins at is =
 pub one_digit : (bytes : List ℕ) (digit : ℕ) → IsDigitAt bytes 0 → digit ≡ get_or bytes 0 0 - 48 → BeginsWith bytes 1 digit
 one_digit bytes digit at is = subst (BeginsWith bytes 1) (omega arith) (digit_more bytes 0 0 digit (no_digits bytes) at is)
 
+pub digit_above : (bytes : List ℕ) (position : ℕ) → IsDigitAt bytes position → 48 ≤ get_or bytes position 0
+digit_above bytes position at = (digit_from_test _ at.1).0
+
 pub digit_within : (bytes : List ℕ) (position : ℕ) → IsDigitAt bytes position → get_or bytes position 0 ≤ 57
 digit_within bytes position at = (digit_from_test _ at.1).1
 
-front_end_is : (bytes : List ℕ) (end value : ℕ) → BeginsWith bytes end value → ¬ (IsDigitAt bytes end) → front_end bytes ≡ end
+pub front_end_is : (bytes : List ℕ) (end value : ℕ) → BeginsWith bytes end value → ¬ (IsDigitAt bytes end) → front_end bytes ≡ end
 front_end_is bytes end value begins stops =
     position_or_len_is is_other bytes end 0 begins.within begins.digits
     (λ inside. true_from_not (is_other (get_or bytes end 0)) (λ digit. stops (inside, digit)))
@@ -78,7 +81,7 @@ stops_in_digits bytes end within digits before =
     let digit : is_other (get_or bytes (front_end bytes) 0) ≡ false = digits (front_end bytes) before in
     cc
 
-past_digits : (bytes : List ℕ) (end : ℕ) → end ≤ length bytes → AreDigits bytes end → end ≤ front_end bytes
+pub past_digits : (bytes : List ℕ) (end : ℕ) → end ≤ length bytes → AreDigits bytes end → end ≤ front_end bytes
 past_digits bytes end within digits =
     elim (cases_lt (front_end bytes) end) [ inl before ↦ absurd (stops_in_digits bytes end within digits before) | inr behind ↦ behind ]
 
@@ -93,7 +96,7 @@ front_large bytes end value most begins above = λ at_most.
 pub front_within : (bytes : List ℕ) → front_end bytes ≤ length bytes
 front_within bytes = prefix_len-le-length _ bytes
 
-length-front_digits : (bytes : List ℕ) → length (front_digits bytes) ≡ front_end bytes
+pub length-front_digits : (bytes : List ℕ) → length (front_digits bytes) ≡ front_end bytes
 length-front_digits bytes = length-take-le (front_end bytes) bytes (front_within bytes)
 
 -- The digits at the front are a numeral, if there are some, and no zero leads them.

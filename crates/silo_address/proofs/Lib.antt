@@ -2,6 +2,7 @@ pub mod Same
 pub mod SiloLaws
 pub mod SiloCases
 pub mod FrontLaws
+pub mod BeforeMark
 pub mod SpelledLaws
 pub mod GrainCases
 pub mod GrainStored

@@ -12,6 +12,10 @@ is_other byte = not (is_digit byte)
 abbrev pub IsDigitAt : List ℕ → ℕ → Type 0
 IsDigitAt bytes position = (position < length bytes) × (is_other (slice_index bytes position) ≡ false)
 
+-- this mark stands there
+abbrev pub IsMarkAt : List ℕ → ℕ → ℕ → Type 0
+IsMarkAt bytes position mark = (position < length bytes) × (slice_index bytes position ≡ mark)
+
 abbrev pub front_digits : List ℕ → List ℕ
 front_digits bytes = before_first is_other bytes
 

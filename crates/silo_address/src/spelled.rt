@@ -2,8 +2,8 @@
 
 ghost use Rattle.std.specs.Fmt.{decimal};
 ghost use Rattle.std.specs.Option.{SomeIff};
-ghost use Rattle.std.specs.Prelude.{◌≡◌, ◌<◌, ◌≤◌, ◌-◌, ◌^◌, ◌++◌, ◌∷◌, ℕ, List, Some, IfSome, false, true, option_map, slice_index};
-ghost use Rattle.silo_address.specs.FrontNumber.{IsDigitAt, IsNumberFirst, front_digits, front_end, front_value, is_other, number_view};
+ghost use Rattle.std.specs.Prelude.{◌≡◌, ◌<◌, ◌≤◌, ◌-◌, ◌^◌, ◌++◌, ◌∷◌, ◌↔◌, ℕ, List, Some, IfSome, IsTrue, false, true, option_map, slice_index};
+ghost use Rattle.silo_address.specs.FrontNumber.{IsDigitAt, IsMarkAt, IsNumberFirst, front_digits, front_end, front_value, is_other, number_view};
 ghost use Rattle.silo_address.specs.Silo.{IsSilo, Silo};
 ghost use Rattle.silo_address.specs.SiloText.{silo_text};
 ghost use Rattle.texts.specs.Numeral.{IsNumeral};
@@ -28,17 +28,38 @@ pub(crate) fn spelled(text: &[u8]) -> Option<SiloAddress>
     SiloAddress::from_parts(ip, port as u16, generation)
 }
 
-/// The number of at most 255 before this mark, and the bytes after the mark.
+/// The number of at most 255 before this mark, and the bytes after the mark. Looks at no more than four bytes, and in no loop.
+#[inline(always)]
 fn byte_before(bytes: &[u8], mark: u8) -> Option<(u32, &[u8])>
     requires { is_other mark ≡ true }
     ensures found { IfSome result (λ found. (found.0 ≤ 255) × (bytes.now ≡ decimal found.0 ++ mark ∷ found.1.now)) }
     ensures only { (number : ℕ) (rest : List ℕ) → number ≤ 255 → bytes.now ≡ decimal number ++ mark ∷ rest → option_map number_view result ≡ Some (number, rest) }
 {
-    let (number, end) = first_byte(bytes)?;
-    before_mark(bytes, number, end, mark)
+    let first = digit_at(bytes, 0)?;
+    if is_at(bytes, 1, mark) {
+        return Some((first, &bytes[2..]));
+    }
+    let second = digit_at(bytes, 1)?;
+    if first == 0 {
+        return None;
+    }
+    let tens = first * 10 + second;
+    if is_at(bytes, 2, mark) {
+        return Some((tens, &bytes[3..]));
+    }
+    let third = digit_at(bytes, 2)?;
+    let value = tens * 10 + third;
+    if value > MOST_BYTE {
+        return None;
+    }
+    if is_at(bytes, 3, mark) {
+        return Some((value, &bytes[4..]));
+    }
+    None
 }
 
 /// The number of at most `most` before this mark, and the bytes after the mark.
+#[inline(always)]
 fn number_before(bytes: &[u8], mark: u8, most: u32) -> Option<(u32, &[u8])>
     requires { is_other mark ≡ true }
     ensures found { IfSome result (λ found. (found.0 ≤ most) × (bytes.now ≡ decimal found.0 ++ mark ∷ found.1.now)) }
@@ -49,6 +70,7 @@ fn number_before(bytes: &[u8], mark: u8, most: u32) -> Option<(u32, &[u8])>
 }
 
 /// The number at the front, and the bytes after the mark, if this mark is where the number ends.
+#[inline(always)]
 fn before_mark(bytes: &[u8], number: u32, end: usize, mark: u8) -> Option<(u32, &[u8])>
     requires numeral { IsNumeral (front_digits bytes.now) }
     requires number { number ≡ front_value bytes.now }
@@ -67,6 +89,7 @@ fn before_mark(bytes: &[u8], number: u32, end: usize, mark: u8) -> Option<(u32, 
 }
 
 /// The number of at most `most` that the bytes are, if they are one.
+#[inline(always)]
 fn only_number(bytes: &[u8], most: u32) -> Option<u32>
     ensures found { IfSome result (λ number. (number ≤ most) × (bytes.now ≡ decimal number)) }
     ensures only { (number : ℕ) → number ≤ most → bytes.now ≡ decimal number → result ≡ Some number }
@@ -79,34 +102,8 @@ fn only_number(bytes: &[u8], most: u32) -> Option<u32>
     }
 }
 
-/// The number at the front, and where it ends, if it is at most 255. Looks at no more than four bytes, and in no loop.
-fn first_byte(bytes: &[u8]) -> Option<(u32, usize)>
-    ensures { SomeIff result (IsNumberFirst 255 bytes.now) (front_value bytes.now, front_end bytes.now) }
-{
-    let first = digit_at(bytes, 0)?;
-    let second = match digit_at(bytes, 1) {
-        Some(second) => second,
-        None => return Some((first, 1)),
-    };
-    if first == 0 {
-        return None;
-    }
-    let tens = first * 10 + second;
-    let third = match digit_at(bytes, 2) {
-        Some(third) => third,
-        None => return Some((tens, 2)),
-    };
-    let value = tens * 10 + third;
-    if value > MOST_BYTE {
-        return None;
-    }
-    match digit_at(bytes, 3) {
-        Some(_) => None,
-        None => Some((value, 3)),
-    }
-}
-
 /// The number at the front, and where it ends, if it is at most `most`.
+#[inline(always)]
 fn first_number(bytes: &[u8], most: u32) -> Option<(u32, usize)>
     ensures { SomeIff result (IsNumberFirst most bytes.now) (front_value bytes.now, front_end bytes.now) }
 {
@@ -121,6 +118,7 @@ fn first_number(bytes: &[u8], most: u32) -> Option<(u32, usize)>
 }
 
 /// What the digits at the front write, and where they end, if it is at most `most`.
+#[inline(always)]
 fn first_digits(bytes: &[u8], most: u32) -> Option<(u32, usize)>
     ensures { SomeIff result (front_value bytes.now ≤ most) (front_value bytes.now, front_end bytes.now) }
 {
@@ -137,7 +135,16 @@ fn first_digits(bytes: &[u8], most: u32) -> Option<(u32, usize)>
     Some((value as u32, bytes.len()))
 }
 
+/// Whether this mark stands at the position.
+#[inline(always)]
+fn is_at(bytes: &[u8], position: usize, mark: u8) -> bool
+    ensures { IsTrue result ↔ IsMarkAt bytes.now position mark }
+{
+    position < bytes.len() && bytes[position] == mark
+}
+
 /// What the byte at this position writes, if there is one and it is a digit.
+#[inline(always)]
 fn digit_at(bytes: &[u8], position: usize) -> Option<u32>
     ensures { SomeIff result (IsDigitAt bytes.now position) (slice_index bytes.now position - 48) }
 {
@@ -149,6 +156,7 @@ fn digit_at(bytes: &[u8], position: usize) -> Option<u32>
 }
 
 /// What a digit writes.
+#[inline(always)]
 fn digit(byte: u8) -> Option<u32>
     ensures { SomeIff result (is_other byte ≡ false) (byte - 48) }
 {

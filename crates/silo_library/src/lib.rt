@@ -17,8 +17,10 @@ pub use open_silo::{OpenSilo, may_cross};
 pub use status::CallStatus;
 pub use text::{Text, lies_as_in_c};
 
-/// Opens the silo of a text, under the way of hashing that has the number, with so many points and a cache of so many hints, and
-/// writes its handle. Answers 0; or else the number of a refusal, and the handle is left as it was.
+/// Opens the silo of a text, under the way of hashing that has the number (0 Sha256, 1 Stated), with so many points (1 to 128) and a
+/// cache of so many hints (0 to 65536), and writes its handle. Answers 0; or else the handle is left as it was, and the number tells
+/// the first that applies: 4 no silo, 5 no such way of hashing, 6 a number out of its range, 3 out of memory
+/// (`docs/DEPLOYMENT.md#from-other-languages`).
 #[unsafe(no_mangle)]
 pub unsafe extern "C" fn grain_directory_open(
     alloc: Global,
@@ -39,7 +41,8 @@ pub unsafe extern "C" fn grain_directory_open(
     }
 }
 
-/// Opens it for a process that is started with that token: its silo joins by the line that carries the token, and by no other.
+/// Opens it for a process that is started with that token: its silo joins by the line that carries the token, and by no other. Before
+/// all else 7 is answered where the token isn't 1 to 64 bytes of visible ASCII.
 #[unsafe(no_mangle)]
 pub unsafe extern "C" fn grain_directory_open_with_token(
     alloc: Global,
@@ -62,6 +65,8 @@ pub unsafe extern "C" fn grain_directory_open_with_token(
 }
 
 /// Answers a line, given without its line feed, and tells where the answer is: it may be read until the next call on the handle.
+/// Answers 0 where the silo goes on, 1 where it is Dead by the line, 2 where it had ended before, and 3 where memory ran out: then it
+/// has ended, and answers nothing.
 #[unsafe(no_mangle)]
 pub unsafe extern "C" fn grain_directory_line(
     handle: *mut u8,

@@ -102,10 +102,10 @@ impl OpenSilo {
         let Some(hashing) = hashing_of(hashing) else {
             return Err(CallStatus::NoSuchHashing);
         };
-        let Some(settings) = process_settings(hashing, points, cache) else {
+        let Some(settings) = Settings::of_directory(hashing, points, cache) else {
             return Err(CallStatus::OutOfRange);
         };
-        match first(alloc, settings, silo, token) {
+        match first(alloc, process_settings(settings), silo, token) {
             Ok(it) => Ok(it),
             Err(_) => Err(CallStatus::OutOfMemory),
         }

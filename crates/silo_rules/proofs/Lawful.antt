@@ -1,5 +1,5 @@
 -- The laws of a silo by itself.
-use Rattle.std.proofs.Common.{arith, ◌≡◌, ℕ, ◌+◌, List, refl, sym, ap, ◌∙◌, subst}
+use Rattle.std.proofs.Common.{arith, ◌≡◌, ℕ, ◌+◌, refl, sym, ap, ◌∙◌, subst}
 use Rattle.std.specs.Prelude.{Bool, true, false, not, ◌==◌, nat_le, nat_lt, is_some, if◌then◌else◌, Option, Some, None, option_and_then, Result, Ok, Err}
 use Rattle.std.specs.Option.{unwrap_or}
 use Rattle.std.proofs.lemmas.Bool.{leb-true}
@@ -22,7 +22,7 @@ use Rattle.directory_rules.specs.State.{Letter, World, Accepted}
 use Rattle.directory_rules.specs.Step.{Stepped, silently}
 use Rattle.directory_rules.specs.declared.effect.Effect.TheVariants.{Ignored}
 use Rattle.silo_rules.specs.declared.news.News.TheVariants.{Known}
-use Rattle.silo_rules.specs.Known.{is_known}
+use Rattle.silo_rules.specs.Known.{is_before, is_known}
 use Rattle.silo_rules.specs.Laws.{StaysWhole, IsOf, FollowsTheRule}
 use Rattle.directory_rules.specs.Membership.{Change, Membership, barred_by, changed, is_seeable, replaced_by}
 use Rattle.silo_rules.specs.SiloValue.{SiloValue, own_status, told_of_its_join}
@@ -30,26 +30,28 @@ use Rattle.silo_rules.specs.Steps.{barred, unless_barred, does, receives, seen, 
 use Rattle.silo_rules.specs.NodeInputs.{IsNoSight}
 use Rattle.silo_rules.specs.Told.{Heard, heard_by, told}
 use Rattle.silo_rules.specs.Whole.{IsWhole}
+use Rattle.silo_rules.proofs.Begun.{begins_whole}
 use Rattle.silo_rules.proofs.Whole.{change_whole, first_whole, input_whole, sight_whole}
 
 -- ---- what stays whole
 tells_whole : (s : SiloValue) (version : ℕ) (change : Change) (heard : Heard) → IsWhole s
     → told s.node.settings s.membership version change ≡ Ok heard → IsWhole (record s { membership = heard.membership })
 tells_whole s version change heard is so =
-    by (nat_le version s.membership.views.version) (is_known s.membership version change) (version == s.membership.views.version + 1)
-    (changed s.node.settings s.membership change) refl so
+    by (nat_le version s.membership.views.version) (is_before s.membership version) (is_known s.membership version change)
+    (version == s.membership.views.version + 1) (changed s.node.settings s.membership change) refl so
   where
-    by : (old known next : Bool) (made : Result Membership ℕ) → changed s.node.settings s.membership change ≡ made
-        → (if old then (if known then Ok (record { membership = s.membership; news = Known }) else Err 207)
+    by : (old before known next : Bool) (made : Result Membership ℕ) → changed s.node.settings s.membership change ≡ made
+        → (if old then (if before then Err 212 else (if known then Ok (record { membership = s.membership; news = Known }) else Err 207))
         else (if not next then Err 206 else heard_by made (replaced_by s.membership change))) ≡ Ok heard
         → IsWhole (record s { membership = heard.membership })
-    by true true next made at told_so =
+    by true true known next made at told_so = absurd (cc (told_so))
+    by true false true next made at told_so =
         let same : record { membership = s.membership; news = Known } ≡ heard = cc (told_so) in
         subst (λ (h : Heard). IsWhole (record s { membership = h.membership })) same is
-    by true false next made at told_so = absurd (cc (told_so))
-    by false known false made at told_so = absurd (cc (told_so))
-    by false known true (Err number) at told_so = absurd (cc (told_so))
-    by false known true (Ok m) at told_so =
+    by true false false next made at told_so = absurd (cc (told_so))
+    by false before known false made at told_so = absurd (cc (told_so))
+    by false before known true (Err number) at told_so = absurd (cc (told_so))
+    by false before known true (Ok m) at told_so =
         let same : m ≡ heard.membership = cc (told_so) in
         subst (λ (n : Membership). IsWhole (record s { membership = n })) same (change_whole s change m is at)
 
@@ -90,7 +92,14 @@ receives_whole s letter stepped is so = by (silo_eq letter.to s.node.host.silo) 
         subst (λ (t : Stepped). IsWhole (record s { node = t.node })) same is
 
 pub stays_whole : StaysWhole
-stays_whole = record { first = first_whole; tells = tells_whole; sees_so = sees_whole; does_so = does_whole; receives_so = receives_whole }
+stays_whole = record {
+  first = first_whole;
+  tells = tells_whole;
+  begins = begins_whole;
+  sees_so = sees_whole;
+  does_so = does_whole;
+  receives_so = receives_whole;
+}
 
 -- ---- the rule
 -- who has a row has a status in the last view

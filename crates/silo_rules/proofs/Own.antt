@@ -45,11 +45,12 @@ module _ (node : Node) where
     forgoes = λ letter range body there. stays _ refl refl;
     lags = λ letter range. stays _ refl refl;
     passed = λ letter range. stays _ refl refl;
-    reports = λ letter range body seen. stays _ refl refl;
+    reports = λ letter range after body seen. stays _ refl refl;
     gathers = λ letter page gathering taken is. stays _ refl refl;
     installs = λ letter page entries taken is. stays _ refl refl;
     drops = λ letter page gathering taken is. stays _ refl refl;
     turns = λ letter range piece body has awaits. stays _ refl refl;
+    continues = λ letter report recovery taken is. stays _ refl refl;
     collects = λ letter report recovery taken is. stays _ refl refl;
     completes = λ letter report table taken is. stays _ refl refl;
     takes_over = λ letter entry body seen may. stays _ refl refl;

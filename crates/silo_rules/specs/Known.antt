@@ -1,18 +1,14 @@
 -- Which change made a version, as the views and places tell it.
-use Rattle.std.specs.Prelude.{ℕ, ◌==◌, ◌&&◌, not, Bool, false, List, length, Option, Some, None}
+use Rattle.std.specs.Prelude.{ℕ, ◌==◌, ◌&&◌, nat_le, nat_lt, not, Bool, false, List, length, Option, Some, None}
 use Rattle.std.specs.List.{list_any}
 use Rattle.std.specs.Cmp.Lexicographic.{pointwise}
 use Rattle.silo_address.specs.Silo.{Silo}
+use Rattle.membership_view.specs.Row.{is_made_in}
 use Rattle.membership_view.specs.Views.{ViewsValue, joining_version, leaving_version, dying_version}
 use Rattle.hash_ring.specs.declared.hashing.Hashing.{Hashing}
 use Rattle.hash_ring.specs.declared.hashing.Hashing.TheVariants.{Sha256, Stated}
 use Rattle.hash_ring.specs.Places.{PlacesValue, places_of}
 use Rattle.directory_rules.specs.Membership.{Change, Join, Leave, Die, Membership}
-
--- whether that version is the one in which it was made, if it was
-abbrev pub is_made_in : ℕ → Option ℕ → Bool
-is_made_in version None = false
-is_made_in version (Some made) = made == version
 
 -- whether these are the places
 abbrev pub are_these : Option (List ℕ) → (stated : List ℕ) → Bool
@@ -28,7 +24,11 @@ were_stated Stated places silo stated = are_these (places_of places silo) stated
 abbrev pub is_of_join : ViewsValue → ℕ → Bool
 is_of_join views version = list_any (λ e. e.1.joined == version) views.rows
 
--- whether this change made the version; a silo that is replaced dies by the join of another one
+-- whether the version is one of those that the silo was told by the view with which it began: it doesn't know what made them
+abbrev pub is_before : Membership → (version : ℕ) → Bool
+is_before m version = nat_lt 0 version && nat_le version m.views.first
+
+-- whether this change made the version, which came after those; a silo that is replaced dies by the join of another one
 abbrev pub is_known : Membership → (version : ℕ) → Change → Bool
 is_known m version (Join silo stated) = is_made_in version (joining_version m.views silo) && were_stated m.places.hashing m.places silo stated
 is_known m version (Leave silo) = is_made_in version (leaving_version m.views silo)

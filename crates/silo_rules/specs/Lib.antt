@@ -1,5 +1,6 @@
 pub mod Known
 pub mod Told
+pub mod Begun
 pub mod SiloValue
 pub mod Whole
 pub mod Steps

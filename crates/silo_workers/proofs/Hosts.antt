@@ -94,10 +94,11 @@ module _ (K V S T : RattleType) (e : eq.Ghosts K.Denot) (h : hash.Ghosts K.Denot
   index_map_crosses k v s =
       modelled (index_map_inside.the_type K V S Heap.the_row T e h b w ghosts) _ _ _ _ (columns_cross K V k v, (table_crosses, (s, tt)))
 
+pub name_field_crosses : Crosses (name.the_field Heap.the_row ghosts).row
+name_field_crosses = fields (name.the_type Heap.the_row ghosts) (fields (text.the_type Heap.the_row ghosts) (listed u8 byte, tt), tt)
+
 name_crosses : Crosses (name.the_row Heap.the_row ghosts)
-name_crosses =
-    structure (name.the_type Heap.the_row ghosts) (fields (name.the_type Heap.the_row ghosts)
-    (fields (text.the_type Heap.the_row ghosts) (listed u8 byte, tt), tt))
+name_crosses = structure (name.the_type Heap.the_row ghosts) name_field_crosses
 
 pub grain_map_crosses : (V : RattleType) → Crosses V → Crosses (grain_map.the_row V)
 grain_map_crosses V v =

@@ -5,6 +5,7 @@ use Rattle.silo_workers.proofs.Holders.{optional}
 use Rattle.silo_workers.proofs.Names.{silo_crosses, grain_crosses, activation_crosses, entry_field_crosses, range_crosses}
 use Rattle.silo_workers.proofs.Members.{hashing_crosses}
 use Rattle.silo_workers.proofs.Tables.{page_crosses, report_crosses}
+use Rattle.silo_address.specs.contracts.grain.GrainId as grain
 use Rattle.silo_address.specs.contracts.entry.Entry as entry
 use Rattle.ring_range.specs.contracts.range.RingRange as range
 use Rattle.silo_address.specs.contracts.activation.ActivationId as activation
@@ -44,13 +45,23 @@ reply_crosses =
 body_crosses : Crosses (body.the_field).row
 body_crosses =
     let range : All (range.the_row ∷ []) = (range_crosses, tt) in
+    let after = optional grain.the_row grain_crosses in
     variants body.the_type (
       (hashed_crosses, tt),
       (
         (number64, (reply_crosses, tt)),
         (
           (range_crosses, (number64, tt)),
-          ((page_crosses, tt), (range, (range, (range, ((report_crosses, tt), (range, (range, ((entry_field_crosses, tt), tt)))))))),
+          (
+            (page_crosses, tt),
+            (
+              range,
+              (
+                range,
+                ((range_crosses, (after, tt)), ((report_crosses, tt), (range, (range, ((entry_field_crosses, tt), tt))))),
+              ),
+            ),
+          ),
         ),
       ),
     )

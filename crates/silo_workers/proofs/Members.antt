@@ -29,14 +29,15 @@ hashing_crosses = variants hashing.the_type (tt, (tt, tt))
 pub settings_cross : Crosses settings.the_row
 settings_cross =
     let n = number64 in inverted settings_inside.the_type _ _ settings.the_inverse settings.the_view settings.the_invariant
-    (hashing_crosses, (n, (n, (n, (n, (n, (n, (n, (n, (n, tt))))))))))
+    (hashing_crosses, (n, (n, (n, (n, (n, (n, (n, (n, (n, (n, tt)))))))))))
 
 member_crosses : Crosses member.the_row
 member_crosses =
     let version = optional u64 number64 in structure member.the_type (fields member.the_type (number64, (version, (version, tt))))
 
 views_cross : Crosses views.the_row
-views_cross = modelled views_inside.the_type _ _ _ _ (number64, (number64, (search (mapped, silo_crosses, member_crosses), tt)))
+views_cross =
+    modelled views_inside.the_type _ _ _ _ (number64, (number64, (number64, (search (mapped, silo_crosses, member_crosses), tt))))
 
 status_crosses : Crosses status.the_row
 status_crosses = choice status.the_type (variants status.the_type (tt, (tt, (tt, tt))))

@@ -1,7 +1,7 @@
 -- A silo's node crosses, shared as it is, and so does a plan of its step.
 use mathlib.Core.List.{[], ◌∷◌}
-use denote.Builtin.{u64}
-use Rattle.silo_workers.proofs.Parts.{Crosses, All, fields, structure, modelled, variants, number32, number64, truth}
+use denote.Builtin.{u8, u64}
+use Rattle.silo_workers.proofs.Parts.{Crosses, All, fields, structure, modelled, variants, array, byte, number32, number64, truth}
 use Rattle.silo_workers.proofs.Holders.{heap_field_crosses, optional, boxed, listed, counted, mapped}
 use Rattle.silo_workers.proofs.Names.{silo_crosses, grain_crosses, activation_crosses, activation_field_crosses, entry_field_crosses, range_crosses}
 use Rattle.silo_workers.proofs.Members.{settings_cross, view_crosses, ring_crosses}
@@ -112,10 +112,13 @@ change_crosses =
                                   (
                                     (number64, (range_crosses, (silo_crosses, tt))),
                                     (
-                                      (page_crosses, tt),
+                                      (number64, (range_crosses, (silo_crosses, (array u8 32 byte, tt)))),
                                       (
-                                        (range_crosses, tt),
-                                        ((range_crosses, (table_crosses, tt)), ((recovery_crosses, tt), ((report_crosses, tt), tt))),
+                                        (page_crosses, tt),
+                                        (
+                                          (range_crosses, tt),
+                                          ((range_crosses, (table_crosses, tt)), ((recovery_crosses, tt), ((report_crosses, tt), tt))),
+                                        ),
                                       ),
                                     ),
                                   ),

@@ -1,7 +1,7 @@
 //! Carries out the program's words for stored files, which the words of this one's command line name: a script is played with stated
-//! places, and a dump, whose file's name ends with `.json`, is judged. Behind the name of each stands what is printed, and behind that
-//! the status where it isn't 0. Worked scripts and dumps stand there first, with what `worked_rows` proves of them, and two examples;
-//! then storms, of which `docs/STORMS.md` says where they come from.
+//! places, and with reports of one entry where its name ends with `reports-of-one`; a dump, whose file's name ends with `.json`, is judged.
+//! Behind the name of each stands what is printed, and behind that the status where it isn't 0. Worked scripts and dumps stand there first,
+//! with what `worked_rows` proves of them, and two examples; then storms, of which `docs/STORMS.md` says where they come from.
 #![tactic(auto)]
 
 use anyhow::{Result, bail};
@@ -35,6 +35,15 @@ fn carry_out(rt: &HostRuntime, name: &str) -> Result<u8> {
 fn words_for(name: &str) -> &'static [&'static str] {
     if name.ends_with(".json") {
         &["grain-directory", "check"]
+    } else if name.ends_with("reports-of-one") {
+        &[
+            "grain-directory",
+            "play",
+            "--hashing",
+            "stated",
+            "--report-size",
+            "1",
+        ]
     } else {
         &["grain-directory", "play", "--hashing", "stated"]
     }

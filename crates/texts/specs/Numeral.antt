@@ -20,6 +20,11 @@ pub record IsNumeral (word : List ℕ) : Type 0 where
   pub digits : All IsDigit word
   pub shortest : slice_index word 0 ≡ digit_zero → length word ≡ 1
 
+-- how a numeral begins: some bytes, of which the first isn't a zero unless it is the only one
+pub record IsBegun (word : List ℕ) : Type 0 where
+  pub some : 0 < length word
+  pub shortest : slice_index word 0 ≡ digit_zero → length word ≡ 1
+
 -- the number that a numeral writes
 abbrev pub numeral_value : List ℕ → ℕ
 numeral_value = digits_value 10

@@ -2,7 +2,7 @@ ghost use Rattle.std.specs.Option.{SomeIff};
 ghost use Rattle.std.specs.Char.{digit_value};
 ghost use Rattle.std.specs.Prelude.{◌≡◌, ◌↔◌, ◌≤◌, ◌<◌, ◌+◌, ◌*◌, ◌^◌, ℕ, IfOk, IsErrOf, IsTrue};
 ghost use Rattle.std.specs.Fmt.{decimal};
-ghost use Rattle.texts.specs.Numeral.{IsDigit, IsNumeral, numeral_value, read_number};
+ghost use Rattle.texts.specs.Numeral.{IsBegun, IsDigit, IsNumeral, numeral_value, read_number};
 
 use thiserror::Error;
 
@@ -29,16 +29,56 @@ pub fn number_up_to(word: &[u8], most: u64) -> Result<u64, NumberError>
     ensures not_a_number { IsErrOf result NumberError.NotANumber ↔ ¬ (IsNumeral word.now) }
     ensures out_of_range { IsErrOf result NumberError.OutOfRange ↔ (IsNumeral word.now × (most < numeral_value word.now)) }
 {
-    if is_numeral(word) {
-        value_up_to(word, most).ok_or(NumberError::OutOfRange)
-    } else {
-        Err(NumberError::NotANumber)
+    match value_of(word) {
+        Some(value) => {
+            if value <= most {
+                Ok(value)
+            } else {
+                Err(NumberError::OutOfRange)
+            }
+        }
+        None => {
+            if is_numeral(word) {
+                Err(NumberError::OutOfRange)
+            } else {
+                Err(NumberError::NotANumber)
+            }
+        }
     }
+}
+
+/// The value of a numeral below 2^64, in one pass over it.
+#[inline(always)]
+fn value_of(word: &[u8]) -> Option<u64>
+    ensures { SomeIff result (IsNumeral word.now × (numeral_value word.now < 2 ^ 64)) (numeral_value word.now) }
+{
+    if !is_begun(word) {
+        return None;
+    }
+    let mut value = 0;
+    for byte in word {
+        if *byte < b'0' || b'9' < *byte {
+            return None;
+        }
+        value = with_digit(value, *byte)?;
+    }
+    Some(value)
 }
 
 /// Whether a word is a numeral: at least one decimal digit, and no leading zero.
 pub fn is_numeral(word: &[u8]) -> bool
     ensures { IsTrue result ↔ IsNumeral word.now }
+{
+    if !is_begun(word) {
+        return false;
+    }
+    word.iter().all(|byte| b'0' <= *byte && *byte <= b'9')
+}
+
+/// Whether there is a byte at least, and no zero leads others.
+#[inline(always)]
+fn is_begun(word: &[u8]) -> bool
+    ensures { IsTrue result ↔ IsBegun word.now }
 {
     if word.is_empty() {
         return false;
@@ -46,7 +86,7 @@ pub fn is_numeral(word: &[u8]) -> bool
     if word[0] == b'0' && word.len() > 1 {
         return false;
     }
-    word.iter().all(|byte| b'0' <= *byte && *byte <= b'9')
+    true
 }
 
 /// The value of a numeral, if it is at most `most`. `is_numeral` tells whether a word is a numeral.

@@ -1,6 +1,6 @@
 -- The rows compute.
 use Rattle.std.proofs.Common.{refl}
-use Rattle.worked_rows.specs.Row.{Prints, PrintsWithOneSilo, PrintsHashed, IsWritten, IsJudged}
+use Rattle.worked_rows.specs.Row.{Prints, PrintsWithOneSilo, PrintsWithReportsOfOne, PrintsHashed, IsWritten, IsJudged}
 use Rattle.worked_rows.specs.FirstScripts as first_scripts
 use Rattle.worked_rows.specs.Rings as rings
 use Rattle.worked_rows.specs.Transfers as transfers
@@ -125,6 +125,10 @@ cache_and_forget = refl
 pub recovery : Prints recoveries.recovery
 unfolding all_opened
 recovery = refl
+
+pub reports_of_one : PrintsWithReportsOfOne recoveries.reports_of_one
+unfolding all_opened
+reports_of_one = refl
 
 pub newer_generation : Prints recoveries.newer_generation
 unfolding all_opened

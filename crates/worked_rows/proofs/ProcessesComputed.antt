@@ -5,7 +5,9 @@ use Rattle.worked_rows.specs.FirstSilo as first
 use Rattle.worked_rows.specs.SecondSilo as second
 use Rattle.worked_rows.specs.Recovery as recovering
 use Rattle.worked_rows.specs.MissingSnapshot as missing
+use Rattle.worked_rows.specs.Parts as parts
 use Rattle.worked_rows.specs.Refused as refused
+use Rattle.worked_rows.specs.Begun as begun
 use Rattle.worked_rows.specs.Tokens as tokens
 use Rattle.worked_rows.specs.Questions as questions
 use Rattle.worked_rows.specs.Deadlines as deadlines
@@ -29,9 +31,17 @@ pub a_snapshot_missing : Writes missing.a_snapshot_missing
 unfolding all_opened
 a_snapshot_missing = (record { ip = 10 ∷ 0 ∷ 0 ∷ 2 ∷ []; port = 1000; generation = 1 }, refl, refl)
 
+pub a_range_told_in_parts : Writes parts.a_range_told_in_parts
+unfolding all_opened
+a_range_told_in_parts = (record { ip = 10 ∷ 0 ∷ 0 ∷ 2 ∷ []; port = 1000; generation = 1 }, refl, refl)
+
 pub refused_changes : Writes refused.refused_changes
 unfolding all_opened
 refused_changes = (record { ip = 10 ∷ 0 ∷ 0 ∷ 1 ∷ []; port = 1000; generation = 1 }, refl, refl)
+
+pub a_view_told : Writes begun.a_view_told
+unfolding all_opened
+a_view_told = (record { ip = 10 ∷ 0 ∷ 0 ∷ 3 ∷ []; port = 1000; generation = 2 }, refl, refl)
 
 pub a_token_carried : Writes tokens.a_token_carried
 unfolding all_opened

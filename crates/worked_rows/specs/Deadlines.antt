@@ -20,7 +20,7 @@ a_grain_given_up = record {
       ∷ codes "wake user/ann#7"
       ∷ codes "cancel user/ann#7"
       ∷ codes "cancel user/ann#7"
-      ∷ codes "letter 10.0.0.1:1000@1 10.0.0.1:1000@1 1 report 0+4294967296"
+      ∷ codes "letter 10.0.0.1:1000@1 10.0.0.1:1000@1 1 report 0+4294967296 last"
       ∷ codes "letter 10.0.0.1:1000@1 10.0.0.1:1000@1 1 deregister 2 user/ann#7 10.0.0.1:1000@1!1"
       ∷ codes "letter 10.0.0.1:1000@1 10.0.0.1:1000@1 1 register 1 user/ann#7 10.0.0.1:1000@1!1"
       ∷ codes "letter 10.0.0.1:1000@1 10.0.0.1:1000@1 1 registered 1 user/ann#7 10.0.0.1:1000@1!1"

@@ -16,7 +16,9 @@ pub mod FirstSilo
 pub mod SecondSilo
 pub mod Recovery
 pub mod MissingSnapshot
+pub mod Parts
 pub mod Refused
+pub mod Begun
 pub mod Tokens
 pub mod Questions
 pub mod Deadlines

@@ -86,6 +86,91 @@ recovery = record {
   status = 0;
 }
 
+-- a silo that reports one entry at a time is asked on, grain by grain; one grain closes on the way, and what was told before is asked for
+-- and told again
+abbrev pub reports_of_one : Row
+reports_of_one = record {
+  script = text_of_lines
+      (codes "join 10.0.0.1:1000@1 0"
+      ∷ codes "see 10.0.0.1:1000@1 1"
+      ∷ codes "settle"
+      ∷ codes "join 10.0.0.2:1000@1 2147483648"
+      ∷ codes "see 10.0.0.1:1000@1 2"
+      ∷ codes "see 10.0.0.2:1000@1 2"
+      ∷ codes "settle"
+      ∷ codes "wake 10.0.0.1:1000@1 user/f#2200000000"
+      ∷ codes "wake 10.0.0.1:1000@1 user/g#2200000001"
+      ∷ codes "wake 10.0.0.1:1000@1 user/h#2200000002"
+      ∷ codes "settle"
+      ∷ codes "kill 10.0.0.2:1000@1"
+      ∷ codes "see 10.0.0.1:1000@1 3"
+      ∷ codes "deliver 12"
+      ∷ codes "deliver 13"
+      ∷ codes "deliver 14"
+      ∷ codes "close 10.0.0.1:1000@1 user/h#2200000002"
+      ∷ codes "nudge 10.0.0.1:1000@1"
+      ∷ codes "deliver 15"
+      ∷ codes "deliver 18"
+      ∷ codes "deliver 20"
+      ∷ codes "deliver 19"
+      ∷ codes "show"
+      ∷ codes "deliver 21"
+      ∷ codes "settle"
+      ∷ codes "show"
+      ∷ []);
+  text = text_of_lines
+      (codes "view 1 joined 10.0.0.1:1000@1"
+      ∷ codes "10.0.0.1:1000@1 sees 1 next sent 1..1"
+      ∷ codes "delivered 1 query report sent 2..2"
+      ∷ codes "delivered 2 report complete"
+      ∷ codes "view 2 joined 10.0.0.2:1000@1"
+      ∷ codes "10.0.0.1:1000@1 sees 2 next"
+      ∷ codes "10.0.0.2:1000@1 sees 2 next sent 3..3"
+      ∷ codes "delivered 3 ask page sent 4..4"
+      ∷ codes "delivered 4 page installed sent 5..5"
+      ∷ codes "delivered 5 done deleted"
+      ∷ codes "started 10.0.0.1:1000@1!1 user/f#2200000000 sent 6..6"
+      ∷ codes "started 10.0.0.1:1000@1!2 user/g#2200000001 sent 7..7"
+      ∷ codes "started 10.0.0.1:1000@1!3 user/h#2200000002 sent 8..8"
+      ∷ codes "delivered 6 register registered sent 9..9"
+      ∷ codes "delivered 7 register registered sent 10..10"
+      ∷ codes "delivered 8 register registered sent 11..11"
+      ∷ codes "delivered 9 registered firm"
+      ∷ codes "delivered 10 registered firm"
+      ∷ codes "delivered 11 registered firm"
+      ∷ codes "view 3 dead 10.0.0.2:1000@1"
+      ∷ codes "10.0.0.1:1000@1 sees 3 next sent 12..12"
+      ∷ codes "delivered 12 query report sent 13..13"
+      ∷ codes "delivered 13 report more sent 14..14"
+      ∷ codes "delivered 14 query report sent 15..15"
+      ∷ codes "closing 10.0.0.1:1000@1!3 user/h#2200000002 sent 16..16"
+      ∷ codes "nudged 10.0.0.1:1000@1 sent 17..18"
+      ∷ codes "delivered 15 report more sent 19..19"
+      ∷ codes "delivered 18 query report sent 20..20"
+      ∷ codes "delivered 20 report ignored"
+      ∷ codes "delivered 19 query report sent 21..21"
+      ∷ codes "version 3"
+      ∷ codes "silo 10.0.0.1:1000@1 active seen 3 held 3"
+      ∷ codes "held 10.0.0.1:1000@1!1 user/f#2200000000 firm"
+      ∷ codes "held 10.0.0.1:1000@1!2 user/g#2200000001 firm"
+      ∷ codes "held 10.0.0.1:1000@1!3 user/h#2200000002 closing"
+      ∷ codes "silo 10.0.0.2:1000@1 dead"
+      ∷ codes "range 0+4294967296 10.0.0.1:1000@1 unsettled"
+      ∷ codes "delivered 21 report complete"
+      ∷ codes "delivered 16 deregister absent sent 22..22"
+      ∷ codes "delivered 17 deregister absent sent 23..23"
+      ∷ codes "delivered 22 absent ignored"
+      ∷ codes "delivered 23 absent ended"
+      ∷ codes "version 3"
+      ∷ codes "silo 10.0.0.1:1000@1 active seen 3 held 2"
+      ∷ codes "held 10.0.0.1:1000@1!1 user/f#2200000000 firm"
+      ∷ codes "held 10.0.0.1:1000@1!2 user/g#2200000001 firm"
+      ∷ codes "silo 10.0.0.2:1000@1 dead"
+      ∷ codes "range 0+4294967296 10.0.0.1:1000@1 settled entries 2"
+      ∷ []);
+  status = 0;
+}
+
 -- a silo that is started again replaces the older generation of its endpoint
 abbrev pub newer_generation : Row
 newer_generation = record {

@@ -29,6 +29,10 @@ Prints = PrintsUnder settings
 abbrev pub PrintsWithOneSilo : Row → Type 0
 PrintsWithOneSilo = PrintsUnder (record settings { silos = 1; places = 1 })
 
+-- so it does where each report tells one entry
+abbrev pub PrintsWithReportsOfOne : Row → Type 0
+PrintsWithReportsOfOne = PrintsUnder (record settings { report_size = 1 })
+
 -- so it does where points and grains are hashed, with two points a silo
 abbrev pub PrintsHashed : Row → Type 0
 PrintsHashed = PrintsUnder (directory_settings Sha256 2 1024)

@@ -13,7 +13,7 @@ ghost use Rattle.worked_rows.specs.Pages as pages;
 ghost use Rattle.worked_rows.specs.Recoveries as recoveries;
 ghost use Rattle.worked_rows.specs.Requests as requests;
 ghost use Rattle.worked_rows.specs.Rings as rings;
-ghost use Rattle.worked_rows.specs.Row.{Prints, PrintsWithOneSilo, PrintsHashed, IsWritten, IsJudged, IsAnswered, IsNoDump, IsADump};
+ghost use Rattle.worked_rows.specs.Row.{Prints, PrintsWithOneSilo, PrintsWithReportsOfOne, PrintsHashed, IsWritten, IsJudged, IsAnswered, IsNoDump, IsADump};
 ghost use Rattle.worked_rows.specs.Shapes as shapes;
 ghost use Rattle.worked_rows.specs.Transfers as transfers;
 ghost use Rattle.worked_rows.specs.WholeDumps as whole_dumps;
@@ -184,6 +184,13 @@ pub fn cache_and_forget()
 #[tactic(auto, using(crate::proofs::Computed::recovery))]
 pub fn recovery()
     ensures { Prints recoveries.recovery }
+{}
+
+/// A silo that reports one entry at a time is asked on, grain by grain. One grain closes on the way, and what was told before is asked for
+/// and told again.
+#[tactic(auto, using(crate::proofs::Computed::reports_of_one))]
+pub fn reports_of_one()
+    ensures { PrintsWithReportsOfOne recoveries.reports_of_one }
 {}
 
 /// A silo that is started again replaces the older generation of its endpoint.

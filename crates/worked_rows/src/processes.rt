@@ -5,7 +5,9 @@ ghost use Rattle.worked_rows.specs.FirstSilo as first;
 ghost use Rattle.worked_rows.specs.SecondSilo as second;
 ghost use Rattle.worked_rows.specs.Recovery as recovering;
 ghost use Rattle.worked_rows.specs.MissingSnapshot as missing;
+ghost use Rattle.worked_rows.specs.Parts as parts;
 ghost use Rattle.worked_rows.specs.Refused as refused;
+ghost use Rattle.worked_rows.specs.Begun as begun;
 ghost use Rattle.worked_rows.specs.Tokens as tokens;
 ghost use Rattle.worked_rows.specs.Questions as questions;
 ghost use Rattle.worked_rows.specs.Deadlines as deadlines;
@@ -36,10 +38,23 @@ pub fn a_snapshot_missing()
     ensures { Writes missing.a_snapshot_missing }
 {}
 
+/// A silo reports a range part by part, and is asked on behind what it told. A part that tells nothing, isn't in order or doesn't go on
+/// there is ignored. What is firm is told from the grain on behind which a query asks.
+#[tactic(auto, using(crate::proofs::ProcessesComputed::a_range_told_in_parts))]
+pub fn a_range_told_in_parts()
+    ensures { Writes parts.a_range_told_in_parts }
+{}
+
 /// A refusal changes nothing.
 #[tactic(auto, using(crate::proofs::ProcessesComputed::refused_changes))]
 pub fn refused_changes()
     ensures { Writes refused.refused_changes }
+{}
+
+/// A silo is told a view in place of all changes up to it: what is refused before and after that, its join, and its first sight.
+#[tactic(auto, using(crate::proofs::ProcessesComputed::a_view_told))]
+pub fn a_view_told()
+    ensures { Writes begun.a_view_told }
 {}
 
 /// A process that was started with a token is told of its silo's join by a line that carries it, and of all else by any.

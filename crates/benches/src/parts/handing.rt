@@ -44,9 +44,9 @@ fn measure_stage(rt: &HostRuntime, stage: &Stage) -> Result<(), Fault> {
 
 fn measure_seal(rt: &HostRuntime, sight: &Sight, holding: &Holding) -> Result<(), Fault> {
     measure_work(rt, "seal", &Work::Seal(sight, holding), ROUNDS)?;
-    let sealed = sealed(rt.alloc(), sight, holding)?;
-    match sealed.first() {
-        Some(snapshot) => measure_pages(rt, snapshot),
+    let mut sealed = sealed(rt.alloc(), sight, holding)?;
+    match sealed.pop() {
+        Some(snapshot) => measure_pages(rt, &snapshot.digested()),
         None => Err(Fault::Missing),
     }
 }

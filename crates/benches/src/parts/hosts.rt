@@ -3,7 +3,7 @@ use crate::naming::{Order, STRIDE};
 use crate::parts::COUNT;
 use crate::stopwatch::{now, report_since};
 use hash_ring::Hashing;
-use host_activations::Host;
+use host_activations::{Host, PageAsked};
 use ring_range::RingRange;
 use silo_address::GrainId;
 use std::alloc::Global;
@@ -80,11 +80,27 @@ fn start(host: &mut Host, grain: GrainId) -> Result<(), Fault> {
     Ok(())
 }
 
-// The counts of what is reported of the range.
+// How many entries a report has at most.
+const REPORT_SIZE: usize = 64;
+
+// The counts of what is reported of the range, page by page.
 fn sum_of_report(alloc: Global, host: &Host, range: &RingRange) -> Result<u64, Fault> {
     let mut sum = 0u64;
-    for entry in &host.firm_entries(alloc, Hashing::Stated, range)? {
-        sum = sum.wrapping_add(1).wrapping_add(entry.activation.count);
+    let mut asked = PageAsked {
+        hashing: Hashing::Stated,
+        range: *range,
+        after: None,
+        most: REPORT_SIZE,
+    };
+    for _page in 0..COUNT {
+        let page = host.firm_page(alloc, &asked)?;
+        for entry in &page.entries {
+            sum = sum.wrapping_add(1).wrapping_add(entry.activation.count);
+            asked.after = Some(entry.grain);
+        }
+        if page.last {
+            return Ok(sum);
+        }
     }
-    Ok(sum)
+    Err(Fault::Missing)
 }

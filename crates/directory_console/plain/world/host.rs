@@ -2,11 +2,12 @@
 
 use super::identities::{Activation, Grain, Grains, Silo};
 use super::mixer::Map;
+use super::pieces::Entry;
 use super::ring::Range;
 use std::collections::{BTreeMap, VecDeque};
 
 /// How many activations a silo may hold, and how many finds it may have outstanding.
-const MOST_ACTIVATIONS: usize = 65_536;
+const MOST_ACTIVATIONS: usize = 1_000_000;
 const MOST_FINDS: usize = 65_536;
 
 /// Of fewer activations than these a report is made by looking at each.
@@ -263,18 +264,37 @@ impl Host {
         (self.first_number..).zip(self.requests.iter().copied())
     }
 
-    /// Reports the firm activations that are hashed into the range.
-    pub fn report(&mut self, range: Range, grains: &Grains, report: &mut Vec<(Grain, Activation)>) {
-        let is_firm = |held: &&Held| held.phase == Phase::Firm;
+    /// The first firm activations that are hashed into the range and stand there behind a grain, if one is named, and whether those are
+    /// all. They stand by how far their hashes lie behind the range's start, and those of one hash in the order of grains.
+    pub fn report(&mut self, range: Range, after: Option<Grain>, most: usize, grains: &Grains) -> (Vec<Entry>, bool) {
+        let standing = |grain: Grain| (range.steps_to(grains.hash(grain)), grains.sides(grain));
+        let is_behind = |grain: Grain| after.is_none_or(|after| standing(after) < standing(grain));
+        let mut report = self.firm_from(after.map_or(range, |after| range.from(grains.hash(after))), most, grains, is_behind);
+        report.sort_unstable_by(|one, other| standing(one.0).cmp(&standing(other.0)));
+        let is_last = report.len() <= most;
+        report.truncate(most);
+        (report, is_last)
+    }
+
+    /// Those firm activations of a range that pass: all, or more than so many, and all of the last one's hash.
+    fn firm_from(&mut self, range: Range, most: usize, grains: &Grains, passes: impl Fn(Grain) -> bool) -> Vec<Entry> {
+        let firm = self.held.iter().filter(|held| held.phase == Phase::Firm);
         if self.firm.is_none() && self.held.len() < FEW {
-            let held = self.held.iter().filter(is_firm).filter(|held| range.holds(grains.hash(held.grain)));
-            return report.extend(held.map(|held| (held.grain, held.activation)));
+            let firm = firm.filter(|held| range.holds(grains.hash(held.grain)) && passes(held.grain));
+            return firm.map(|held| (held.grain, held.activation)).collect();
         }
-        let held = self.held.iter().filter(is_firm);
-        let firm = self.firm.get_or_insert_with(|| held.map(|held| (grains.key(held.grain), held.activation)).collect());
+        let firm = self.firm.get_or_insert_with(|| firm.map(|held| (grains.key(held.grain), held.activation)).collect());
         let (stretch, other) = range.key_stretches();
-        for stretch in [Some(stretch), other].into_iter().flatten() {
-            report.extend(firm.range(stretch).map(|(key, activation)| (*key as Grain, *activation)));
+        let mut listed: Vec<Entry> = Vec::new();
+        for (key, activation) in [Some(stretch), other].into_iter().flatten().flat_map(|stretch| firm.range(stretch)) {
+            let grain = *key as Grain;
+            if listed.len() > most && listed.last().is_some_and(|last| grains.hash(last.0) != grains.hash(grain)) {
+                break;
+            }
+            if passes(grain) {
+                listed.push((grain, *activation));
+            }
         }
+        listed
     }
 }

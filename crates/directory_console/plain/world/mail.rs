@@ -26,7 +26,8 @@ pub enum Body {
     Page { sealed: u32, page: u32 },
     Missing { range: Range },
     Done { range: Range },
-    Query { range: Range },
+    /// Behind that grain, if one is named.
+    Query { range: Range, after: Option<Grain> },
     /// One of the reports that were made.
     Report { report: u32 },
     Behind,

@@ -20,12 +20,17 @@ pub struct Commons {
     pub mail: Mail,
     pub sealed: Vec<Sealed>,
     pub reports: Vec<Report>,
+    /// How many entries a report has at most.
+    pub report_size: usize,
 }
 
-/// The firm activations of a silo that are hashed into a range.
+/// The first firm activations of a silo that are hashed into a range and stand there behind a grain, if one is named, and whether those
+/// are all.
 pub struct Report {
     pub range: Range,
+    pub after: Option<Grain>,
     pub entries: Box<[Entry]>,
+    pub is_last: bool,
 }
 
 pub struct Node {
@@ -219,13 +224,13 @@ impl Node {
     pub fn post_wants(&self, commons: &mut Commons) {
         for piece in &self.pieces.0 {
             let range = piece.range;
-            match piece.state {
+            match &piece.state {
                 State::Settled => {}
-                State::Awaiting { from, page } => commons.mail.post(self.letter(from, 0, Body::Ask { range, page })),
-                State::Recovering { of, .. } => {
+                State::Awaiting { from, page } => commons.mail.post(self.letter(*from, 0, Body::Ask { range, page: *page })),
+                State::Recovering { of, told, .. } => {
                     let Commons { views, mail, .. } = &mut *commons;
                     let awaited = views.by_address.iter().filter(|silo| of.contains(**silo));
-                    awaited.for_each(|silo| mail.post(self.letter(*silo, 0, Body::Query { range })));
+                    awaited.for_each(|silo| mail.post(self.letter(*silo, 0, Body::Query { range, after: told.get(silo).copied() })));
                 }
             }
         }
@@ -248,8 +253,8 @@ impl Node {
             Body::Page { sealed, page } => self.take_page(commons, letter, sealed, page),
             Body::Missing { range } => self.take_missing(commons, letter, range),
             Body::Done { range } => Ok(self.take_done(commons, letter, range)),
-            Body::Query { range } => self.answer_query(commons, letter, range),
-            Body::Report { report } => Ok(self.take_report(commons, letter, report)),
+            Body::Query { range, after } => self.answer_query(commons, letter, range, after),
+            Body::Report { report } => self.take_report(commons, letter, report),
             Body::Behind | Body::Ahead => Ok(Effect::Noted),
             Body::Offer { grain, activation } => self.take_offer(commons, letter, grain, activation),
         }

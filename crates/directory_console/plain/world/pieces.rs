@@ -17,8 +17,9 @@ pub enum State {
     Settled,
     /// It awaits the page of that number of the previous owner's snapshot.
     Awaiting { from: Silo, page: u32 },
-    /// It awaits the reports of silos; what came of the others stands in the order in which it came.
-    Recovering { of: SiloSet, reported: Vec<(u64, Activation)> },
+    /// It awaits the last reports of silos, each behind the grain up to which its silo has told, if it has told of any; what came of all
+    /// silos stands in the order in which it came.
+    Recovering { of: SiloSet, told: BTreeMap<Silo, Grain>, reported: Vec<(u64, Activation)> },
 }
 
 pub struct Piece {
@@ -53,6 +54,11 @@ impl Range {
 }
 
 impl State {
+    /// It awaits the first reports of these silos.
+    pub fn recovering(of: SiloSet) -> State {
+        State::Recovering { of, told: BTreeMap::new(), reported: Vec::new() }
+    }
+
     pub fn is_settled(&self) -> bool {
         matches!(self, State::Settled)
     }

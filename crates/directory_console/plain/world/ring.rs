@@ -2,6 +2,7 @@
 
 use super::identities::{Address, Silo};
 use super::views::{Version, Views};
+use std::collections::BTreeMap;
 use std::rc::{Rc, Weak};
 
 /// A range with at least one hash: where it starts, and how many steps forward its last hash comes.
@@ -34,7 +35,7 @@ pub struct Ring {
 /// The rings that are in use: silos that have seen the same version share its ring.
 #[derive(Default)]
 pub struct Rings {
-    by_version: Vec<Weak<Ring>>,
+    by_version: BTreeMap<Version, Weak<Ring>>,
 }
 
 impl Range {
@@ -44,6 +45,11 @@ impl Range {
 
     pub fn holds(&self, hash: u32) -> bool {
         hash.wrapping_sub(self.start) <= self.last
+    }
+
+    /// How many steps forward from the start a hash comes.
+    pub fn steps_to(&self, hash: u32) -> u32 {
+        hash.wrapping_sub(self.start)
     }
 
     /// The hash behind the last one.
@@ -100,7 +106,7 @@ impl Ring {
 
     /// The ranges of a silo, in the order of places.
     pub fn ranges_of(&self, silo: Silo) -> impl Iterator<Item = Range> + '_ {
-        let silo = usize::from(silo);
+        let silo = silo as usize;
         let indices = match (self.firsts.get(silo), self.firsts.get(silo + 1)) {
             (Some(first), Some(end)) => &self.indices[*first as usize..*end as usize],
             _ => &[],
@@ -132,7 +138,7 @@ impl Ring {
         let mut new = new_points(seen, version, views).into_iter().peekable();
         let stays: Vec<bool> = (0..views.rows.len()).map(|silo| views.is_active(silo as Silo, version)).collect();
         let mut points = Vec::with_capacity(self.points.len() + new.len());
-        for point in self.points.iter().filter(|point| stays[usize::from(point.silo)]) {
+        for point in self.points.iter().filter(|point| stays[point.silo as usize]) {
             points.extend(std::iter::from_fn(|| new.next_if(|new| new.is_before(point, views))));
             points.push(*point);
         }
@@ -178,12 +184,12 @@ fn new_points(seen: Version, version: Version, views: &Views) -> Vec<Point> {
 /// The indices grouped by owner, each group in order, and where the group of each silo begins; that of the last one ends with them.
 fn grouped(owners: &[Silo], silos: usize) -> (Vec<u32>, Vec<u32>) {
     let mut firsts = vec![0; silos + 1];
-    owners.iter().for_each(|owner| firsts[usize::from(*owner) + 1] += 1);
+    owners.iter().for_each(|owner| firsts[*owner as usize + 1] += 1);
     (0..silos).for_each(|silo| firsts[silo + 1] += firsts[silo]);
     let mut next = firsts.clone();
     let mut indices = vec![0; owners.len()];
     for (owner, index) in owners.iter().zip(0..) {
-        let place = &mut next[usize::from(*owner)];
+        let place = &mut next[*owner as usize];
         indices[*place as usize] = index;
         *place += 1;
     }
@@ -194,19 +200,16 @@ impl Rings {
     /// The ring of a version: the one in use, or one made of that of the version before, if that is in use, or of the nearest one
     /// that the caller has.
     pub fn at(&mut self, version: Version, views: &Views, near: &Ring, near_version: Version) -> Rc<Ring> {
-        let at = version as usize;
-        if self.by_version.len() <= at {
-            self.by_version.resize_with(at + 1, Weak::new);
-        }
-        if let Some(ring) = self.by_version[at].upgrade() {
+        let in_use = |version: &Version| self.by_version.get(version).and_then(Weak::upgrade);
+        if let Some(ring) = in_use(&version) {
             return ring;
         }
-        let before = at.checked_sub(1).and_then(|before| self.by_version[before].upgrade());
+        let before = version.checked_sub(1).as_ref().and_then(in_use);
         let ring = Rc::new(match before {
             Some(before) => before.advanced(version - 1, version, views),
             None => near.advanced(near_version, version, views),
         });
-        self.by_version[at] = Rc::downgrade(&ring);
+        self.by_version.insert(version, Rc::downgrade(&ring));
         ring
     }
 }

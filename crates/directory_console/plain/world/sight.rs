@@ -51,7 +51,7 @@ impl Node {
             match other {
                 _ if self.pieces.are_settled_throughout(part) => State::Settled,
                 Some(from) => State::Awaiting { from, page: 0 },
-                None => State::Recovering { of: members, reported: Vec::new() },
+                None => State::recovering(members),
             }
         };
         let mut pieces = Vec::new();

@@ -1,6 +1,7 @@
 //! What silos do with the letters by which ranges are handed over or recovered.
 
 use super::Effect;
+use super::identities::Grain;
 use super::mail::{Body, Letter};
 use super::node::{Commons, Node, Report, Step};
 use super::pieces::{Piece, State};
@@ -72,50 +73,60 @@ impl Node {
             return Ok(Effect::Ignored);
         };
         commons.mail.has_room_for(of.len())?;
-        piece.state = State::Recovering { of, reported: Vec::new() };
+        piece.state = State::recovering(of);
         let Commons { views, mail, .. } = commons;
         for silo in views.by_address.iter().filter(|silo| of.contains(**silo)) {
-            mail.post(Letter::new(self.silo, *silo, self.seen, 0, Body::Query { range }));
+            mail.post(Letter::new(self.silo, *silo, self.seen, 0, Body::Query { range, after: None }));
         }
         Ok(Effect::Recovering)
     }
 
-    /// The firm activations of a range, where the silo has seen just the query's version.
-    pub fn answer_query(&mut self, commons: &mut Commons, letter: &Letter, range: Range) -> Step<Effect> {
+    /// The first firm activations of a range behind a grain, where the silo has seen just the query's version.
+    pub fn answer_query(&mut self, commons: &mut Commons, letter: &Letter, range: Range, after: Option<Grain>) -> Step<Effect> {
         commons.mail.has_room_for(1)?;
         let (body, effect) = if self.seen < letter.version {
             (Body::Behind, Effect::Behind)
         } else if self.seen > letter.version {
             (Body::Ahead, Effect::Ahead)
         } else {
-            let mut entries = Vec::new();
-            self.host.report(range, &commons.grains, &mut entries);
-            commons.reports.push(Report { range, entries: entries.into_boxed_slice() });
+            let (entries, is_last) = self.host.report(range, after, commons.report_size, &commons.grains);
+            commons.reports.push(Report { range, after, entries: entries.into_boxed_slice(), is_last });
             (Body::Report { report: commons.reports.len() as u32 - 1 }, Effect::Report)
         };
         commons.mail.post(letter.answer(body));
         Ok(effect)
     }
 
-    /// A report counts once of each silo; with the last one the piece is settled. Of two entries of a grain the first stays.
-    pub fn take_report(&mut self, commons: &Commons, letter: &Letter, report: u32) -> Effect {
-        let report = &commons.reports[report as usize];
+    /// A report counts if it goes on behind the grain up to which its silo has told. Before a silo's last one the next is asked for; with
+    /// the last one of all silos the piece is settled. Of two entries of a grain the first stays.
+    pub fn take_report(&mut self, commons: &mut Commons, letter: &Letter, report: u32) -> Step<Effect> {
+        let Commons { grains, mail, reports, .. } = commons;
+        let report = &reports[report as usize];
         let piece = self.pieces.of_range(report.range).filter(|_| letter.version == self.seen);
         let Some(Piece { state: state @ State::Recovering { .. }, .. }) = piece else {
-            return Effect::Ignored;
+            return Ok(Effect::Ignored);
         };
-        let State::Recovering { of, reported } = state else { unreachable!() };
-        if !of.remove(letter.from) {
-            return Effect::Ignored;
+        let State::Recovering { of, told, reported } = state else { unreachable!() };
+        let goes_on = of.contains(letter.from) && told.get(&letter.from).copied() == report.after;
+        if !goes_on {
+            return Ok(Effect::Ignored);
         }
-        reported.extend(report.entries.iter().map(|(grain, activation)| (commons.grains.key(*grain), *activation)));
+        mail.has_room_for(usize::from(!report.is_last))?;
+        reported.extend(report.entries.iter().map(|(grain, activation)| (grains.key(*grain), *activation)));
+        if let Some((last, _)) = report.entries.last().filter(|_| !report.is_last) {
+            told.insert(letter.from, *last);
+            mail.post(letter.answer(Body::Query { range: report.range, after: Some(*last) }));
+            return Ok(Effect::More);
+        }
+        of.remove(letter.from);
+        told.remove(&letter.from);
         if of.len() > 0 {
-            return Effect::More;
+            return Ok(Effect::More);
         }
         reported.sort_by_key(|entry| entry.0);
         reported.dedup_by_key(|entry| entry.0);
         self.table.extend(std::mem::take(reported));
         *state = State::Settled;
-        Effect::Complete
+        Ok(Effect::Complete)
     }
 }

@@ -10,6 +10,8 @@ const fn options(hashing: Hashing, points: usize, cache: usize) -> Options {
         hashing,
         points,
         cache,
+        activations: 1_000_000,
+        report_size: 64,
     }
 }
 
@@ -87,6 +89,31 @@ fn lines_that_are_accepted(rt: HostRuntime) {
     for (words, hashing, points, cache) in &ACCEPTED {
         let given = answer(rt.alloc(), *words);
         assert!(rt; given == Ok(Line::Play(options(*hashing, *points, *cache))));
+    }
+}
+
+// A line with limits of a silo, and how many activations and entries of a report it chooses.
+const LIMITED: [(&'static [&'static str], usize, usize); 5] = [
+    (&["g", "play", "--activations", "1"], 1, 64),
+    (&["g", "play", "--activations=16777216"], 16_777_216, 64),
+    (&["g", "play", "--report-size", "1"], 1_000_000, 1),
+    (&["g", "play", "--report-size=63"], 1_000_000, 63),
+    (
+        &["g", "play", "--report-size", "2", "--activations", "+03"],
+        3,
+        2,
+    ),
+];
+
+#[test]
+fn lines_with_limits(rt: HostRuntime) {
+    for (words, activations, report_size) in &LIMITED {
+        let chosen = Options {
+            activations: *activations,
+            report_size: *report_size,
+            ..options(Hashing::Sha256, 30, 1024)
+        };
+        assert!(rt; answer(rt.alloc(), *words) == Ok(Line::Play(chosen)));
     }
 }
 
@@ -244,10 +271,12 @@ const HELP_OF_PLAY: &str = "Play a cluster's script, read from standard input
 Usage: grain-directory play [OPTIONS]
 
 Options:
-      --hashing <HASHING>  How points and grains are hashed: by their texts, or as the script states [default: sha256] [possible values: sha256, stated]
-      --points <POINTS>    How many points a silo has under sha256, from 1 to 128 [default: 30]
-      --cache <CACHE>      How many hints a silo's cache keeps, from 1 to 65536 [default: 1024]
-  -h, --help               Print help
+      --hashing <HASHING>          How points and grains are hashed: by their texts, or as the script states [default: sha256] [possible values: sha256, stated]
+      --points <POINTS>            How many points a silo has under sha256, from 1 to 128 [default: 30]
+      --cache <CACHE>              How many hints a silo's cache keeps, from 1 to 65536 [default: 1024]
+      --activations <ACTIVATIONS>  How many activations a silo may hold, from 1 to 16777216 [default: 1000000]
+      --report-size <ENTRIES>      How many entries a silo tells in one report, from 1 to 64 [default: 64]
+  -h, --help                       Print help
 ";
 
 const HELP_OF_SILO: &str =
@@ -259,11 +288,13 @@ Arguments:
   <ADDR>  The silo: a.b.c.d:port@generation
 
 Options:
-      --join <TOKEN>       Join by the line that carries this token, and by no other: 1 to 64 visible ASCII bytes
-      --hashing <HASHING>  How points and grains are hashed: by their texts, or as the script states [default: sha256] [possible values: sha256, stated]
-      --points <POINTS>    How many points a silo has under sha256, from 1 to 128 [default: 30]
-      --cache <CACHE>      How many hints a silo's cache keeps, from 1 to 65536 [default: 1024]
-  -h, --help               Print help
+      --join <TOKEN>               Join by the line that carries this token, and by no other: 1 to 64 visible ASCII bytes
+      --hashing <HASHING>          How points and grains are hashed: by their texts, or as the script states [default: sha256] [possible values: sha256, stated]
+      --points <POINTS>            How many points a silo has under sha256, from 1 to 128 [default: 30]
+      --cache <CACHE>              How many hints a silo's cache keeps, from 1 to 65536 [default: 1024]
+      --activations <ACTIVATIONS>  How many activations a silo may hold, from 1 to 16777216 [default: 1000000]
+      --report-size <ENTRIES>      How many entries a silo tells in one report, from 1 to 64 [default: 64]
+  -h, --help                       Print help
 ";
 
 const VERSION: &str = "grain-directory 0.1.0\n";

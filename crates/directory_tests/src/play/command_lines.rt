@@ -105,6 +105,77 @@ dead
     }
 }
 
+// A silo's process that is told a view in place of all changes up to it.
+#[test]
+fn a_view_told(rt: HostRuntime) {
+    let silo: [&str; 5] = ["g", "silo", "10.0.0.3:1000@2", "--hashing", "stated"];
+    let input = "leaving 0 10.0.0.1:1000@1
+view 4611686018427387904
+view 0 10.0.0.1:1000@1:active:0
+view 5 10.0.0.1:1000@1:active:0 10.0.0.1:1000@2:dead
+view 5 10.0.0.1:1000@1:active
+view 5 10.0.0.1:1000@1:dead:7
+view 5 10.0.0.3:1000@2:dead
+view 5 10.0.0.3:1000@3:dead
+view 5 10.0.0.1:1000@1:active:0 10.0.0.2:1000@4:dead 10.0.0.3:1000@1:leaving:9
+view 5 10.0.0.1:1000@1:active:0 10.0.0.2:1000@4:dead 10.0.0.3:1000@1:leaving:9
+show
+joined 5 10.0.0.1:1000@1 0
+dead 1 10.0.0.2:1000@4
+leaving 0 10.0.0.3:1000@1
+dead 7 10.0.0.1:1000@1
+joined 6 10.0.0.2:1000@4 7
+joined 6 10.0.0.2:1000@5
+dead 6 10.0.0.2:1000@4
+leaving 6 10.0.0.3:1000@1
+joined 6 10.0.0.3:1000@2 2147483648
+joined 6 10.0.0.3:1000@2 2147483648
+joined 6 10.0.0.3:1000@2 7
+see 5
+see 6
+joined 7 10.0.0.2:1000@5 7
+show
+";
+    let output = "refused 207
+refused 210
+refused 210
+refused 210
+refused 403
+refused 402
+refused 201
+refused 201
+view 5 begins
+refused 211
+version 5
+silo 10.0.0.3:1000@2 unknown seen 0 held 0
+refused 212
+refused 212
+refused 207
+refused 206
+refused 201
+refused 403
+refused 204
+refused 203
+view 6 joined 10.0.0.3:1000@2 dead 10.0.0.3:1000@1
+known 6
+refused 207
+refused 904
+10.0.0.3:1000@2 sees 6 next
+letter 10.0.0.3:1000@2 10.0.0.1:1000@1 6 ask 2147483648+2147483648 0
+view 7 joined 10.0.0.2:1000@5
+version 7
+silo 10.0.0.3:1000@2 active seen 6 held 0
+range 2147483648+2147483648 awaiting 10.0.0.1:1000@1
+";
+    check_course(
+        &rt,
+        rt.alloc(),
+        (&silo, input.as_bytes()),
+        (1000, 1000),
+        (0, output, ""),
+    );
+}
+
 // The places are the first four bytes of the SHA-256 of the silo's text with `#0`, `#1` and so on; with 30 points three of them
 // are those of `#2`, `#3` and `#29`.
 #[test]

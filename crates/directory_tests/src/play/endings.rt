@@ -1,26 +1,9 @@
-//! How plays begin and end: the numbers of points and of hints, and faults.
+//! How plays begin and end: the numbers of points, and faults.
 
 use crate::play::plays::{check_play, check_prints};
-use console_command::play_to_new_cluster;
 use hash_ring::Hashing;
 use std::alloc::Global;
 use std::process::Abort;
-
-// Where the number of points or of hints is out of its range, nothing is read and nothing written.
-fn check_numbers(rt: &impl Abort, alloc: Global, points: usize, cache: usize) {
-    let mut reader: &[u8] = b"show\n";
-    let mut written = Vec::new(alloc);
-    let hashing = Hashing::Stated;
-    let ended = play_to_new_cluster(alloc, hashing, points, cache, &mut reader, &mut written);
-    assert!(rt; ended.is_none() && reader.len() == 5 && written.is_empty());
-}
-
-#[test]
-fn numbers_out_of_range(rt: HostRuntime) {
-    check_numbers(&rt, rt.alloc(), 0, 1024);
-    check_numbers(&rt, rt.alloc(), 129, 1024);
-    check_numbers(&rt, rt.alloc(), 30, 65_537);
-}
 
 const HASHED: &[u8] = b"join 10.0.0.1:1000@1 0\njoin 10.0.0.1:1000@1\nowner 2737053157\nshow";
 

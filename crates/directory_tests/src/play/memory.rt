@@ -1,11 +1,12 @@
 //! Dumps read and written, and rows played, where any one allocation may be refused (`tools/refuse-tests`, --fail-alloc): a second call
 //! reads the dump, and a play has ended with a beginning of its text.
 
+use crate::play::plays::new_cluster;
 use crate::play::read_dumps::{
     CODED, CUT, HASHED, MORE_MEMBERS, ONE, OTHER_ORDER, QUOTED, TWO, UNMADE_VERSION,
 };
 use crate::play::rows::Row;
-use console_command::play_to_new_cluster;
+use console_command::play;
 use hash_ring::Hashing;
 use line_loop::Ended;
 use rebuild_checker::{Dump, DumpError, read_dump, write_dump};
@@ -34,9 +35,8 @@ fn with_room(rt: &(impl Abort + Eprint), alloc: Global) -> Vec<u8> {
 pub(crate) fn is_played(rt: &(impl Abort + Eprint), alloc: Global, row: Row) -> bool {
     let mut reader = row.script.as_bytes();
     let mut written = with_room(rt, alloc);
-    let hashing = Hashing::Stated;
-    let ended = play_to_new_cluster(alloc, hashing, 30, 1024, &mut reader, &mut written);
-    match ended.expect(rt, "1 to 128 points") {
+    let world = new_cluster(rt, alloc, (Hashing::Stated, 30));
+    match play(alloc, world, &mut reader, &mut written) {
         Ended::OutOfMemory => {
             notice(rt, "a play");
             row.out.as_bytes().starts_with(&written)

@@ -2,10 +2,11 @@
 //! one written.
 
 use crate::fakes::{SparseReader, SparseWriter};
-use console_command::play_to_new_cluster;
+use crate::play::plays::new_cluster;
 use hash_ring::Hashing;
 use line_loop::{Ended, ScriptLineFault};
 use std::alloc::Global;
+use std::process::Abort;
 
 // The script of `examples/every-command.script` without its remarks, and what it prints.
 const SCRIPT: &str = "join 10.0.0.1:1000@1 0
@@ -118,7 +119,12 @@ range 0+4294967296 10.0.0.1:1000@1 unsettled
 ";
 
 // Plays the script where the read after so many fails, and the write after so many: the ending, and what was written.
-fn play(alloc: Global, reads: u64, writes: u64) -> (Option<Ended<ScriptLineFault>>, Vec<u8>) {
+fn play(
+    rt: &impl Abort,
+    alloc: Global,
+    reads: u64,
+    writes: u64,
+) -> (Ended<ScriptLineFault>, Vec<u8>) {
     let mut reader = SparseReader {
         rest: SCRIPT.as_bytes(),
         most: 1,
@@ -127,22 +133,21 @@ fn play(alloc: Global, reads: u64, writes: u64) -> (Option<Ended<ScriptLineFault
     let mut writer = SparseWriter::willing(alloc);
     writer.most = 1;
     writer.writes = writes;
-    let ended = play_to_new_cluster(alloc, Hashing::Stated, 30, 1024, &mut reader, &mut writer);
+    let world = new_cluster(rt, alloc, (Hashing::Stated, 30));
+    let ended = console_command::play(alloc, world, &mut reader, &mut writer);
     (ended, writer.taken)
 }
 
 // Whether the play breaks at the write after so many, and all that those took is there.
-fn breaks_at_write(alloc: Global, writes: u64) -> bool {
-    let (ended, taken) = play(alloc, u64::MAX, writes);
-    ended == Some(Ended::Broken)
-        && taken.len() as u64 == writes
-        && TEXT.as_bytes().starts_with(&taken)
+fn breaks_at_write(rt: &impl Abort, alloc: Global, writes: u64) -> bool {
+    let (ended, taken) = play(rt, alloc, u64::MAX, writes);
+    ended == Ended::Broken && taken.len() as u64 == writes && TEXT.as_bytes().starts_with(&taken)
 }
 
 // Whether it breaks at the read after so many, and whole lines are there, which are a beginning.
-fn breaks_at_read(alloc: Global, reads: u64) -> bool {
-    let (ended, taken) = play(alloc, reads, u64::MAX);
-    ended == Some(Ended::Broken)
+fn breaks_at_read(rt: &impl Abort, alloc: Global, reads: u64) -> bool {
+    let (ended, taken) = play(rt, alloc, reads, u64::MAX);
+    ended == Ended::Broken
         && TEXT.as_bytes().starts_with(&taken)
         && (taken.is_empty() || taken.ends_with(b"\n"))
 }
@@ -150,7 +155,7 @@ fn breaks_at_read(alloc: Global, reads: u64) -> bool {
 #[test]
 fn each_write_fails(rt: HostRuntime) {
     for writes in 0..TEXT.len() as u64 {
-        assert!(rt; breaks_at_write(rt.alloc(), writes), "{writes}");
+        assert!(rt; breaks_at_write(&rt, rt.alloc(), writes), "{writes}");
     }
 }
 
@@ -158,12 +163,12 @@ fn each_write_fails(rt: HostRuntime) {
 #[test]
 fn each_read_fails(rt: HostRuntime) {
     for reads in 0..=SCRIPT.len() as u64 {
-        assert!(rt; breaks_at_read(rt.alloc(), reads), "{reads}");
+        assert!(rt; breaks_at_read(&rt, rt.alloc(), reads), "{reads}");
     }
 }
 
 #[test]
 fn nothing_fails(rt: HostRuntime) {
-    let (ended, taken) = play(rt.alloc(), u64::MAX, u64::MAX);
-    assert!(rt; ended == Some(Ended::AtEnd) && taken.as_slice() == TEXT.as_bytes());
+    let (ended, taken) = play(&rt, rt.alloc(), u64::MAX, u64::MAX);
+    assert!(rt; ended == Ended::AtEnd && taken.as_slice() == TEXT.as_bytes());
 }

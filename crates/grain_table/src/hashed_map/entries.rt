@@ -1,33 +1,57 @@
 //! The entries of a map, one after another.
-ghost use Rattle.std.specs.Prelude.{◌≡◌, length};
+ghost use Rattle.std.specs.Prelude.{◌≡◌, ◌∷◌, [], length, MatchOption};
 ghost use Rattle.std.specs.Iterator.{at_most};
 ghost use Rattle.std.specs.Map.Iter.{TakesFirst};
+ghost use Rattle.grain_table.specs.Buckets.{joined};
 
 use super::HashedMap;
-use super::key_bytes::key_in;
+use super::bucket::Bucket;
+use super::slot::Slot;
 use crate::hashed_grain::HashedGrain;
 use silo_address::ActivationId;
-use std::boxed::BoxedSlice;
-use std::collections::btree_map::Range;
 use std::marker::Model;
-use std::ops::Bound;
 
-/// Some entries of a map, in its order.
+/// The entries of some buckets of a map, in its order.
 #[derive(Drop)]
 pub(crate) struct Entries<'a> {
-    pub(super) left: Range<'a, BoxedSlice<u8>, ActivationId>,
+    left: &'a [Slot],
+    later: &'a [Bucket],
 }
 
 impl<'a> Model for Entries<'a> {
-    ghost use Rattle.std.specs.Box.{boxed_slice_items};
+    ghost use Rattle.std.specs.Prelude.{◌++◌};
+    ghost use Rattle.grain_table.specs.Buckets.{joined};
     ghost use Rattle.grain_table.specs.Hashed.{Hashed};
-    ghost use Rattle.grain_table.specs.KeyBytes.{AreKeyBytes, hashed_in};
 
     ghost Value = { Hashed };
 
-    ghost view = { λ s. hashed_in boxed_slice_items s.left };
+    ghost view = { λ s. s.left.now ++ joined s.later.now };
+}
 
-    ghost invariant = { λ s. AreKeyBytes boxed_slice_items s.left };
+impl<'a> Entries<'a> {
+    /// Those of these buckets.
+    pub(super) fn of(buckets: &'a [Bucket]) -> Entries<'a>
+        ensures { result ≡ joined buckets.now }
+    {
+        Entries {
+            left: &[],
+            later: buckets,
+        }
+    }
+
+    /// Takes the slot of the first one, whose grain isn't read.
+    pub(super) fn take_slot(&mut self) -> Option<&'a Slot>
+        ensures { MatchOption result ((self.old ≡ []) × (self.new ≡ [])) (λ slot. self.old ≡ slot.now ∷ self.new) }
+    {
+        'empty: while self.left.is_empty() {
+            let (bucket, later) = self.later.split_first()?;
+            self.left = bucket.slots();
+            self.later = later;
+        }
+        let (slot, left) = self.left.split_first()?;
+        self.left = left;
+        Some(slot)
+    }
 }
 
 impl<'a> Iterator for Entries<'a> {
@@ -38,8 +62,8 @@ impl<'a> Iterator for Entries<'a> {
     ghost remaining = { λ s. at_most (length s) };
 
     fn next(&mut self) -> Option<(HashedGrain, ActivationId)> {
-        match self.left.next() {
-            Some((bytes, activation)) => Some((key_in(bytes.as_slice()), *activation)),
+        match self.take_slot() {
+            Some(slot) => Some((slot.key(), slot.activation())),
             None => None,
         }
     }
@@ -50,12 +74,6 @@ impl HashedMap {
     pub(crate) fn iter(&self) -> Entries<'_>
         ensures { result ≡ self.now }
     {
-        let whole: (Bound<BoxedSlice<u8>>, Bound<BoxedSlice<u8>>) = (
-            Bound::Unbounded,
-            Bound::Unbounded,
-        );
-        Entries {
-            left: self.map.range(whole),
-        }
+        Entries::of(&self.buckets)
     }
 }

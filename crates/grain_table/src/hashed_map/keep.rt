@@ -1,50 +1,104 @@
 //! Some entries of a map stay, and the others go.
-ghost use Rattle.std.specs.Prelude.{◌≡◌, filter, not};
+ghost use Rattle.std.specs.Prelude.{◌≡◌, ◌≤◌, ◌+◌, filter, length, map, nat_lt, not};
 ghost use Rattle.directory_rules.specs.Members.{is_dead_in};
 ghost use Rattle.hash_ring.specs.Hash.{hash_grain};
 ghost use Rattle.ring_range.specs.Range.{holds};
-ghost use Rattle.silo_address.specs.ReadGrain.{read_grain};
-ghost use Rattle.grain_table.specs.KeyBytes.{is_read_as};
+ghost use Rattle.grain_table.specs.Buckets.{AreCut, joined};
 
 use super::HashedMap;
-use super::key_bytes::{hash_in, text_in};
-use crate::alive::is_dead_in;
+use super::bucket::Bucket;
+use super::search::cuts_before;
 use hash_ring::Hashing;
 use membership_view::View;
 use ring_range::RingRange;
-use silo_address::GrainId;
 
 impl HashedMap {
+    /// Keeps what stands under hashes before the end. Costs a logarithm, and to free what goes.
+    pub(crate) fn keep_before(&mut self, end: u64)
+        ensures { self.new ≡ filter (λ e. nat_lt e.0.hash end) self.old }
+    {
+        let most = self.len;
+        self.len -= drop_behind(&mut self.cuts, &mut self.buckets, end, most);
+    }
+
     /// Keeps what stands under hashes of the range.
     pub(crate) fn keep_in(&mut self, range: &RingRange)
         ensures { self.new ≡ filter (λ e. holds range.now e.0.hash) self.old }
     {
-        self.map
-            .retain(|bytes, _| range.contains(hash_in(bytes.as_slice())));
+        let most = self.len;
+        keep_each_in(&mut self.buckets, range);
+        self.len = count(&self.buckets, most);
     }
 
     /// Keeps the grains that are hashed into the range.
     pub(crate) fn keep_hashed_into(&mut self, hashing: Hashing, range: &RingRange)
         ensures { self.new ≡ filter (λ e. holds range.now (hash_grain hashing e.0.grain)) self.old }
     {
-        self.map.retain(|bytes, _| is_hashed_into(hashing, range, text_in(bytes.as_slice())));
+        let most = self.len;
+        keep_each_hashed_into(&mut self.buckets, hashing, range);
+        self.len = count(&self.buckets, most);
     }
 
     /// Keeps the activations on silos that aren't Dead in the view.
     pub(crate) fn remove_dead(&mut self, view: &View)
         ensures { self.new ≡ filter (λ e. not (is_dead_in view.now e.1.silo)) self.old }
     {
-        self.map
-            .retain(|_, activation| !is_dead_in(view, &activation.silo));
+        let most = self.len;
+        remove_each_dead(&mut self.buckets, view);
+        self.len = count(&self.buckets, most);
     }
 }
 
-// Whether the text is that of a grain which is hashed into the range.
-fn is_hashed_into(hashing: Hashing, range: &RingRange, text: &[u8]) -> bool
-    ensures { result ≡ is_read_as (λ grain. holds range.now (hash_grain hashing grain)) (read_grain text.now) }
+// Takes out what stands under the end or higher hashes, of at most so many entries, and answers by how many there are fewer.
+fn drop_behind(cuts: &mut Vec<u32>, buckets: &mut Vec<Bucket>, end: u64, most: usize) -> usize
+    requires cut { AreCut cuts.old.items buckets.old.items }
+    requires most { length (joined buckets.old.items) ≤ most }
+    ensures entries { joined buckets.new.items ≡ filter (λ e. nat_lt e.0.hash end) (joined buckets.old.items) }
+    ensures cut { AreCut cuts.new.items buckets.new.items }
+    ensures fewer { length (joined buckets.new.items) + result ≡ length (joined buckets.old.items) }
 {
-    match GrainId::parse(text) {
-        Ok(grain) => range.contains(hashing.hash_grain(&grain)),
-        Err(_) => false,
+    let index = cuts_before(cuts, end);
+    if buckets.len() <= index {
+        return 0;
     }
+    let behind = count(&buckets[index + 1..], most);
+    cuts.truncate(index);
+    buckets.truncate(index + 1);
+    behind + buckets[index].keep_before(end)
+}
+
+fn keep_each_in(buckets: &mut Vec<Bucket>, range: &RingRange)
+    ensures { buckets.new.items ≡ map (λ bucket. filter (λ e. holds range.now e.0.hash) bucket) buckets.old.items }
+{
+    'buckets: for bucket in buckets.iter_mut() {
+        bucket.keep_in(range);
+    }
+}
+
+fn keep_each_hashed_into(buckets: &mut Vec<Bucket>, hashing: Hashing, range: &RingRange)
+    ensures { buckets.new.items ≡ map (λ bucket. filter (λ e. holds range.now (hash_grain hashing e.0.grain)) bucket) buckets.old.items }
+{
+    'buckets: for bucket in buckets.iter_mut() {
+        bucket.keep_hashed_into(hashing, range);
+    }
+}
+
+fn remove_each_dead(buckets: &mut Vec<Bucket>, view: &View)
+    ensures { buckets.new.items ≡ map (λ bucket. filter (λ e. not (is_dead_in view.now e.1.silo)) bucket) buckets.old.items }
+{
+    'buckets: for bucket in buckets.iter_mut() {
+        bucket.remove_dead(view);
+    }
+}
+
+// How many entries the buckets have, of which there are at most so many.
+fn count(buckets: &[Bucket], most: usize) -> usize
+    requires { length (joined buckets.now) ≤ most }
+    ensures { result ≡ length (joined buckets.now) }
+{
+    let mut count = 0;
+    'buckets: for bucket in buckets {
+        count += bucket.len();
+    }
+    count
 }

@@ -1,21 +1,15 @@
 //! Entries of a table that lie in a range stay, and the others go.
-ghost use Rattle.std.specs.Bool.{OnFalse, OnTrue};
-ghost use Rattle.std.specs.Prelude.{◌≡◌, ◌<◌, ◌++◌, [], ◌∷◌, false, filter, length, nat_lt};
-ghost use Rattle.silo_address.specs.declared.ActivationId.{ActivationId};
+ghost use Rattle.std.specs.Prelude.{◌≡◌, filter, nat_lt};
 ghost use Rattle.hash_ring.specs.Hash.{hash_grain};
 ghost use Rattle.ring_range.specs.Range.{holds};
-ghost use Rattle.grain_table.specs.declared.hashed_grain.HashedGrain.{HashedGrain as Key};
-ghost use Rattle.grain_table.specs.Hashed.{Hashed};
 
 use super::Table;
-use crate::hashed_map::HashedMap;
 use hash_ring::Hashing;
-use ring_range::{CIRCLE, RingRange};
+use ring_range::RingRange;
 
 impl Table {
-    /// Takes out the entries whose grains are hashed outside the range, and copies none. Those behind the range are split off, which
-    /// costs a logarithm and to free them; where some are before it, each entry is looked at. Needs no memory: where there is none
-    /// to split, what is behind is taken out one by one.
+    /// Takes out the entries whose grains are hashed outside the range, and copies none. Those behind the range go at once, which
+    /// costs a logarithm and to free them; where some are before it, each entry is looked at. Needs no memory.
     pub fn keep_within(&mut self, hashing: Hashing, range: &RingRange)
         ensures { self.new ≡ record self.old { entries = filter (λ e. holds range.now (hash_grain hashing e.0)) self.old.entries } }
     {
@@ -47,7 +41,7 @@ impl Table {
     fn keep_before(&mut self, end: u64)
         ensures { self.new ≡ record self.old { entries = filter (λ e. nat_lt (hash_grain self.old.hashing e.0) end) self.old.entries } }
     {
-        drop_behind(&mut self.map, end);
+        self.map.keep_before(end);
     }
 
     // Takes out what stands under hashes outside the range, wherever it stands.
@@ -62,38 +56,5 @@ impl Table {
         ensures { self.new ≡ record self.old { entries = filter (λ e. holds range.now (hash_grain hashing e.0)) self.old.entries } }
     {
         self.map.keep_hashed_into(hashing, range);
-    }
-}
-
-// Takes out what stands under the end or higher hashes: at once, and what may be left one after another from the last, so that
-// nothing has to move.
-fn drop_behind(map: &mut HashedMap, end: u64)
-    ensures { map.new ≡ filter (λ e. nat_lt e.0.hash end) map.old }
-{
-    split_behind(map, end);
-    'behind: while ends_behind(map, end) {
-        map.pop_last();
-    }
-}
-
-// Splits off what stands under the end or higher hashes, which costs a logarithm and to free that. Where there is no memory to split,
-// it stays.
-fn split_behind(map: &mut HashedMap, end: u64)
-    ensures { filter (λ e. nat_lt e.0.hash end) map.new ≡ filter (λ e. nat_lt e.0.hash end) map.old }
-{
-    if end < CIRCLE {
-        map.split_off(end as u32);
-    }
-}
-
-// Whether the last one stands under the end or a higher hash.
-fn ends_behind(map: &HashedMap, end: u64) -> bool
-    ensures some { OnTrue result (0 < length map.now) }
-    ensures last { OnTrue result ((before : Hashed) (last : Key × ActivationId) → map.now ≡ before ++ last ∷ [] → nat_lt last.0.hash end ≡ false) }
-    ensures none { OnFalse result (filter (λ e. nat_lt e.0.hash end) map.now ≡ map.now) }
-{
-    match map.last_hash() {
-        Some(hash) => u64::from(hash) >= end,
-        None => false,
     }
 }

@@ -1,11 +1,11 @@
 //! What is kept of a table in a range, added to a list.
 ghost use Rattle.std.specs.List.Sorted.{IsPermutation};
-ghost use Rattle.std.specs.Prelude.{◌≡◌, ◌≤◌, ◌++◌, filter, map, not, IfOk};
+ghost use Rattle.std.specs.Prelude.{◌≡◌, ◌++◌, filter, map, not, IfOk};
 ghost use Rattle.directory_rules.specs.Members.{is_dead_in};
 ghost use Rattle.directory_rules.specs.Sight.{is_kept};
 ghost use Rattle.directory_rules.specs.Table.{entries_of};
 ghost use Rattle.hash_ring.specs.declared.Hashing.{Hashing as HashingValue};
-ghost use Rattle.ring_range.specs.Range.{circle, holds};
+ghost use Rattle.ring_range.specs.Range.{holds};
 ghost use Rattle.grain_table.specs.Hashed.{AreHashed, entry_under};
 ghost use Rattle.grain_table.specs.Stretch.{is_between};
 
@@ -80,12 +80,9 @@ fn list_stretch(
     first: u32,
     end: u64,
 ) -> Result<Vec<Entry>, AllocError>
-    requires hashed { (hashing : HashingValue) × AreHashed hashing from.now }
-    requires forward { first ≤ end }
-    requires below { end ≤ circle }
     ensures { IfOk result (λ listed. listed.items ≡ entries.items ++ map entry_under (filter (λ e. not (is_dead_in view.now e.1.silo)) (filter (λ e. is_between first end e.0.hash) from.now))) }
 {
-    'entries: for (key, activation) in from.between(first, end)? {
+    'entries: for (key, activation) in from.between(first, end) {
         if is_dead_in(view, &activation.silo) {
             continue;
         }

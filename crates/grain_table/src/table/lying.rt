@@ -1,6 +1,5 @@
 //! Whether the entries of a table lie in a range.
-ghost use Rattle.std.specs.Bool.{OnTrue};
-ghost use Rattle.std.specs.Prelude.{◌≡◌, ◌≤◌, [], filter, not};
+ghost use Rattle.std.specs.Prelude.{◌≡◌, ◌≤◌, not};
 ghost use Rattle.std.specs.List.{list_all};
 ghost use Rattle.directory_rules.specs.Table.{entries_of, lie_in};
 ghost use Rattle.hash_ring.specs.Hash.{hash_grain};
@@ -13,9 +12,8 @@ use hash_ring::Hashing;
 use ring_range::{CIRCLE, RingRange};
 
 impl Table {
-    /// Whether all grains that have entries are hashed into the range. Costs a logarithm where they are hashed here in this way:
-    /// then nothing may stand under the hashes outside, and only where there is no memory to search for these each entry is
-    /// looked at. Otherwise each is hashed.
+    /// Whether all grains that have entries are hashed into the range. Costs a logarithm and a look at some dozen entries where they
+    /// are hashed here in this way: then nothing may stand under the hashes outside. Otherwise each is hashed.
     pub fn lies_in(&self, hashing: Hashing, range: &RingRange) -> bool
         ensures { result ≡ lie_in hashing range.now (entries_of self.now.entries) }
     {
@@ -49,27 +47,7 @@ impl Table {
         if first >= end {
             return true;
         }
-        if stands_apart(&self.map, first, end) {
-            return true;
-        }
         self.map.has_none_between(first as u32, end)
-    }
-}
-
-// Whether there is none, or the first one stands at the end or behind it, or the last one before the first hash: then none is
-// between.
-fn stands_apart(map: &HashedMap, first: u64, end: u64) -> bool
-    ensures { OnTrue result (filter (λ e. is_between first end e.0.hash) map.now ≡ []) }
-{
-    let Some(lowest) = map.first_hash() else {
-        return true;
-    };
-    if u64::from(lowest) >= end {
-        return true;
-    }
-    match map.last_hash() {
-        Some(highest) => u64::from(highest) < first,
-        None => false,
     }
 }
 

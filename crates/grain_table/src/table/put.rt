@@ -1,11 +1,11 @@
 //! Entries of one table put into another.
-ghost use Rattle.std.specs.Prelude.{◌≡◌, ◌≤◌, filter, fold, map, not, IfOk};
+ghost use Rattle.std.specs.Prelude.{◌≡◌, filter, fold, map, not, IfOk};
 ghost use Rattle.std.specs.List.{list_any};
 ghost use Rattle.directory_rules.specs.Members.{is_dead_in};
 ghost use Rattle.directory_rules.specs.Sight.{is_kept};
 ghost use Rattle.directory_rules.specs.Table.{entries_of, with_entry};
 ghost use Rattle.hash_ring.specs.Hash.{hash_grain};
-ghost use Rattle.ring_range.specs.Range.{circle, holds};
+ghost use Rattle.ring_range.specs.Range.{holds};
 ghost use Rattle.grain_table.specs.Hashed.{AreHashed, IsKeyOf, entry_under};
 ghost use Rattle.grain_table.specs.Stretch.{is_between};
 
@@ -137,12 +137,10 @@ fn put_stretch(
     first: u32,
     end: u64,
 ) -> Result<Table, AllocError>
-    requires hashed { AreHashed table.hashing from.now }
-    requires forward { first ≤ end }
-    requires below { end ≤ circle }
+    requires { AreHashed table.hashing from.now }
     ensures { IfOk result (λ new. new ≡ record table { entries = fold with_entry table.entries (map entry_under (filter (λ e. is_between first end e.0.hash) from.now)) }) }
 {
-    'entries: for (key, activation) in from.between(first, end)? {
+    'entries: for (key, activation) in from.between(first, end) {
         table.put(key, activation)?;
     }
     Ok(table)

@@ -1,31 +1,25 @@
 ghost use Rattle.std.specs.Option.{option_map};
 ghost use Rattle.std.specs.Prelude.{◌≡◌, IfOk};
-ghost use Rattle.directory_rules.specs.Host.{act_in, firm_entries, new_host, outstanding};
+ghost use Rattle.directory_rules.specs.Host.{act_in, firm_behind, new_host, outstanding};
+ghost use Rattle.host_activations.specs.Page.{IsPage};
 ghost use Rattle.host_activations.specs.Acts.{act_for, acts_in};
 
 use super::Host;
 use crate::asked::OutstandingRequest;
-use crate::{Activations, entry_on};
+use crate::{Activations, FirmPage, PageAsked, entry_on};
 use directory_rules::{Act, Held, Phase};
-use hash_ring::Hashing;
-use ring_range::RingRange;
-use silo_address::{Entry, GrainId, SiloAddress};
+use silo_address::{GrainId, SiloAddress};
 use std::alloc::{AllocError, Global};
 use std::collections::BTreeMap;
 
 impl Host {
-    /// The entries of the firm activations that are hashed into the range, in the order of their grains. Costs what it tells,
-    /// and a logarithm, where the hashing is the host's own; otherwise it looks at all activations. Fails only when memory runs
-    /// out.
-    pub fn firm_entries(
-        &self,
-        alloc: Global,
-        hashing: Hashing,
-        range: &RingRange,
-    ) -> Result<Vec<Entry>, AllocError>
-        ensures { IfOk result (λ entries. entries.items ≡ firm_entries hashing self.now range.now) }
+    /// The first entries of those of the firm activations that are hashed into the range and stand behind a grain, so many at most, and
+    /// whether no others stand behind them. Where the hashing is the host's own it costs a logarithm, what it tells, and what it passes over
+    /// that isn't firm; otherwise it looks at all activations. Fails only when memory runs out.
+    pub fn firm_page(&self, alloc: Global, asked: &PageAsked) -> Result<FirmPage, AllocError>
+        ensures { IfOk result (IsPage (firm_behind asked.now.hashing self.now asked.now.range asked.now.after) asked.now.most) }
     {
-        self.held.firm_entries(alloc, self.silo, hashing, range)
+        self.held.firm_page(alloc, self.silo, asked)
     }
 
     /// What is outstanding, under its numbers in their order. Fails only when memory runs out.

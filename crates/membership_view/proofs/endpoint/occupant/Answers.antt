@@ -1,6 +1,6 @@
 use Rattle.std.proofs.Common.{◌≡◌, Bool, true, false, not, ◌&&◌, Option, Some, None, is_some, is_none, refl, sym, ◌∙◌, ap, if◌then◌else◌}
 use Rattle.std.proofs.lemmas.Bool.{and_from, and_left, and_right}
-use Rattle.membership_view.specs.Changes.{shares_endpoint}
+use Rattle.membership_view.specs.View.{shares_endpoint}
 use Rattle.membership_view.proofs.Order.{shares_is}
 use Rattle.membership_view.proofs.Neighbours.{occupant_first, occupant_last}
 use Rattle.membership_view.proofs.endpoint.occupant.Goals as goal

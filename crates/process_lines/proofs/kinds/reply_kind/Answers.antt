@@ -1,6 +1,6 @@
 use Rattle.std.proofs.Common.{refl, arith, codes, rules}
 use Rattle.process_rules.specs.ReadLetter.{reply_kinds}
-use Rattle.process_lines.proofs.KindNames.{kind_read, no_kind}
+use Rattle.process_lines.proofs.Names.{kind_read, no_kind}
 use Rattle.process_lines.proofs.kinds.reply_kind.Goals as goal
 
 pub returns-in-registered : goal.returns-in-registered

@@ -1,6 +1,6 @@
 use Rattle.std.proofs.Common.{refl, arith, codes, rules}
 use Rattle.process_rules.specs.ReadLetter.{request_kinds}
-use Rattle.process_lines.proofs.KindNames.{kind_read, no_kind}
+use Rattle.process_lines.proofs.Names.{kind_read, no_kind}
 use Rattle.process_lines.proofs.kinds.request_kind.Goals as goal
 
 pub returns-in-register : goal.returns-in-register

@@ -1,6 +1,6 @@
 use Rattle.std.proofs.Common.{refl, arith, codes, rules}
 use Rattle.process_rules.specs.ReadLetter.{transfer_kinds}
-use Rattle.process_lines.proofs.KindNames.{kind_read, no_kind}
+use Rattle.process_lines.proofs.Names.{kind_read, no_kind}
 use Rattle.process_lines.proofs.kinds.transfer_kind.Goals as goal
 
 pub returns-in-missing : goal.returns-in-missing

@@ -12,13 +12,15 @@ use Rattle.process_lines.proofs.known.asked_under.Goals as goal
 pub returns-in_err-asked-clause-reads : goal.returns-in_err-asked-clause-reads
 returns-in_err-asked-clause-reads c =
     let no_join : bytes_eq c.args.name.now (codes "joined") ≡ false = search rules in
+    let no_view : bytes_eq c.args.name.now (codes "view") ≡ false = search rules in
     let no_letter : bytes_eq c.args.name.now (codes "letter") ≡ false = search rules in
     subst (λ (known : Option (Grammar Asked)). Reads (λ (asked : code.Asked). Some (asked_of asked)) c.from_residual.result
     (asked_if_known known (words_in c.args.words.now)))
-    (sym (among_others c.args.hashing c.args.name.now no_join no_letter)) (search rules)
+    (sym (among_others c.args.hashing c.args.name.now no_join no_view no_letter)) (search rules)
 
 pub returns-clause-reads : goal.returns-clause-reads
 returns-clause-reads c =
     let no_join : bytes_eq c.args.name.now (codes "joined") ≡ false = search rules in
+    let no_view : bytes_eq c.args.name.now (codes "view") ≡ false = search rules in
     let no_letter : bytes_eq c.args.name.now (codes "letter") ≡ false = search rules in
-    rw (among_others c.args.hashing c.args.name.now no_join no_letter) (search rules)
+    rw (among_others c.args.hashing c.args.name.now no_join no_view no_letter) (search rules)

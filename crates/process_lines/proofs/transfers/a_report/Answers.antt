@@ -1,23 +1,54 @@
-use Rattle.std.proofs.Common.{ap, sym, rules}
+use Rattle.std.proofs.Common.{◌≡◌, ◌∙◌, ℕ, Option, Result, subst, sym}
+use Rattle.silo_address.specs.Grain.{Grain}
 use Rattle.texts.specs.Words.{words_in}
-use Rattle.process_rules.specs.ReadLetter.{a_report}
-use Rattle.process_lines.specs.ReadAs.{head_of, told}
-use Rattle.process_lines.proofs.EachEntry.{handed_on, report_brings, report_fails}
+use Rattle.directory_rules.specs.State.{Letter}
+use Rattle.process_rules.specs.ReadLetter.{report_behind}
+use Rattle.process_lines.specs.ReadAs.{Reads, head_of, told}
+use Rattle.process_lines.specs.Short.{HasEntries}
+use Rattle.process_lines.proofs.Forms.{report_first, report_further}
 use Rattle.process_lines.proofs.transfers.a_report.Goals as goal
 
-pub returns-in_err-entries-clause-reads : goal.returns-in_err-entries-clause-reads
-returns-in_err-entries-clause-reads c =
-    let error = c.in_err-entries.field-0.0 in
-    let read = told head_of c.args.head in
-    handed_on (λ letter. letter) c.from_residual-in_err-entries.result error (a_report read (words_in c.args.words.now))
-    c.from_residual-in_err-entries.ensures.1
-    (report_fails error read (words_in c.args.words.now) (words_in c.in-Some.behind.now) c.in-Some.range.now (head_of c.in_ok-head.head)
-    c.in_ok-range.range
-    c.in-Some.ensures.words (search rules) (ap (told head_of) c.in_ok-head.was) (sym c.in_ok-range.ensures) c.in_err-entries.ensures.reads)
+pub returns-then-not-are_pairs-clause-reads : goal.returns-then-not-are_pairs-clause-reads
+returns-then-not-are_pairs-clause-reads c =
+    subst (λ (rule : Result Letter ℕ). Reads (λ letter. letter) c.report_of.result rule)
+    (sym (report_first (told head_of c.args.head) (words_in c.args.words.now) (words_in c.in-Some.behind.now)
+    (words_in c.in-Some-split_word.others.now) c.in-Some.range.now c.in-Some-split_word.first.now
+    c.in-Some.ensures.words c.in-Some-split_word.ensures.words (sym c.are_pairs.ensures ∙ c.if-not-are_pairs.true)))
+    c.report_of.ensures.reads
 
-pub returns-in_err-entries-clause-memory : goal.returns-in_err-entries-clause-memory
-returns-in_err-entries-clause-memory c memory =
-    report_brings (told head_of c.args.head) (words_in c.args.words.now) (words_in c.in-Some.behind.now) c.in-Some.range.now
-    (head_of c.in_ok-head.head) c.in_ok-range.range
-    c.in-Some.ensures.words (search rules) (ap (told head_of) c.in_ok-head.was) (sym c.in_ok-range.ensures)
-    (c.in_err-entries.ensures.memory (search rules))
+pub returns-then-not-are_pairs-clause-memory : goal.returns-then-not-are_pairs-clause-memory
+returns-then-not-are_pairs-clause-memory c memory =
+    subst HasEntries
+    (sym (report_first (told head_of c.args.head) (words_in c.args.words.now) (words_in c.in-Some.behind.now)
+    (words_in c.in-Some-split_word.others.now) c.in-Some.range.now c.in-Some-split_word.first.now
+    c.in-Some.ensures.words c.in-Some-split_word.ensures.words (sym c.are_pairs.ensures ∙ c.if-not-are_pairs.true)))
+    (c.report_of.ensures.memory memory)
+
+pub returns-clause-reads : goal.returns-clause-reads
+returns-clause-reads c =
+    let head = told head_of c.args.head in
+    let range = c.in-Some.range.now in
+    let last = c.in-Some-split_word-2.last.now in
+    let entries = words_in c.in-Some-split_word-2.entries.now in
+    subst (λ (rule : Result Letter ℕ). Reads (λ letter. letter) c.report_of-2.result rule)
+    (sym (report_further head (words_in c.args.words.now) (words_in c.in-Some.behind.now)
+    (words_in c.in-Some-split_word.others.now) range c.in-Some-split_word.first.now
+    c.in-Some.ensures.words c.in-Some-split_word.ensures.words last entries c.in-Some-split_word-2.ensures.words
+    (sym c.are_pairs.ensures ∙ c.if-not-are_pairs.false)))
+    (subst (λ (after : Result (Option Grain) ℕ). Reads (λ letter. letter) c.report_of-2.result
+    (report_behind head range after last entries))
+    c.after_word.ensures c.report_of-2.ensures.reads)
+
+pub returns-clause-memory : goal.returns-clause-memory
+returns-clause-memory c memory =
+    let head = told head_of c.args.head in
+    let range = c.in-Some.range.now in
+    let last = c.in-Some-split_word-2.last.now in
+    let entries = words_in c.in-Some-split_word-2.entries.now in
+    subst HasEntries
+    (sym (report_further head (words_in c.args.words.now) (words_in c.in-Some.behind.now)
+    (words_in c.in-Some-split_word.others.now) range c.in-Some-split_word.first.now
+    c.in-Some.ensures.words c.in-Some-split_word.ensures.words last entries c.in-Some-split_word-2.ensures.words
+    (sym c.are_pairs.ensures ∙ c.if-not-are_pairs.false)))
+    (subst (λ (after : Result (Option Grain) ℕ). HasEntries (report_behind head range after last entries))
+    c.after_word.ensures (c.report_of-2.ensures.memory memory))

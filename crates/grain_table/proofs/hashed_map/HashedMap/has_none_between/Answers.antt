@@ -2,7 +2,7 @@ use Rattle.grain_table.specs.Stretch.{is_between}
 use Rattle.grain_table.proofs.Outside.{told_by_first}
 use Rattle.grain_table.proofs.hashed_map.HashedMap.has_none_between.Goals as goal
 
-pub returns-in-Ok : goal.returns-in-Ok
-returns-in-Ok c =
-    told_by_first (λ e. is_between c.args.first c.args.end e.0.hash) c.args.self.now c.in-Ok.entries c.next.new.self c.next.result
-    c.is_none.result c.is_none.ensures c.in-Ok.ensures c.next.ensures.steps
+pub returns : goal.returns
+returns c =
+    told_by_first (λ e. is_between c.args.first c.args.end e.0.hash) c.args.self.now c.between-entries.result c.next.new.self c.next.result
+    c.is_none.result c.is_none.ensures c.between-entries.ensures c.next.ensures.steps

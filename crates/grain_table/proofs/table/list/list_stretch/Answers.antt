@@ -5,7 +5,7 @@ use Rattle.grain_table.proofs.table.list.list_stretch.Goals as goal
 
 pub entries-init : goal.entries-init
 entries-init c =
-    ap (with_living c.args.view.now c.args.entries.items) (c.into_iter-key-iterator.ensures.into_iter_gives ∙ c.in_ok-items.ensures)
+    ap (with_living c.args.view.now c.args.entries.items) (c.into_iter-key-iterator.ensures.into_iter_gives ∙ c.between-key-items.ensures)
 
 pub entries-preserved : goal.entries-preserved
 entries-preserved c =

@@ -11,10 +11,10 @@ use Rattle.grain_table.proofs.table.put.put_stretch.Goals as goal
 pub entries-init : goal.entries-init
 entries-init c =
     let es : Hashed = c.args.from.now in
-    let is : c.into_iter-key-iterator.result ≡ passed (is_between c.args.first c.args.end) es = c.into_iter-key-iterator.ensures.into_iter_gives ∙ c.in_ok-items.ensures in
+    let is : c.into_iter-key-iterator.result ≡ passed (is_between c.args.first c.args.end) es = c.into_iter-key-iterator.ensures.into_iter_gives ∙ c.between-key-items.ensures in
     record {
       hashing_is = refl;
       whole = ap (λ l. put_in c.args.table.entries (entries_under l)) is;
       keys = subst (λ (l : Hashed). AllByRecursion (IsKeyOf c.args.table.hashing) (keys_of l)) (sym is)
-          (passed_are_hashed c.args.table.hashing (λ e. is_between c.args.first c.args.end e.0.hash) es c.requires.hashed).keys;
+          (passed_are_hashed c.args.table.hashing (λ e. is_between c.args.first c.args.end e.0.hash) es c.requires).keys;
     }

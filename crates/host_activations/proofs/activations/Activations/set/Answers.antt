@@ -1,4 +1,4 @@
-use Rattle.std.proofs.Common.{sym, ◌∙◌, ap, arith, rules, length}
+use Rattle.std.proofs.Common.{sym, ◌∙◌, ap, arith, rules}
 use Rattle.host_activations.specs.UnderWay.{under_way_in}
 use Rattle.host_activations.proofs.Changes.{written_are, written_told}
 use Rattle.host_activations.proofs.Hashes.{written_hashes}

@@ -1,4 +1,4 @@
-use Rattle.std.proofs.Common.{◌≡◌, ap, sym, ◌∙◌, None, rules}
+use Rattle.std.proofs.Common.{ap, ◌∙◌, rules}
 use Rattle.host_activations.specs.Asked.{asked_under, find_in}
 use Rattle.host_activations.specs.Outstanding.{OutstandingValue}
 use Rattle.host_activations.proofs.FindsByGrain.{put_are, put_is, same_are, taken_is, undone, without_find}

@@ -1,8 +1,6 @@
-use Rattle.std.proofs.Common.{◌≡◌, ap, sym, ◌∙◌, None}
-use Rattle.std.specs.Map.{remove_entry}
+use Rattle.std.proofs.Common.{sym, ◌∙◌}
 use Rattle.std.specs.BTreeMap.{is_at}
 use Rattle.std.specs.Ordering.{nat_cmp}
-use Rattle.host_activations.specs.Outstanding.{OutstandingValue}
 use Rattle.host_activations.proofs.Entries.{remove_absent}
 use Rattle.host_activations.proofs.FindsByGrain.{same_are, taken_are, taken_is}
 use Rattle.host_activations.proofs.outstanding.OutstandingRequests.remove.Goals as goal

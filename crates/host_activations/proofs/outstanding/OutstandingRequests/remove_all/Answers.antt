@@ -1,4 +1,4 @@
-use Rattle.std.proofs.Common.{◌≡◌, ℕ, sym, subst, ap, ◌∙◌, ◌∷◌, cond, is_some, None}
+use Rattle.std.proofs.Common.{◌≡◌, sym, ap, ◌∙◌, ◌∷◌, cond, is_some, None}
 use Rattle.host_activations.specs.Asked.{asked_under}
 use Rattle.host_activations.proofs.Moved.{take_first}
 use Rattle.host_activations.proofs.outstanding.OutstandingRequests.remove_all.Goals as goal

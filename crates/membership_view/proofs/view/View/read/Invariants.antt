@@ -1,6 +1,5 @@
-use Rattle.std.proofs.Common.{◌≡◌, ◌++◌}
-use Rattle.membership_view.specs.Views.{rows_in}
+use Rattle.membership_view.proofs.Reading.{IsRead}
 use Rattle.membership_view.proofs.view.View.read.Given as goal
 
 abbrev pub invariant-loop-silo : goal.invariant-loop-silo
-invariant-loop-silo l = l.shown.items ++ rows_in l.version l.silo-iterator ≡ rows_in l.version l.rows.entries
+invariant-loop-silo l = IsRead l.shown.items l.last l.version l.silo-iterator l.rows.entries

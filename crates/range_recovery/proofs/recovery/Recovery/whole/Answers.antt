@@ -10,5 +10,6 @@ returns c =
       awaiting_in_order = c.whole.ensures.awaiting_in_order;
       reported_in_order = c.whole.ensures.reported_in_order;
       apart = c.whole.ensures.apart;
+      told_in_order = c.len-told.ensures.ordered;
       gathered_in_order = c.whole-2.ensures;
     })

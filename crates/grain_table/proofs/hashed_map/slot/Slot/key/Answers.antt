@@ -1,0 +1,17 @@
+use Rattle.std.proofs.Common.{◌≡◌, ◌∙◌, ap}
+use Rattle.std.specs.Box.{boxed_slice_items}
+use Rattle.silo_address.specs.ReadGrain.{grain_at_slash}
+use Rattle.silo_address.specs.declared.ActivationId.{ActivationId}
+use Rattle.grain_table.specs.declared.hashed_grain.HashedGrain.{HashedGrain}
+use Rattle.grain_table.proofs.hashed_map.slot.Slot.key.Goals as goal
+
+pub unreachable-requires : goal.unreachable-requires
+unreachable-requires c =
+    let is = c.in-Err.ensures.only (grain_at_slash (boxed_slice_items c.self.inside.text)) c.self.invariant.is_grain (c.as_slice.ensures.value ∙ c.self.invariant.spelled) in
+    cc
+
+pub returns : goal.returns
+returns c =
+    let is = c.in-Ok.ensures.only (grain_at_slash (boxed_slice_items c.self.inside.text)) c.self.invariant.is_grain (c.as_slice.ensures.value ∙ c.self.invariant.spelled) in
+    let same : c.in-Ok.grain ≡ grain_at_slash (boxed_slice_items c.self.inside.text) = cc in
+    (λ i. record { hash = c.self.inside.hash; grain = same i }) ∙ ap (λ (e : HashedGrain × ActivationId). e.0) c.self.view_is

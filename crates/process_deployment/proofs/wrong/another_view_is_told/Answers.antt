@@ -1,0 +1,5 @@
+use Rattle.process_deployment.proofs.Worked.{another_view_is_told}
+use Rattle.process_deployment.proofs.wrong.another_view_is_told.Goals as goal
+
+pub returns : goal.returns
+returns c = another_view_is_told
