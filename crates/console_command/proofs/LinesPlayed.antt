@@ -1,6 +1,5 @@
 -- Lines played to a cluster.
 use Rattle.std.proofs.Common.{◌≡◌, ◌∙◌, ℕ, ◌+◌, ◌++◌, Bool, List, [], ◌∷◌, Option, None, Some, IfSome, Ok, Err, ap, append-nil, refl, sym}
-use Rattle.directory_rules.specs.State.{World}
 use Rattle.script_rules.specs.Script.{Command, read_line}
 use Rattle.script_rules.specs.Lines.{fault_line}
 use Rattle.script_rules.specs.Output.{Session, line_played, onto, performed, played}

@@ -1,5 +1,5 @@
 -- A join, a leaving and a death change the plain machine's view, and its activations by the silos that are Dead alone.
-use Rattle.std.proofs.Common.{arith, ◌≡◌, ◌⊎◌, IsSome, inl, inr, refl, sym, ap, subst, ◌∙◌}
+use Rattle.std.proofs.Common.{arith, ◌≡◌, ◌⊎◌, IsSome, inl, inr, refl, sym, ap, ◌∙◌}
 use Rattle.std.specs.Prelude.{true, false, not, is_some, Option, Some, None}
 use Rattle.std.specs.Option.{option_map, option_and_then}
 use Rattle.silo_address.specs.Silo.{Silo}

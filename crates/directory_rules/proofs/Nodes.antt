@@ -1,7 +1,7 @@
 -- A fact that new nodes have and that every step keeps holds of each node of every world that a run reaches; also where it
 -- rests on a fact of the places that silos get.
 use Rattle.std.proofs.Common.{◌≡◌, refl, sym, subst, ℕ, List, [], ◌∷◌}
-use Rattle.std.specs.Prelude.{⊤, Bool, true, false, cond, not, is_some, nat_lt, length, All, Option, Some, None, Result, Ok, Err, IfOk, IfSome}
+use Rattle.std.specs.Prelude.{⊤, Bool, true, false, cond, not, is_some, All, Option, Some, None, Result, Ok, Err, IfOk, IfSome}
 use Rattle.std.specs.Map.{lookup, values_of}
 use Rattle.std.specs.BTreeMap.{is_at}
 use Rattle.std.proofs.lemmas.List.Elements.{All-nil, All-head, All-tail}

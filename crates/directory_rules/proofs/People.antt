@@ -1,7 +1,6 @@
 -- The views and the nodes: a silo has a node just where it is in the current view and isn't Dead there.
-use Rattle.std.proofs.Common.{arith, inl, inr, ℕ, ◌<◌, ◌≤◌, IsSome, Bool, ◌≡◌, ◌≢◌, refl, sym, ap, subst, ◌∙◌, List}
+use Rattle.std.proofs.Common.{arith, inl, inr, ℕ, ◌≤◌, IsSome, Bool, ◌≡◌, ◌≢◌, refl, sym, ap, subst, ◌∙◌, List}
 use Rattle.std.specs.Prelude.{true, false, cond, is_some, Option, Some, None, Ok}
-use Rattle.std.specs.Option.{option_map}
 use Rattle.std.specs.List.Sorted.{IsStrictlySortedBy}
 use Rattle.std.specs.Map.{lookup, keys_of, remove_entry}
 use Rattle.std.specs.BTreeMap.{is_at, insert_entry}

@@ -1,5 +1,5 @@
 -- A dump judged: the verdict's line, and the status 1 where it is a fault.
-use Rattle.std.specs.Prelude.{ℕ, is_some, List, [], ◌∷◌, codes, if◌then◌else◌}
+use Rattle.std.specs.Prelude.{ℕ, is_some, [], ◌∷◌, codes, if◌then◌else◌}
 use Rattle.std.specs.Fmt.{decimal}
 use Rattle.texts.specs.Words.{sentence}
 use Rattle.texts.specs.Printed.{Output, text_of_lines}

@@ -1,11 +1,11 @@
 -- What steps and reads keep of the lines so far.
-use Rattle.std.proofs.Common.{◌≡◌, ◌⊎◌, inl, inr, ◌∙◌, ℕ, suc, ◌+◌, ◌<◌, ◌≤◌, Bool, true, false, true≢false, List, [], ◌∷◌, ◌++◌, length, take, drop, Option, None, Some, ap, append_assoc, append-nil, arith, if◌then◌else◌, refl, subst, sym, take-append-drop}
+use Rattle.std.proofs.Common.{◌≡◌, inl, inr, ◌∙◌, ℕ, suc, ◌+◌, ◌<◌, ◌≤◌, Bool, true, false, true≢false, List, [], ◌∷◌, ◌++◌, length, take, drop, Option, None, Some, ap, append_assoc, append-nil, arith, if◌then◌else◌, refl, subst, sym, take-append-drop}
 use Rattle.std.proofs.lemmas.Bool.{le-ltb, lt-ltb}
-use Rattle.std.proofs.lemmas.List.{length-append, length-take}
+use Rattle.std.proofs.lemmas.List.{length-append}
 use Rattle.texts.specs.Words.{line_feed, pieces_at}
 use Rattle.line_loop.specs.declared.ended.Ended.{Ended}
 use Rattle.line_loop.specs.declared.ended.Ended.TheVariants as ended
-use Rattle.line_loop.specs.Endings.{Concludes, IsDue, MayWait, and_a_line, due_lines, few, most_waiting}
+use Rattle.line_loop.specs.Endings.{IsDue, MayWait, and_a_line, due_lines, few, most_waiting}
 use Rattle.line_loop.specs.Lines.{PlaysLines, PlaysOn, PlaysSome, PlaysTo, Prints, PrintsLine, is_ended, then_line, no_line}
 use Rattle.line_loop.specs.Pieces.{IsEndedAfter, IsOnePiece}
 use Rattle.line_loop.specs.Progress.{ArePlayed, HasCut, HasEnded, IsBegun, PlayedSoFar, PlaysPart, Progress, behind_line, first_progress}

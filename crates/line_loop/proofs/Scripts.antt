@@ -1,5 +1,5 @@
 -- Runs of scripts, by what each line makes of the output.
-use Rattle.std.proofs.Common.{◌≡◌, ◌∙◌, inl, inr, ℕ, ◌+◌, ◌<◌, Bool, true, false, List, [], ◌∷◌, ◌++◌, length, map, Option, None, Some, ap, append_assoc, append-nil, arith, refl, subst, sym}
+use Rattle.std.proofs.Common.{◌≡◌, ◌∙◌, inl, inr, ℕ, ◌+◌, Bool, true, List, [], ◌∷◌, ◌++◌, length, map, Option, None, Some, ap, append_assoc, append-nil, arith, refl, subst, sym}
 use Rattle.std.proofs.lemmas.List.{length-append, map-append}
 use Rattle.std.specs.Io.KnownBytes.{Appends}
 use Rattle.texts.specs.Printed.{Output}
@@ -12,8 +12,8 @@ use Rattle.line_loop.specs.declared.ended.Ended.TheVariants as ended
 use Rattle.line_loop.specs.declared.fault.ScriptLineFault.{ScriptLineFault}
 use Rattle.line_loop.specs.Endings.{Concludes, Ends, Writes}
 use Rattle.line_loop.specs.Lines.{PlaysLines, PlaysOn, PlaysSome, PlaysTo, PrintsLine, no_line, then_line}
-use Rattle.line_loop.specs.Outputs.{IsOfOutput, WritesOutput}
-use Rattle.line_loop.specs.Scripts.{PlaysLine, PrintsLines, PrintsOne, Rule, TellsFault, WritesScript, behind, no_output, stripped, told_fault}
+use Rattle.line_loop.specs.Outputs.{IsOfOutput}
+use Rattle.line_loop.specs.Scripts.{PlaysLine, PrintsLines, PrintsOne, Rule, TellsFault, WritesScript, behind, no_output, stripped}
 
 -- the status of a script that a fault ended, or that none did
 abbrev stop_status : Option ScriptLineFault → ℕ

@@ -2,7 +2,6 @@
 use Rattle.std.proofs.Common.{◌≡◌, ◌∙◌, ℕ, ◌<◌, ◌≤◌, Bool, true, false, List, [], ◌++◌, length, take, drop, Option, Some, None, ap, append_assoc, refl, subst, sym, take-append-drop}
 use Rattle.std.specs.Io.KnownBytes.{Appends}
 use Rattle.std.proofs.KnownBytes.{Appends-kept, Appends-nil, Appends-trans}
-use Rattle.script_lines.specs.Spaced.{BeginsWith}
 use Rattle.line_loop.specs.Calls.{WritesKnown, WritesText, wrote_all, wrote_some, wrote_nothing, write_failed}
 use Rattle.line_loop.specs.Sent.{Sends, WritesFront}
 

@@ -1,5 +1,5 @@
 -- Turns, by what the step, the write and the read of each did.
-use Rattle.std.proofs.Common.{◌≡◌, ◌∙◌, inl, inr, ℕ, ◌+◌, ◌<◌, ◌≤◌, Bool, true, false, List, [], ◌++◌, length, Option, None, Some, IfSome, is_none, ap, append_assoc, append-nil, arith, refl, subst, sym}
+use Rattle.std.proofs.Common.{◌≡◌, ◌∙◌, inr, ℕ, ◌+◌, ◌<◌, ◌≤◌, Bool, true, false, List, [], ◌++◌, length, Option, None, Some, IfSome, is_none, ap, append_assoc, append-nil, arith, refl, subst, sym}
 use Rattle.std.proofs.lemmas.List.{length-append}
 use Rattle.std.specs.Io.KnownBytes.{Appends, Consumes, IsAtEnd}
 use Rattle.texts.specs.Words.{line_feed, pieces_at}
@@ -7,8 +7,7 @@ use Rattle.line_loop.specs.declared.ended.Ended.{Ended}
 use Rattle.line_loop.specs.declared.ended.Ended.TheVariants as ended
 use Rattle.line_loop.specs.Calls.{ReadsKnown, WritesKnown, WritesText, has_read, has_read_nothing, has_written, no_call, read_broke, write_broke}
 use Rattle.line_loop.specs.Endings.{Concludes, Ends, EndsInTurn, EndsReading, IsDue, MakesCalls, MayWait, Writes}
-use Rattle.line_loop.specs.Lines.{PlaysLines, PlaysSome, PrintsLine, no_line}
-use Rattle.line_loop.specs.Sent.{WritesFront}
+use Rattle.line_loop.specs.Lines.{PlaysLines, PlaysSome, PrintsLine}
 use Rattle.line_loop.specs.Progress.{EndsStep, EndsWithin, HasEnded, HasStepped, IsBegun, PlayedSoFar, Progress, first_progress}
 use Rattle.line_loop.specs.Transfers.{Drains, Fills, HasTakenIn}
 use Rattle.line_loop.specs.Turns.{Calls, CallsTo, HasRun, SoFar, Turns}

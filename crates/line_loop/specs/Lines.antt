@@ -1,5 +1,5 @@
 -- Lines played one after the other.
-use Rattle.std.specs.Prelude.{◌≡◌, ◌⊎◌, ℕ, ◌+◌, ◌<◌, Bool, true, false, List, [], ◌∷◌, ◌++◌, length, Option, Some, None}
+use Rattle.std.specs.Prelude.{◌≡◌, ◌⊎◌, ℕ, ◌+◌, Bool, true, false, List, [], ◌∷◌, ◌++◌, length, Option, None}
 
 -- what playing a line may do: by the player before it, the line's number from 1, the line, and whether a line feed ended it, what is printed,
 -- how the run stops by it, and the player after it

@@ -1,5 +1,5 @@
 -- How far a session has come, and what steps make of that.
-use Rattle.std.specs.Prelude.{◌≡◌, ◌⊎◌, ℕ, suc, ◌+◌, ◌-◌, ◌*◌, ◌<◌, ◌≤◌, Bool, true, false, if◌then◌else◌, List, [], ◌∷◌, ◌++◌, length, take, drop, Option, Some, None, ⊤}
+use Rattle.std.specs.Prelude.{◌≡◌, ℕ, suc, ◌+◌, ◌-◌, ◌*◌, ◌<◌, ◌≤◌, Bool, true, false, if◌then◌else◌, List, [], ◌∷◌, ◌++◌, length, take, drop, Option, Some, None, ⊤}
 use Rattle.texts.specs.Words.{line_feed, pieces_at}
 use Rattle.line_loop.specs.declared.ended.Ended.{Ended}
 use Rattle.line_loop.specs.declared.ended.Ended.TheVariants.{AtEnd, Stopped, TooLong, OutOfMemory, Broken}

@@ -3,7 +3,7 @@ use Rattle.std.specs.Prelude.{◌≡◌, ℕ, ◌+◌, ◌<◌, ◌≤◌, true,
 use Rattle.line_loop.specs.declared.ended.Ended.{Ended}
 use Rattle.line_loop.specs.declared.ended.Ended.TheVariants.{TooLong, OutOfMemory, Broken}
 use Rattle.line_loop.specs.Calls.{most_at_once}
-use Rattle.line_loop.specs.Progress.{Progress, work}
+use Rattle.line_loop.specs.Progress.{Progress}
 
 -- what waited is written, or the run breaks
 abbrev pub Drains : {S : Type 0} → Progress → Progress → Option (Ended S) → Type 0

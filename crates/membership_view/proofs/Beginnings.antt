@@ -1,22 +1,20 @@
 -- Views that begin with a later version stay whole as silos are listed.
-use Rattle.std.proofs.Common.{◌≡◌, ◌⊎◌, inl, inr, ℕ, ◌+◌, ◌<◌, ◌≤◌, ◌==◌, ◌||◌, Bool, true, false, cond, not, nat_lt, List, [], ◌∷◌, Option, Some, None, Result, Ok, Err, refl, sym, ◌∙◌, ap, arith, length, sum_by, subst, unwrap_or, IsTrue, if◌then◌else◌}
+use Rattle.std.proofs.Common.{◌≡◌, ◌⊎◌, inl, inr, ℕ, ◌<◌, ◌≤◌, ◌==◌, ◌||◌, Bool, true, false, cond, not, nat_lt, Option, Some, None, Result, Ok, Err, refl, sym, ◌∙◌, ap, arith, length, sum_by, subst, unwrap_or, if◌then◌else◌}
 use Rattle.std.proofs.lemmas.Bool.{ltb-true, or_parts, eqb-false}
 use Rattle.std.proofs.lemmas.Option.{same_Some}
 use Rattle.std.proofs.lemmas.Map.Entries.{sum_by-insert_entry}
-use Rattle.std.specs.List.{list_any}
-use Rattle.std.specs.List.Sorted.{IsStrictlySortedBy}
-use Rattle.std.specs.Map.{keys_of, values_of}
+use Rattle.std.specs.Map.{values_of}
 use Rattle.std.specs.BTreeMap.{is_at, insert_entry}
 use Rattle.std.specs.Option.{option_map}
 use Rattle.texts.proofs.Orderings.{Equal-from}
 use Rattle.texts.proofs.Entries.{lookup-insert_entry, length-insert_entry, sorted-insert_entry}
-use Rattle.silo_address.specs.Silo.{Silo, silo_cmp, IsSameEndpoint}
+use Rattle.silo_address.specs.Silo.{Silo, silo_cmp}
 use Rattle.silo_address.proofs.Order.{silo_cmp_exact, silo_cmp_total}
 use Rattle.membership_view.specs.declared.row.Row.{Row}
 use Rattle.membership_view.specs.declared.status.Status.{Status}
 use Rattle.membership_view.specs.declared.status.Status.TheVariants.{Active, Leaving, Dead}
 use Rattle.membership_view.specs.View.{shares_endpoint}
-use Rattle.membership_view.specs.Views.{ViewsValue, row_of}
+use Rattle.membership_view.specs.Views.{ViewsValue}
 use Rattle.membership_view.specs.Beginning.{after_listing, beginning, is_known_endpoint, with_listed}
 use Rattle.membership_view.specs.Whole.{IsInTime, IsViews, changes_of}
 use Rattle.membership_view.specs.Laws.{ListingsAreKept}

@@ -1,5 +1,5 @@
 -- The status of a silo in a version that has been made.
-use Rattle.std.proofs.Common.{◌≡◌, ℕ, ◌≤◌, None, refl, ap, option_and_then, nat_le, if◌then◌else◌}
+use Rattle.std.proofs.Common.{◌≡◌, ℕ, ◌≤◌, None, ap, option_and_then, if◌then◌else◌}
 use Rattle.std.proofs.lemmas.Bool.{le-leb}
 use Rattle.std.specs.List.Sorted.{IsStrictlySortedBy}
 use Rattle.std.specs.Map.{keys_of}

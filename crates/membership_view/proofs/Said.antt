@@ -1,5 +1,5 @@
 -- What a view says of a silo, by the rows.
-use Rattle.std.proofs.Common.{◌≡◌, ◌≢◌, ◌⊎◌, inl, inr, ℕ, ◌<◌, ◌≤◌, Bool, true, false, cond, ◌&&◌, ◌||◌, ◌==◌, List, [], ◌∷◌, IsSome, Option, Some, None, refl, sym, ◌∙◌, ap, arith, subst, option_and_then, nat_le, if◌then◌else◌}
+use Rattle.std.proofs.Common.{◌≡◌, ◌≢◌, ◌⊎◌, inl, inr, ℕ, ◌≤◌, Bool, true, false, cond, ◌||◌, ◌==◌, List, [], ◌∷◌, IsSome, Option, Some, None, refl, sym, ◌∙◌, ap, arith, subst, nat_le, if◌then◌else◌}
 use Rattle.std.proofs.lemmas.Bool.{le-leb, lt-leb, leb-true, eqb-true, or_left, or_right, false_from_ne_true, cases_lt}
 use Rattle.std.proofs.lemmas.Option.{same_Some}
 use Rattle.std.proofs.lemmas.Map.Keys.{sorted_tail}
@@ -16,10 +16,10 @@ use Rattle.membership_view.specs.declared.row.Row.{Row}
 use Rattle.membership_view.specs.declared.status.Status.{Status}
 use Rattle.membership_view.specs.declared.status.Status.TheVariants.{Active, Leaving, Dead}
 use Rattle.membership_view.specs.Row.{has_come, is_made_in, status_in, was_dead}
-use Rattle.membership_view.specs.View.{ViewValue, IsByAddress, is_newer, is_outlived, listed_rows, or_outlived, status_of}
+use Rattle.membership_view.specs.View.{IsByAddress, is_newer, is_outlived, listed_rows, or_outlived, status_of}
 use Rattle.membership_view.specs.Views.{ViewsValue, rows_in, status_at, view_at}
 use Rattle.membership_view.specs.Beginning.{beginning}
-use Rattle.membership_view.specs.Whole.{IsInTime, IsViews}
+use Rattle.membership_view.specs.Whole.{IsInTime}
 use Rattle.membership_view.specs.Laws.{ViewsSayStatuses, ViewsSayNoMore, IsOutlivedIn}
 use Rattle.membership_view.proofs.After.{row_status}
 use Rattle.membership_view.proofs.Found.{found_behind, found_first}

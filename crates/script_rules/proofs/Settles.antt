@@ -3,7 +3,7 @@ use Rattle.std.proofs.Common.{arith, ◌≡◌, refl, ap, ◌∙◌, ℕ, zero, 
 use Rattle.std.specs.Prelude.{false, count_by, option_map, Option, Some, None, Result, Ok, Err}
 use Rattle.std.proofs.lemmas.List.Sums.{count_by-le-length}
 use Rattle.directory_rules.specs.Event.{Deliver}
-use Rattle.directory_rules.specs.State.{Posted, World, Accepted}
+use Rattle.directory_rules.specs.State.{Posted, Accepted}
 use Rattle.directory_rules.specs.Laws.{IsMail}
 use Rattle.directory_rules.specs.Happens as rule
 use Rattle.script_rules.specs.Lines.{outcome_line}

@@ -1,7 +1,7 @@
 -- How the walk of `grain_directory_open_with_token` ends: what is left of its parameters, and the tokens of its lifetimes.
 use Rattle.std.proofs.Common.{List, [], ◌∷◌}
 use base.Fml.{ftrue}
-use types.Kit.{Item, Goal, Seq, Step, step, ‵, ◌⊛◌, ◌$◌, move, drop, split3, join, group}
+use types.Kit.{Item, Goal, Step, step, ‵, ◌⊛◌, ◌$◌, move, drop, split3, join, group}
 use types.Logic.{Logic}
 use denote.Steps.{nothing}
 use seplogic.Ra.Ura.{Ura}

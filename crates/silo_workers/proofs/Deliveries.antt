@@ -17,7 +17,6 @@ use Rattle.cluster_board.specs.declared.refusal.CommitRefusal.{CommitRefusal}
 use Rattle.cluster_board.specs.declared.refusal.CommitRefusal.TheVariants as refusals
 use Rattle.cluster_journal.specs.Entry.{EntryValue}
 use Rattle.cluster_journal.specs.Journal.{world_of}
-use Rattle.cluster_journal.specs.Posted.{IsReceiptOf}
 use Rattle.cluster_journal.specs.declared.entry.Receipt.{Receipt}
 use Rattle.cluster_journal.proofs.Beginnings.{prefix_none, prefix_self, prefix_then}
 use Rattle.silo_workers.specs.Causes.{cause_of}

@@ -1,12 +1,12 @@
 -- `grain_directory_open` meets its contract: a walk of its MIR, by hand.
 use Rattle.std.proofs.Common.{◌≡◌, ℕ, List, [], ◌∷◌, ◌++◌, None, refl, ap, ◌∙◌, subst}
 use mir.Syntax.{impl, tcons, tnil, dnil}
-use mir.Val.{Val, vunit, vptr, vstruct, vcons, vnil}
+use mir.Val.{Val, vptr, vcons, vnil}
 use base.Fraction.{full_share}
 use base.Logic.{ent, id⊢, emp}
 use base.Fml.{ftrue, fex, feq, flft}
 use types.Logic.{sem}
-use types.Kit.{‵, raw, ◌⊛◌, some, later, at_ret, ◌$◌, ◌∵◌, !, qed, done, move, keep, drop, split, split3, join, fsplit, fsplit3, fjoin, fpick, fpack, feq_l, feq_i, pick, use0, use1, use2, await, rewrite, suffices, group}
+use types.Kit.{‵, raw, ◌⊛◌, some, later, at_ret, ◌$◌, ◌∵◌, !, qed, done, move, keep, drop, split, split3, join, fsplit, fsplit3, fjoin, fpack, feq_l, feq_i, pick, use0, use1, use2, await, rewrite, suffices, group}
 use types.Tokens.{lft_new}
 use types.Part.{whole}
 use types.Run.{enter, of_opd, stop, fld, no_more, and_then, assigns, first, exec, returns}
@@ -16,7 +16,7 @@ use contract.BorrowLft.{◌⊑◌}
 use contract.Running.{tables}
 use contract.Lifetimes.{Lfts}
 use denote.Exit.{yes, no}
-use denote.Laws.{Is, shows}
+use denote.Laws.{Is}
 use denote.Struct.Laws.{tells}
 use mir.Raw.{raw as bare}
 use denote.Param.{arg, layout}
@@ -24,7 +24,7 @@ use denote.Param.Laws.{arg_laws}
 use denote.Param.NoDrop.{glues}
 use denote.RawPtr.{Ptr, RawPtr, InBlock, block_ptr, ptr_val}
 use denote.Signature.{plain}
-use denote.Steps.{nothing, heard, peeks, only}
+use denote.Steps.{nothing, heard, only}
 use denote.Triple.Call.{calls_at}
 use denote.Triple.Clauses.{Lasts, lasts}
 use denote.Triple.Spec.{triple_of}
@@ -50,7 +50,6 @@ use Rattle.silo_library.proofs.grain_directory_open.Statement.{statement}
 use Rattle.silo_library.proofs.grain_directory_open.Code as code
 use Rattle.std.proofs.Common.{zero, suc, lit<, w32, w64, ◌<◌, ◌^◌, length}
 use Rattle.std.specs.declared.result.Result.{Result}
-use Rattle.std.specs.declared.result.Result.TheVariants.{Ok, Err}
 use Rattle.std.specs.Prelude.{IfOk, IfErr}
 use Rattle.std.specs.contracts.result.Result as result
 use Rattle.silo_library.specs.OpenSiloValue.{OpenSiloValue, Opens, TellsRefusal}
@@ -79,11 +78,9 @@ use denote.Triple.Walked.{Fit, stay_ref, Goes-ref}
 use denote.Builtin.{u8, u32, usize, SliceRefOf}
 use denote.Memory.{cell_at}
 use denote.Plain.{uint_vals, uint_Tells, uint_Makes}
-use denote.RattleType.{RattleType}
 use denote.Ref.{MutRef, mut_vals, mut_Tells}
 use denote.Slice.{ShrSlice, shr_slice_vals, shr_slice_Tells}
 use denote.Steps.{owned, opens, closes}
-use types.Kit.{Item, Goal, Seq}
 use types.Match.{live, vrt, in_variant}
 use types.Run.{lit, store, switches_on}
 use types.ByLocal.{get_tag}

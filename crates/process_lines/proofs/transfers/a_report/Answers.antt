@@ -1,4 +1,4 @@
-use Rattle.std.proofs.Common.{◌≡◌, ◌∙◌, ℕ, Option, Result, subst, sym}
+use Rattle.std.proofs.Common.{◌∙◌, ℕ, Option, Result, subst, sym}
 use Rattle.silo_address.specs.Grain.{Grain}
 use Rattle.texts.specs.Words.{words_in}
 use Rattle.directory_rules.specs.State.{Letter}

@@ -1,6 +1,5 @@
 use Rattle.std.proofs.Common.{◌≡◌, ◌∙◌, ap}
 use Rattle.std.specs.Box.{boxed_slice_items}
-use Rattle.silo_address.specs.Grain.{grain_text}
 use Rattle.silo_address.specs.ReadGrain.{grain_at_slash}
 use Rattle.silo_address.specs.declared.Entry.{Entry}
 use Rattle.grain_table.proofs.short_entry.ShortEntry.grain.Goals as goal

@@ -1,4 +1,4 @@
-use Rattle.std.proofs.Common.{◌≡◌, ◌∙◌, ◌+◌, ◌-◌, List, None, Option, Some, arith, drop, length, subst, sym, take, ℕ}
+use Rattle.std.proofs.Common.{◌≡◌, ◌+◌, ◌-◌, List, None, Some, arith, drop, length, subst, sym, take, ℕ}
 use Rattle.std.proofs.lemmas.List.{length-drop, length-take-le}
 use Rattle.line_loop.specs.Pieces.{IsEndedAfter, IsOnePiece}
 use Rattle.line_loop.proofs.Pieces.{found_behind, found_there, held_parts, one_behind}

@@ -1,4 +1,4 @@
-use Rattle.std.proofs.Common.{◌≡◌, ◌≤◌, ◌<◌, true, length, sym, ◌∙◌, ap, arith, subst}
+use Rattle.std.proofs.Common.{◌≡◌, ◌<◌, true, length, sym, ◌∙◌, ap, arith, subst}
 use Rattle.membership_view.specs.Changes.{is_newest}
 use Rattle.membership_view.specs.Views.{ViewsValue}
 use Rattle.membership_view.proofs.Kept.{versions_fit}

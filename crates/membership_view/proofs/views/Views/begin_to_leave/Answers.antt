@@ -1,4 +1,4 @@
-use Rattle.std.proofs.Common.{◌≡◌, ◌≤◌, Some, ◌∙◌, ap, arith}
+use Rattle.std.proofs.Common.{◌≡◌, Some, ◌∙◌, ap, arith}
 use Rattle.membership_view.specs.declared.status.Status.TheVariants.{Active}
 use Rattle.membership_view.specs.Views.{ViewsValue, status_at}
 use Rattle.membership_view.proofs.Kept.{versions_fit, whole-leaving}

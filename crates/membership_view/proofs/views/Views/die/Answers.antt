@@ -1,4 +1,4 @@
-use Rattle.std.proofs.Common.{◌≤◌, IsSome, sym, ◌∙◌, ap, arith, subst}
+use Rattle.std.proofs.Common.{IsSome, sym, ◌∙◌, ap, arith, subst}
 use Rattle.membership_view.specs.Views.{ViewsValue, status_at}
 use Rattle.membership_view.proofs.Kept.{versions_fit, whole-dying}
 use Rattle.membership_view.proofs.views.Views.die.Goals as goal
