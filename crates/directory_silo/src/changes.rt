@@ -88,8 +88,8 @@ impl Silo {
 
     /// The silo is told the view of a version, in place of all changes up to it: it knows of the changes after that alone. The Dead
     /// are left out but for the newest silo of each endpoint, and the silo itself joins later. Refused by 211 where it was told a
-    /// change or a view before; by 210 where no history may begin with that version; then silo by silo, the first one first, by 210,
-    /// 205, 402, 403; last by 201 where the silo itself, or a newer one of its endpoint, is listed
+    /// change before, or a view above version 0; by 210 where no history may begin with that version; then silo by silo, the first
+    /// one first, by 210, 205, 402, 403; last by 201 where the silo itself, or a newer one of its endpoint, is listed
     /// (`docs/RULES.md#a-silo-by-itself`). A refusal changes nothing. Memory runs out only where nothing refuses the view.
     pub fn begins(&mut self, version: u64, rows: &[Listed]) -> Result<(), SiloRefusal>
         ensures begun { Follows (λ _. self.new.membership) silo_refusal_number IsOk (told_view self.old.node.settings self.old.membership self.old.node.host.silo version (all_listed_of rows.now)) result }
