@@ -1,5 +1,5 @@
 pub mod ShortSteps
-pub mod Marked
+pub mod Sorted
 pub mod Journal
 pub mod Beginnings
 pub mod LogSteps

@@ -6,5 +6,5 @@ pub mod EntryModel
 pub mod Journal
 pub mod Agreement
 pub mod Posted
-pub mod Comparison
+pub mod Numbers
 pub mod Log

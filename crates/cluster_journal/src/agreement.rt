@@ -1,28 +1,19 @@
-ghost use Rattle.std.specs.Prelude.{◌≡◌, ◌↔◌, All, AllPairs, IfOk, IsTrue, OnErr, false, length, replicate};
+ghost use Rattle.std.specs.Prelude.{◌≡◌, ◌↔◌, All, AllPairs, IsTrue};
+ghost use Rattle.std.specs.List.Sorted.{IsPermutation};
 ghost use Rattle.std.specs.Option.{option_copied};
 ghost use Rattle.cluster_journal.specs.Agreement.{Agree, HaveTwoNumbers, Stands};
 ghost use Rattle.cluster_journal.specs.Journal.{entry_at};
 
 use crate::{JournalEntry, Receipt};
-use std::alloc::{AllocError, Global};
 
 /// Whether the receipts are just those of the journal: each one's event and outcome are the journal's at its number, no two have
-/// one number, and there are as many as entries. Two looks at each. Fails only when memory runs out, of which it takes a byte an entry,
-/// where all is right but that two may have one number.
-pub fn agree(
-    alloc: Global,
-    journal: &[JournalEntry],
-    receipts: &[Receipt],
-) -> Result<bool, AllocError>
-    ensures agree { IfOk result (λ agree. IsTrue agree ↔ Agree journal.now receipts.now) }
-    ensures stand { OnErr result (All (Stands journal.now) receipts.now) }
-    ensures many { OnErr result (length receipts.now ≡ length journal.now) }
+/// one number, and there are as many as entries. It needs no memory: where only their numbers are still to be told apart, the
+/// receipts are sorted by these, in place. Costs a logarithm for each receipt at most.
+pub fn agree(journal: &[JournalEntry], receipts: &mut [Receipt]) -> bool
+    ensures agree { IsTrue result ↔ Agree journal.now receipts.old }
+    ensures same { IsPermutation receipts.old receipts.new }
 {
-    if receipts.len() != journal.len() || !all_stand(journal, receipts) {
-        return Ok(false);
-    }
-    let mut given = vec![in alloc; false; journal.len()]?;
-    Ok(are_apart(journal, receipts, &mut given))
+    receipts.len() == journal.len() && all_stand(journal, receipts) && are_apart(receipts)
 }
 
 // Whether each receipt's entry is the journal's at its number.
@@ -32,20 +23,13 @@ fn all_stand(journal: &[JournalEntry], receipts: &[Receipt]) -> bool
     receipts.iter().all(|receipt| stands(journal, receipt))
 }
 
-// Whether no two receipts, whose entries are the journal's, have one number: an entry is marked as given once its receipt has come.
-fn are_apart(journal: &[JournalEntry], receipts: &[Receipt], given: &mut [bool]) -> bool
-    requires stand { All (Stands journal.now) receipts.now }
-    requires none { given.old ≡ replicate (length journal.now) false }
-    ensures { IsTrue result ↔ AllPairs HaveTwoNumbers receipts.now }
+// Whether no two receipts have one number: sorted by their numbers, each has a higher one than the one before it.
+fn are_apart(receipts: &mut [Receipt]) -> bool
+    ensures apart { IsTrue result ↔ AllPairs HaveTwoNumbers receipts.old }
+    ensures same { IsPermutation receipts.old receipts.new }
 {
-    for receipt in receipts {
-        let index = (receipt.number - 1) as usize;
-        if given[index] {
-            return false;
-        }
-        given[index] = true;
-    }
-    true
+    receipts.sort_unstable_by_key(|receipt| receipt.number);
+    receipts.is_sorted_by(|one, next| one.number < next.number)
 }
 
 // Whether the receipt's entry is the journal's at its number.

@@ -18,19 +18,12 @@ use Rattle.threaded_play.specs.Printed.{TellsWorld}
 use Rattle.threaded_play.specs.declared.ended.ThreadsEnded.{ThreadsEnded}
 use Rattle.threaded_play.specs.declared.ended.ThreadsEnded.TheVariants as threads
 use Rattle.threaded_play.specs.declared.ended.ThreadsEnded.TheVariants.{Played}
-use Rattle.cluster_journal.specs.declared.refusal.CloseRefusal.{CloseRefusal}
-use Rattle.cluster_journal.specs.declared.refusal.CloseRefusal.TheVariants as refusal
 use Rattle.console_threads.specs.Held.{is_read_well}
 
 -- the cluster wasn't closed
 abbrev pub IsUnclosed : ThreadsEnded → Type 0
 IsUnclosed (Played end) = ⊥
 IsUnclosed other = ⊤
-
--- how it ends where a close is refused
-abbrev pub unclosed_by : CloseRefusal → ThreadsEnded
-unclosed_by refusal.ReceiptDiffers = threads.ReceiptDiffers
-unclosed_by refusal.OutOfMemory = threads.Lacking
 
 -- the script's lines end so, and print that text by themselves
 abbrev pub LinesEnd : (script : List ℕ) → (rest : Option (List ℕ)) → (text : List ℕ) → Ended ScriptLineFault → Type 0

@@ -1,13 +1,14 @@
 //! The cluster is closed: its threads are joined, and what all of them did is compared with its journal.
 
-ghost use Rattle.std.specs.Prelude.{◌≡◌, ℕ, List, IfErr, IfOk, MatchResult, OnOk, false};
+ghost use Rattle.std.specs.Prelude.{◌≡◌, ℕ, List, IfErr, IfOk, MatchResult, OnErr, OnOk, false};
 ghost use mathlib.Core.List.{IsPrefix};
 ghost use Rattle.cluster_journal.specs.Agreement.{Agree};
 ghost use Rattle.console_threads.specs.Driven.{numbers_of};
 ghost use Rattle.cluster_journal.specs.Journal.{IsJournaled};
 ghost use Rattle.threaded_play.specs.CarriedOut.{HasDeliveriesBeside};
 ghost use Rattle.threaded_play.specs.Endings.{IsSent, TellsCauses};
-ghost use Rattle.console_threads.specs.Endings.{IsUnclosed, unclosed_by};
+ghost use Rattle.threaded_play.specs.declared.ended.ThreadsEnded.TheVariants.{ReceiptDiffers};
+ghost use Rattle.console_threads.specs.Endings.{IsUnclosed};
 
 use crate::driver::Driver;
 use cluster_board::{Board, Charter};
@@ -61,22 +62,12 @@ fn closed<L: Charter>(ended: EndedCluster<L>) -> Result<Board<L>, ThreadsEnded>
     ensures agree { IfOk result (λ board. Agree board.journal ended.receipts.items) }
     ensures seen { IfOk result (λ board. IsPrefix ended.hand.seen board.journal) }
     ensures journaled { IfOk result (λ board. IsJournaled L.settings board.journal board.world) }
-    ensures unclosed { IfErr result IsUnclosed }
+    ensures declined { OnErr result (¬ (Agree ended.board.journal ended.receipts.items)) }
+    ensures differs { IfErr result (λ end. end ≡ ReceiptDiffers) }
 {
     match ended.close() {
         Ok(board) => Ok(board),
-        Err(refusal) => Err(unclosed(refusal)),
-    }
-}
-
-// How it ends where a cluster isn't closed.
-fn unclosed(refusal: CloseRefusal) -> ThreadsEnded
-    ensures told { result ≡ unclosed_by refusal }
-    ensures unclosed { IsUnclosed result }
-{
-    match refusal {
-        CloseRefusal::ReceiptDiffers => ThreadsEnded::ReceiptDiffers,
-        CloseRefusal::OutOfMemory => ThreadsEnded::Lacking,
+        Err(CloseRefusal::ReceiptDiffers) => Err(ThreadsEnded::ReceiptDiffers),
     }
 }
 

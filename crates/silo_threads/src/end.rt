@@ -63,7 +63,6 @@ impl<L: Charter, G: Gate + Drop> Cluster<L, G> {
             gate: _,
         } = site;
         Ok(EndedCluster {
-            alloc,
             board: board.into_inner(),
             hand,
             receipts,

@@ -1,23 +1,20 @@
-ghost use Rattle.std.specs.Prelude.{◌≡◌, ◌↔◌, IfErr, IfOk, IsTrue, OnOk, length};
+ghost use Rattle.std.specs.Prelude.{◌≡◌, ◌↔◌, IfOk, IsTrue, OnErr, OnOk, length};
 ghost use Rattle.std.specs.List.{Any};
 ghost use mathlib.Core.List.{IsPrefix};
 ghost use Rattle.directory_rules.specs.Headline.{Headline};
 ghost use Rattle.cluster_journal.specs.Agreement.{Agree};
 ghost use Rattle.cluster_journal.specs.Journal.{IsJournaled};
-ghost use Rattle.cluster_journal.specs.Comparison.{Declines};
 ghost use Rattle.silo_workers.specs.Causes.{HasGivenUp};
 
 use crate::EndFault;
 use cluster_board::{Board, Charter, Hand};
 use cluster_journal::{CloseRefusal, Receipt, compare};
 use silo_workers::Ending;
-use std::alloc::Global;
 
 /// A cluster that has ended: its board, the whole share with what was seen of the journal, the receipts of all who posted and
 /// committed, and how each worker ended.
 #[derive(Drop)]
 pub struct EndedCluster<L: Charter> {
-    pub alloc: Global,
     pub board: Board<L>,
     pub hand: Hand<L>,
     pub receipts: Vec<Receipt>,
@@ -40,32 +37,30 @@ impl<L: Charter> EndedCluster<L> {
     }
 
     /// The board, whose receipts are all there: each one's event and outcome are the journal's at its number, no two have one
-    /// number, and there are as many as events; else it is refused by 953. The world is what the run of the journal's events
-    /// leaves, so the headline holds of it; and what was seen of the journal begins it. The caller has the whole share, which counts
-    /// the journal's events
-    /// (`docs/RULES.md#running-silos`).
+    /// number, and there are as many as events; else it is refused by 953. It needs no memory. The world is what the run of the
+    /// journal's events leaves, so the headline holds of it; and what was seen of the journal begins it. The caller has the whole
+    /// share, which counts the journal's events (`docs/RULES.md#running-silos`).
     pub fn close(self) -> Result<Board<L>, CloseRefusal>
         requires { self.hand.share.parts ≡ L.parts }
         ensures board { IfOk result (λ board. board ≡ self.board) }
         ensures agree { OnOk result (Agree self.board.journal self.receipts.items) }
-        ensures declined { IfErr result (λ refusal. Declines self.board.journal self.receipts.items refusal) }
+        ensures declined { OnErr result (¬ (Agree self.board.journal self.receipts.items)) }
         ensures counted { self.hand.share.amount ≡ length self.board.journal }
         ensures seen { IsPrefix self.hand.seen self.board.journal }
         ensures journaled { IfOk result (λ board. IsJournaled L.settings board.journal board.world) }
         ensures headline { IfOk result (λ board. Headline board.world) }
     {
         let EndedCluster {
-            alloc,
             board,
             hand,
-            receipts,
+            mut receipts,
             endings: _,
         } = self;
         let Hand { mut share, seen } = hand;
         let mut board = board;
         board.counted(&mut share);
         board.began(seen);
-        compare(alloc, board.journal(), &receipts)?;
+        compare(board.journal(), &mut receipts)?;
         board.journaled();
         board.world().headline();
         Ok(board)

@@ -8,7 +8,7 @@ use line_loop::{Ended, ScriptLineFault};
 pub enum ThreadsEnded {
     /// The script was played up to its end or to what ended it before, and no worker gave up.
     Played(Ended<ScriptLineFault>),
-    /// The receipts aren't those of the journal, or not in their order, 953. Nothing is printed.
+    /// The receipts aren't those of the journal, 953. Nothing is printed.
     ReceiptDiffers,
     /// Memory, a thread or a publisher couldn't be had, a ring wasn't published, or a worker gave up. Nothing is printed.
     Lacking,

@@ -1,7 +1,9 @@
-use Rattle.std.proofs.lemmas.Result.{IfOk-weaker}
+use Rattle.std.proofs.Common.{subst, sym}
+use Rattle.std.proofs.lemmas.Result.{IfErr-weaker, IfOk-weaker}
 use Rattle.cluster_journal.proofs.Beginnings.{prefix_then}
 use Rattle.threaded_play.specs.declared.ended.ThreadsEnded.TheVariants.{Lacking}
 use Rattle.threaded_play.proofs.Nothing.{nothing_told}
+use Rattle.console_threads.specs.Endings.{IsUnclosed}
 use Rattle.console_threads.proofs.Closed.{closed_silently}
 use Rattle.console_threads.proofs.Entered.{deliveries_beside}
 use Rattle.console_threads.proofs.close.Driver+L+OpenGate.close.Goals as goal
@@ -24,3 +26,8 @@ pub returns-clause-seen : goal.returns-clause-seen
 returns-clause-seen g c =
     IfOk-weaker c.closed.result _ _ (λ board begins. prefix_then c.args.self.hand.seen c.in-Ok.ended.hand.seen board.journal
     c.in-Ok.ensures.seen begins) c.closed.ensures.seen
+
+-- a cluster whose receipts differ isn't closed
+pub returns-clause-unclosed : goal.returns-clause-unclosed
+returns-clause-unclosed g c =
+    IfErr-weaker c.closed.result _ _ (λ end differs. subst IsUnclosed (sym differs) tt) c.closed.ensures.differs
