@@ -1,5 +1,5 @@
 -- What a silo has to do.
-use Rattle.std.specs.Prelude.{◌≡◌, ◌⊎◌, Some, None, true}
+use Rattle.std.specs.Prelude.{◌≡◌, ◌⊎◌, Bool, Some, None, true}
 use Rattle.silo_address.specs.Silo.{Silo}
 use Rattle.directory_rules.specs.State.{World}
 use Rattle.directory_rules.specs.Happens.{node_of}
@@ -17,6 +17,11 @@ pub record IsWorkOf (world : World) (silo : Silo) (work : Work) : Type 0 where
   pub current : IsCurrent world work
   pub its : work.letter.to ≡ silo
   pub least : least_fresh_to silo (mail_of world) ≡ Some work.number
+
+-- a silo's worker was let go: it was dismissed, or gave up
+pub record DismissalValue : Type 0 where
+  pub silo : Silo
+  pub gave_up : Bool
 
 -- nothing more is to be done for the silo: all silos are to stop, one gave up, or it has no node
 abbrev pub IsDismissed : BoardValue → Silo → Type 0

@@ -1,4 +1,4 @@
-ghost use Rattle.std.specs.Prelude.{◌≡◌, ◌+◌, [], MatchOption, true, false, length};
+ghost use Rattle.std.specs.Prelude.{◌≡◌, ◌+◌, ◌<◌, [], IfSome, MatchOption, true, false, length};
 ghost use mathlib.Core.List.{IsPrefix};
 ghost use Rattle.directory_rules.specs.World.{first_world};
 ghost use Rattle.cluster_board.specs.Due.{IsDismissed};
@@ -12,7 +12,7 @@ use directory_rules::Settings;
 use silo_address::SiloAddress;
 use std::alloc::Global;
 use std::collections::BTreeMap;
-use std::marker::Model;
+use std::marker::{Model, PhantomData};
 use std::sync::ledger::{Book, Share};
 
 /// A cluster and its journal, as they stand under one lock: the world is what the run of the journal's events leaves, and these
@@ -99,33 +99,45 @@ impl<L: Charter> Board<L> {
         self.stops
     }
 
-    /// The silos are to stop.
-    pub fn stop(&mut self)
+    /// The silos are to stop. Who says so has more parts of the share than a worker, which has one.
+    pub fn stop(&mut self, _hand: &Hand<L>)
+        requires { 1 < _hand.now.share.parts }
         ensures { self.new ≡ record self.old { stops = true } }
     {
         self.stops = true;
     }
 
-    /// Whether a silo gave up.
+    /// Whether a silo's worker gave up.
     pub fn gave_up(&self) -> bool
         ensures { result ≡ self.now.gave_up }
     {
         self.gave_up
     }
 
-    /// A silo gave up.
-    pub fn give_up(&mut self)
-        ensures { self.new ≡ record self.old { gave_up = true } }
+    /// The silo's worker gives up.
+    pub fn give_up(&mut self, silo: &SiloAddress) -> Dismissal<L>
+        ensures board { self.new ≡ record self.old { gave_up = true } }
+        ensures its { result ≡ record { silo = silo.now; gave_up = true } }
     {
         self.gave_up = true;
+        Dismissal {
+            silo: *silo,
+            gave_up: true,
+            board: PhantomData,
+        }
     }
 
-    /// Dismisses the silo, if nothing more is to be done for it: all silos are to stop, one gave up, or it has no node.
-    pub fn dismissal(&self, silo: &SiloAddress) -> Option<Dismissal>
-        ensures { MatchOption result (¬ (IsDismissed self.now silo.now)) (λ dismissal. IsDismissed self.now silo.now × (dismissal ≡ silo.now)) }
+    /// Dismisses the silo's worker, if nothing more is to be done for the silo: all are to stop, a worker gave up, or it has no node.
+    pub fn dismissal(&self, silo: &SiloAddress) -> Option<Dismissal<L>>
+        ensures due { MatchOption result (¬ (IsDismissed self.now silo.now)) (λ _. IsDismissed self.now silo.now) }
+        ensures its { IfSome result (λ dismissal. dismissal ≡ record { silo = silo.now; gave_up = false }) }
     {
         if self.stops || self.gave_up || self.world.node(silo).is_none() {
-            Some(Dismissal { silo: *silo })
+            Some(Dismissal {
+                silo: *silo,
+                gave_up: false,
+                board: PhantomData,
+            })
         } else {
             None
         }

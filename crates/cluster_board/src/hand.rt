@@ -5,7 +5,7 @@ use cluster_journal::{Front, JournalEntry, LogName, NewLog};
 use directory_node::SharedNode;
 use silo_address::SiloAddress;
 use std::alloc::{AllocError, Global};
-use std::marker::{Brand, Model};
+use std::marker::{Brand, Model, PhantomData};
 use std::sync::ledger::{Blank, Ledger, Share};
 
 /// Which board it is: the settings of its cluster, its ledger, the marks of its nodes and the log of its journal.
@@ -53,16 +53,19 @@ pub struct Hand<L: Charter> {
     pub seen: Front<JournalEntry, L>,
 }
 
-/// Shows that a board dismissed a silo's worker: clauses see it as the silo. A board alone can make it.
+/// Shows that a board let a silo's worker go: that it dismissed it, or knows that it gave up. A board alone can make it, the one that
+/// its type names.
 #[derive(Drop)]
-pub struct Dismissal {
+pub struct Dismissal<L: Charter> {
     pub(crate) silo: SiloAddress,
+    pub(crate) gave_up: bool,
+    pub(crate) board: PhantomData<L>,
 }
 
-impl Model for Dismissal {
-    ghost use Rattle.silo_address.specs.Silo.{Silo};
+impl<L: Charter> Model for Dismissal<L> {
+    ghost use Rattle.cluster_board.specs.Due.{DismissalValue};
 
-    ghost Value = { Silo };
+    ghost Value = { DismissalValue };
 
-    ghost view = { λ d. d.silo };
+    ghost view = { λ d. record { silo = d.silo; gave_up = d.gave_up } };
 }

@@ -11,8 +11,7 @@ use Rattle.directory_rules.specs.Settings.{Settings}
 use Rattle.cluster_journal.specs.Entry.{EntryValue}
 use Rattle.cluster_journal.specs.declared.entry.Receipt.{Receipt}
 use Rattle.silo_workers.specs.Delivered.{AreDeliveriesTo, IsDeliveryTo}
-use Rattle.silo_workers.specs.Endings.{Ends}
-use Rattle.silo_workers.specs.declared.cause.Ending.{Ending}
+use Rattle.silo_workers.specs.Endings.{EndingValue, Ends}
 use Rattle.silo_workers.proofs.Deliveries.{delivery_on, ends_on}
 use Rattle.silo_threads.specs.Tallied.{HasMore, IsDeliveryToOneOf, IsEndingOfOneOf}
 
@@ -30,7 +29,7 @@ pub one_joined : (all left now : List Silo) (silo : Silo) → left ≡ now ++ si
 one_joined all left now silo is are = record { joined = silo ∷ are.joined; is = stands_next all left now silo is are }
 
 -- how those ended that were joined
-pub record EndedSoFar (settings : Settings) (known : List EntryValue) (all left : List Silo) (endings : List Ending) : Type 0 where
+pub record EndedSoFar (settings : Settings) (known : List EntryValue) (all left : List Silo) (endings : List EndingValue) : Type 0 where
   pub many : length endings + length left ≡ length all
   pub its : All (IsEndingOfOneOf settings known all) endings
 
@@ -54,7 +53,7 @@ module _ (settings : Settings) (silos left now : List Silo) (silo : Silo) (is : 
   still : (receipt : Receipt) → IsDeliveryToOneOf settings before silos receipt → IsDeliveryToOneOf settings known silos receipt
   still receipt held = (held.0, held.1, held.2, held.3, delivery_on settings held.1 before known receipt mine held.4)
 
-  still_ended : (ending : Ending) → IsEndingOfOneOf settings before silos ending → IsEndingOfOneOf settings known silos ending
+  still_ended : (ending : EndingValue) → IsEndingOfOneOf settings before silos ending → IsEndingOfOneOf settings known silos ending
   still_ended ending held = (held.0, held.1, held.2, held.3, ends_on settings held.1 before known ending mine held.4)
 
   -- its receipts are put to the others
@@ -74,12 +73,12 @@ module _ (settings : Settings) (silos left now : List Silo) (silo : Silo) (is : 
       }
 
   -- and how it ended
-  pub one_ended : (endings after : List Ending) (ending : Ending) → after ≡ endings ++ ending ∷ [] → Ends settings silo its ending
+  pub one_ended : (endings after : List EndingValue) (ending : EndingValue) → after ≡ endings ++ ending ∷ [] → Ends settings silo its ending
       → EndedSoFar settings before silos left endings
       → EndedSoFar settings known silos now after
   one_ended endings after ending is_put ends so_far =
       let more = length-append endings (ending ∷ []) in
-      let count = ap (λ (l : List Ending). length l) is_put in
+      let count = ap (λ (l : List EndingValue). length l) is_put in
       let fewer = ap (λ (l : List Silo). length l) is ∙ length-append now (silo ∷ []) in
       let sum = so_far.many in
       record {

@@ -26,14 +26,26 @@ abbrev pub Shows : ViewValue → PlacesValue → PublisherValue → PublisherVal
 Shows view places before after =
     ((before.last.version < view.version) × (after ≡ after_publishing before (ring_of view places))) ⊎ ((view.version ≤ before.last.version) × (after ≡ before))
 
--- so it is with the view and the places, which there may be none of
-abbrev pub ShowsNewest : {E : Type 0} → Result (ViewValue × PlacesValue) E → PublisherValue → PublisherValue → Type 0
-ShowsNewest (Ok newest) before after = Shows newest.0 newest.1 before after
-ShowsNewest (Err failure) before after = ⊥
-
 -- the view and the places are those of the world
 abbrev pub IsLeftIn : World → ViewValue × PlacesValue → Type 0
 IsLeftIn world newest = (newest.0 ≡ current_view world) × (newest.1 ≡ world.places)
+
+-- the version up to which rings are published is behind the world's
+abbrev pub IsBehind : (published : ℕ) → World → Type 0
+IsBehind published world = published < world.views.version
+
+-- what is to be published of a world: nothing, where a ring of its version or of a later one was; else the ring of its view and places,
+-- which may be lacking
+abbrev pub IsToShow : {E : Type 0} → World → (published : ℕ) → Result (Option (ViewValue × PlacesValue)) E → Type 0
+IsToShow world published (Ok None) = world.views.version ≤ published
+IsToShow world published (Ok (Some newest)) = IsBehind published world × IsLeftIn world newest
+IsToShow world published (Err failure) = IsBehind published world
+
+-- that is published
+abbrev pub ShowsNewest : {E : Type 0} → Result (Option (ViewValue × PlacesValue)) E → PublisherValue → PublisherValue → Type 0
+ShowsNewest (Ok None) before after = after ≡ before
+ShowsNewest (Ok (Some newest)) before after = after ≡ after_publishing before (ring_of newest.0 newest.1)
+ShowsNewest (Err failure) before after = ⊥
 
 -- the version of the view that an event made; none where it made none
 abbrev pub version_made : Happening → Option ℕ
@@ -59,16 +71,18 @@ with_worker workers silo = workers ++ silo ∷ []
 abbrev pub LacksThread : Silo → List Silo → List Silo → Type 0
 LacksThread silo before after = (after ≡ with_worker before silo) ⊎ ((MOST_WORKERS ≤ length before) × (after ≡ before))
 
--- after a join the silo has a worker, and there is a publication, but for what lacks; without a thread nothing is published
+-- after a join the silo has a worker, and there is a publication, but for what lacks; only a newer ring can be lacking, and without a
+-- thread nothing is published
 abbrev pub HasJoined : World → Silo → Receipt → ClusterValue → ClusterValue → Option Lack → Type 0
 HasJoined world silo receipt before after None = (after.workers ≡ with_worker before.workers silo) × HasPublished world receipt before.published after.published
-HasJoined world silo receipt before after (Some Publication) = after ≡ record before { workers = with_worker before.workers silo }
+HasJoined world silo receipt before after (Some Publication) =
+    (after ≡ record before { workers = with_worker before.workers silo }) × IsBehind before.published.last.version world
 HasJoined world silo receipt before after (Some Thread) = LacksThread silo before.workers after.workers × (after.published ≡ before.published)
 
--- after a leave or a death there is a publication, unless it lacks; no worker more or less
+-- after a leave or a death there is a publication, unless it lacks, as only a newer ring can; no worker more or less
 abbrev pub HasChanged : World → Receipt → ClusterValue → ClusterValue → Option Lack → Type 0
 HasChanged world receipt before after None = (after.workers ≡ before.workers) × HasPublished world receipt before.published after.published
-HasChanged world receipt before after (Some Publication) = after ≡ before
+HasChanged world receipt before after (Some Publication) = (after ≡ before) × IsBehind before.published.last.version world
 HasChanged world receipt before after (Some Thread) = ⊥
 
 -- after any other event nothing

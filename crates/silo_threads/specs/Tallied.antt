@@ -6,8 +6,7 @@ use Rattle.directory_rules.specs.Settings.{Settings}
 use Rattle.cluster_journal.specs.Entry.{EntryValue}
 use Rattle.cluster_journal.specs.declared.entry.Receipt.{Receipt}
 use Rattle.silo_workers.specs.Delivered.{IsDeliveryTo}
-use Rattle.silo_workers.specs.Endings.{Ends}
-use Rattle.silo_workers.specs.declared.cause.Ending.{Ending}
+use Rattle.silo_workers.specs.Endings.{EndingValue, Ends}
 
 -- the receipt is of a delivery to one of the silos
 abbrev pub IsDeliveryToOneOf : Settings → (known : List EntryValue) → List Silo → Receipt → Type 0
@@ -21,10 +20,10 @@ pub record HasMore (settings : Settings) (known : List EntryValue) (silos : List
   pub counted : total ≡ amount + length more
 
 -- so ended the worker of one of the silos
-abbrev pub IsEndingOfOneOf : Settings → (known : List EntryValue) → List Silo → Ending → Type 0
+abbrev pub IsEndingOfOneOf : Settings → (known : List EntryValue) → List Silo → EndingValue → Type 0
 IsEndingOfOneOf settings known silos ending = Any (λ silo. Ends settings silo known ending) silos
 
 -- so ended the workers of the silos, each of them once
-pub record HaveEnded (settings : Settings) (known : List EntryValue) (silos : List Silo) (endings : List Ending) : Type 0 where
+pub record HaveEnded (settings : Settings) (known : List EntryValue) (silos : List Silo) (endings : List EndingValue) : Type 0 where
   pub many : length endings ≡ length silos
   pub its : All (IsEndingOfOneOf settings known silos) endings

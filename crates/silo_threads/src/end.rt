@@ -36,12 +36,12 @@ impl<L: Charter, G: Gate + Drop> Cluster<L, G> {
             workers,
             publisher,
         } = self;
+        stop(rt, &site, &hand);
         let mut all = Taken {
             hand,
             receipts,
             endings: Vec::new(alloc),
         };
-        stop(rt, &site);
         let taken = take_in(rt, &site, workers, &mut all);
         publisher.close(rt);
         let Taken {
@@ -75,7 +75,7 @@ impl<L: Charter, G: Gate + Drop> Cluster<L, G> {
 struct Taken<L: Charter> {
     hand: Hand<L>,
     receipts: Vec<Receipt>,
-    endings: Vec<Ending>,
+    endings: Vec<Ending<L>>,
 }
 
 // Joins all threads. What the workers had of the share and saw, their receipts and how they ended are put to these.
@@ -110,7 +110,7 @@ fn take_one<L: Charter, G: Gate + Drop, R: Wait>(
     all: &mut Taken<L>,
     hand: Hand<L>,
     receipts: Vec<Receipt>,
-    ending: Ending,
+    ending: Ending<L>,
 ) -> Result<(), AllocError>
     ensures parts { all.new.hand.share.parts ≡ all.old.hand.share.parts + hand.share.parts }
     ensures amount { all.new.hand.share.amount ≡ all.old.hand.share.amount + hand.share.amount }

@@ -4,7 +4,7 @@ ghost use mathlib.Core.List.{IsPrefix};
 ghost use Rattle.directory_rules.specs.Headline.{Headline};
 ghost use Rattle.cluster_journal.specs.Agreement.{Agree};
 ghost use Rattle.cluster_journal.specs.Journal.{IsJournaled};
-ghost use Rattle.silo_workers.specs.Causes.{HasGivenUp};
+ghost use Rattle.silo_workers.specs.Endings.{HasGivenUp};
 
 use crate::EndFault;
 use cluster_board::{Board, Charter, Hand};
@@ -18,7 +18,7 @@ pub struct EndedCluster<L: Charter> {
     pub board: Board<L>,
     pub hand: Hand<L>,
     pub receipts: Vec<Receipt>,
-    pub endings: Vec<Ending>,
+    pub endings: Vec<Ending<L>>,
 }
 
 /// A cluster whose threads were all joined, and which can't be closed: why, and the whole share.

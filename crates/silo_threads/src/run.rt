@@ -31,8 +31,8 @@ impl<L: Charter + Send + 'static, G: Gate + Drop + Send + Sync + 'static> Cluste
     /// Posts an event, behind all that the hand had seen of the journal. At a join the silo's worker starts, with a part of the share;
     /// at each change of membership the ring of the view that it made is published, unless that of a later one was. Refused as the
     /// world refuses the event that the journal so far leaves, which the hand has seen then; out of memory may come before any other
-    /// refusal. A refusal changes nothing. That no thread or no publication could be had is told with the receipt; without a thread
-    /// all silos are to stop, and nothing is published. The caller has all parts of the share that no worker has
+    /// refusal. A refusal changes nothing. That no thread or no publication could be had is told with the receipt; a publication can
+    /// lack only where the last ring is older; without a thread all silos are to stop, and nothing is published. The caller has all parts of the share that no worker has
     /// (`docs/RULES.md#running-silos`).
     pub fn run<R: Threads + Wait + Copy + Drop + Send + 'static>(
         &mut self,
@@ -85,7 +85,8 @@ impl<L: Charter + Send + 'static, G: Gate + Drop + Send + Sync + 'static> Cluste
         if self.workers.reserve(1).is_err() {
             return Err(EventRefusal::OutOfMemory);
         }
-        let posted = post_change(rt, self.alloc, &self.site, hand, event)?;
+        let published = self.publisher.version();
+        let posted = post_change(rt, self.alloc, &self.site, hand, event, published)?;
         let lack = match start(rt, &self.site, &mut self.workers, hand, desk) {
             Ok(()) => self.publish(rt, &posted.newest).err(),
             Err(lack) => Some(lack),
@@ -115,7 +116,8 @@ impl<L: Charter + Send + 'static, G: Gate + Drop + Send + Sync + 'static> Cluste
         ensures counted { OnOk result (hand.new.share.amount ≡ hand.old.share.amount + 1) }
         ensures not_counted { OnErr result (hand.new.share.amount ≡ hand.old.share.amount) }
     {
-        let posted = post_change(rt, self.alloc, &self.site, hand, event)?;
+        let published = self.publisher.version();
+        let posted = post_change(rt, self.alloc, &self.site, hand, event, published)?;
         let lack = self.publish(rt, &posted.newest).err();
         Ok(Ran {
             receipt: posted.receipt,

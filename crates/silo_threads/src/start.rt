@@ -62,7 +62,7 @@ pub(crate) fn start<
     desk: Desk<L, G>,
 ) -> Result<(), Lack>
     requires room { vec_len workers.old < vec_capacity workers.old }
-    requires part { 1 < hand.old.share.parts }
+    requires part { 2 < hand.old.share.parts }
     requires few { vec_len workers.old ≤ MOST_WORKERS }
     ensures parts { hand.new.share.parts + vec_len workers.new ≡ hand.old.share.parts + vec_len workers.old }
     ensures amount { hand.new.share.amount ≡ hand.old.share.amount }
@@ -73,7 +73,7 @@ pub(crate) fn start<
     ensures thread { OnErr result (LacksThread desk.silo workers.old.items workers.new.items) }
 {
     if workers.len() >= MOST_WORKERS {
-        stop(rt, site);
+        stop(rt, site, hand);
         return Err(Lack::Thread);
     }
     let silo = desk.silo;
@@ -89,7 +89,7 @@ pub(crate) fn start<
             Ok(())
         }
         Err(refused) => {
-            stop(rt, site);
+            stop(rt, site, hand);
             let thread = Err((refused.value)());
             workers.push_reserved(Worker { silo, thread });
             Err(Lack::Thread)
@@ -97,9 +97,11 @@ pub(crate) fn start<
     }
 }
 
-/// All silos are to stop, and are told so.
-pub(crate) fn stop<L: Charter, G: Gate + Drop, R: Wait>(rt: &R, site: &Site<L, G>) {
-    site.board.lock(rt).stop();
+/// All silos are to stop, and are told so, by who has more parts of the share than a worker.
+pub(crate) fn stop<L: Charter, G: Gate + Drop, R: Wait>(rt: &R, site: &Site<L, G>, hand: &Hand<L>)
+    requires { 1 < hand.now.share.parts }
+{
+    site.board.lock(rt).stop(hand);
     site.bell.notify_all();
 }
 

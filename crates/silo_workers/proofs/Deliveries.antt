@@ -1,6 +1,6 @@
 -- Deliveries of a worker, and how it ends, where more is known of the journal.
 use Rattle.std.proofs.Common.{◌≡◌, ◌∙◌, ◌+◌, ◌++◌, [], ◌∷◌, ℕ, List, All, ap, get_or, length, length-append, sym, subst}
-use Rattle.std.specs.Prelude.{Some, Ok, Err}
+use Rattle.std.specs.Prelude.{IfSome, Option, Some, None, Ok, Err}
 use Rattle.std.proofs.lemmas.List.Elements.{All-nil, All-push}
 use Rattle.std.proofs.lemmas.Option.{same_Some}
 use mathlib.Core.List.{IsPrefix}
@@ -22,11 +22,9 @@ use Rattle.cluster_journal.proofs.Beginnings.{prefix_none, prefix_self, prefix_t
 use Rattle.silo_workers.specs.Causes.{cause_of}
 use Rattle.silo_workers.specs.Delivered.{AreDeliveriesTo, IsDeliveryTo}
 use Rattle.silo_workers.specs.SoFar.{IsTally}
-use Rattle.silo_workers.specs.Endings.{Ends, GivesUp, WasRefused}
+use Rattle.silo_workers.specs.Endings.{EndingValue, Ends, GivesUp, IsGivenBy, WasRefused}
 use Rattle.silo_workers.specs.declared.cause.Cause.{Cause}
 use Rattle.silo_workers.specs.declared.cause.Cause.TheVariants as causes
-use Rattle.silo_workers.specs.declared.cause.Ending.{Ending}
-use Rattle.silo_workers.specs.declared.cause.Ending.TheVariants.{Dismissed, GaveUp}
 
 -- ---- Where more is known.
 
@@ -70,10 +68,15 @@ gives_up_on settings silo known now causes.JournalFull goes_on gives = refused_o
 gives_up_on settings silo known now causes.MailFull goes_on gives = refused_on settings silo known now 909 goes_on gives
 gives_up_on settings silo known now causes.OutOfMemory goes_on gives = tt
 
-pub ends_on : (settings : Settings) (silo : Silo) (known now : List EntryValue) (ending : Ending) → IsPrefix known now
+why_on : (settings : Settings) (silo : Silo) (known now : List EntryValue) (cause : Option Cause) → IsPrefix known now
+    → IfSome cause (GivesUp settings silo known) → IfSome cause (GivesUp settings silo now)
+why_on settings silo known now None goes_on why = tt
+why_on settings silo known now (Some cause) goes_on why = gives_up_on settings silo known now cause goes_on why
+
+pub ends_on : (settings : Settings) (silo : Silo) (known now : List EntryValue) (ending : EndingValue) → IsPrefix known now
     → Ends settings silo known ending → Ends settings silo now ending
-ends_on settings silo known now (Dismissed its) goes_on ends = ends
-ends_on settings silo known now (GaveUp cause) goes_on ends = gives_up_on settings silo known now cause goes_on ends
+ends_on settings silo known now ending goes_on ends =
+    record { its = ends.its; why = why_on settings silo known now ending.cause goes_on ends.why }
 
 -- ---- A commit.
 
@@ -140,11 +143,18 @@ one_more settings silo seen now parts same amount more receipts all receipt is s
 
 -- ---- A refusal.
 
+-- where it has no cause, the work was stale
+pub stale : (world : World) (work : Work) (refusal : CommitRefusal) → Declines world work refusal → None ≡ cause_of refusal
+    → Declines world work refusals.StaleWork
+stale world work refusals.StaleWork declines is = declines
+stale world work refusals.JournalFull declines is = absurd (cc)
+stale world work refusals.MailFull declines is = absurd (cc)
+stale world work refusals.OutOfMemory declines is = absurd (cc)
+
 -- where it has a cause, the worker gives up by it
-pub declined : (settings : Settings) (silo : Silo) (known : List EntryValue) (work : Work) (refusal : CommitRefusal) (cause : Cause)
-    → work.letter.to ≡ silo
-    → Declines (world_of settings known) work refusal → Some cause ≡ cause_of refusal → GivesUp settings silo known cause
-declined settings silo known work refusal cause its declines is = gives refusal declines is
+pub declined : (settings : Settings) (silo : Silo) (known : List EntryValue) (work : Work) (cause : Cause) → work.letter.to ≡ silo
+    → IsGivenBy (world_of settings known) work cause → GivesUp settings silo known cause
+declined settings silo known work cause its given = gives given.0 given.1 (sym given.2)
   where
     by_number : (number : ℕ) → letter_of (world_of settings known) work.number ≡ Some work.letter
         → happens (world_of settings known) (Deliver work.number) ≡ Err number → WasRefused settings silo known number

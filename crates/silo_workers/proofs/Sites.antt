@@ -1,11 +1,12 @@
 -- What workers share, and what they hand back, may go to another thread.
+use Rattle.std.proofs.Common.{rules}
 use denote.RattleType.{RattleType}
-use denote.Param.Send.{IsSend, IsSync}
+use denote.Param.Send.{IsSend, IsSync, sendable}
 use Rattle.core.proofs.atomic.Sent.{Atomic-send, Atomic-sync}
 use Rattle.core.proofs.sync.Sent.{Mutex-send, Mutex-sync}
 use Rattle.std.proofs.Crossing as crossing
-use Rattle.silo_workers.proofs.Parts.{Crosses, fields, structure, modelled, variants}
-use Rattle.silo_workers.proofs.Holders.{counted}
+use Rattle.silo_workers.proofs.Parts.{Crosses, choice, fields, structure, truth, variants}
+use Rattle.silo_workers.proofs.Holders.{counted, optional}
 use Rattle.silo_workers.proofs.Events.{receipt_crosses}
 use Rattle.silo_workers.proofs.Boards.{board_sends, hand_field_sends, sent}
 use Rattle.silo_workers.proofs.Names.{silo_crosses}
@@ -25,6 +26,7 @@ use Rattle.std.specs.contracts.sync.Mutex as mutex
 use Rattle.std.specs.contracts.sync.atomic.AtomicU64 as word
 use Rattle.silo_workers.specs.contracts.cause.Cause as cause
 use Rattle.silo_workers.specs.contracts.cause.Ending as ending
+use Rattle.silo_workers.specs.contracts.cause.Ending.TheInside as ending_inside
 use Rattle.silo_workers.specs.contracts.site.Site as site
 use Rattle.silo_workers.specs.contracts.tally.Tally as tally
 use Rattle.silo_workers.specs.contracts.tally.Tally.TheInside as tally_inside
@@ -44,11 +46,8 @@ locked R s = record { moved = Mutex-send R s; shared = Mutex-sync R s }
 cause_crosses : Crosses (cause.the_field).row
 cause_crosses = variants cause.the_type (tt, (tt, (tt, tt)))
 
-dismissal_crosses : Crosses dismissal.the_row
-dismissal_crosses = modelled dismissal_inside.the_type _ _ _ _ (silo_crosses, tt)
-
-ending_crosses : Crosses (ending.the_field).row
-ending_crosses = variants ending.the_type ((dismissal_crosses, tt), ((cause_crosses, tt), tt))
+whole_cause_crosses : Crosses cause.the_row
+whole_cause_crosses = choice cause.the_type cause_crosses
 
 module _ (T : RattleType) (c : charter.Ghosts T.Denot) (l : ledger.Ghosts T.Denot) (g : names.Ghosts T.Denot) (n : log.Ghosts T.Denot)
     (s : IsSend T) where
@@ -59,8 +58,14 @@ module _ (T : RattleType) (c : charter.Ghosts T.Denot) (l : ledger.Ghosts T.Deno
         (hand_field_sends T c l g n s, (crossing.Vec-send receipt.the_row receipt_crosses.moved, tt)),
       )
 
+  dismissal_sends : IsSend (dismissal.the_row T)
+  dismissal_sends = sent (dismissal_inside.the_type T) _ _ _ _ (silo_crosses.moved, (truth.moved, (search (rules, sendable), tt)))
+
+  ending_sends : IsSend (ending.the_row T)
+  ending_sends = sent (ending_inside.the_type T) _ _ _ _ (dismissal_sends, ((optional cause.the_row whole_cause_crosses).moved, tt))
+
   pub worked_sends : IsSend (worked.the_row T c l g n)
-  worked_sends = sent (worked_inside.the_type T c l g n) _ _ _ _ (tally_sends, (ending_crosses.moved, tt))
+  worked_sends = sent (worked_inside.the_type T c l g n) _ _ _ _ (tally_sends, (ending_sends, tt))
 
   module _ (G : RattleType) where
     site_crosses : Crosses G → Crosses (site.the_row T G c l g n)

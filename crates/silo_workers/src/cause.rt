@@ -1,7 +1,8 @@
-ghost use Rattle.std.specs.Prelude.{◌≡◌};
-ghost use Rattle.silo_workers.specs.Causes.{cause_in, cause_of};
+ghost use Rattle.std.specs.Prelude.{◌≡◌, is_some};
+ghost use Rattle.silo_workers.specs.Causes.{cause_of};
 
-use cluster_board::{CommitRefusal, Dismissal};
+use cluster_board::{Charter, CommitRefusal, Dismissal};
+use std::marker::Model;
 use thiserror::Error;
 
 /// Why a worker gave up (`docs/RULES.md#running-silos`).
@@ -32,23 +33,38 @@ impl Cause {
     }
 }
 
-/// How a worker ended (`docs/RULES.md#running-silos`).
+/// How a worker ended: its board let it go, which dismissed it where it has no cause, and otherwise knows that it gave up
+/// (`docs/RULES.md#running-silos`).
 #[derive(Drop)]
-pub enum Ending {
-    /// Its board dismissed it: nothing more was to be done for its silo.
-    Dismissed(Dismissal),
-    /// It gave up.
-    GaveUp(Cause),
+pub struct Ending<L: Charter> {
+    dismissal: Dismissal<L>,
+    cause: Option<Cause>,
 }
 
-impl Ending {
+impl<L: Charter> Model for Ending<L> {
+    ghost use Rattle.std.specs.Prelude.{◌≡◌, is_some};
+    ghost use Rattle.silo_workers.specs.Endings.{EndingValue};
+
+    ghost Value = { EndingValue };
+
+    ghost view = { λ e. record { silo = e.dismissal.silo; cause = e.cause } };
+
+    ghost invariant = { λ e. is_some e.cause ≡ e.dismissal.gave_up };
+}
+
+impl<L: Charter> Ending<L> {
+    // Its board let it go, for that cause if it gave up.
+    pub(crate) fn new(dismissal: Dismissal<L>, cause: Option<Cause>) -> Ending<L>
+        requires { is_some cause ≡ dismissal.gave_up }
+        ensures { result ≡ record { silo = dismissal.silo; cause = cause } }
+    {
+        Ending { dismissal, cause }
+    }
+
     /// Why it gave up, if it did.
     pub fn cause(&self) -> Option<Cause>
-        ensures { result ≡ cause_in self.now }
+        ensures { result ≡ self.now.cause }
     {
-        match self {
-            Ending::Dismissed(_) => None,
-            Ending::GaveUp(cause) => Some(*cause),
-        }
+        self.cause
     }
 }

@@ -1,4 +1,4 @@
-ghost use Rattle.std.specs.Prelude.{◌≡◌, ◌<◌, IfErr, OnOk, vec_len};
+ghost use Rattle.std.specs.Prelude.{◌≡◌, ◌+◌, ◌<◌, IfErr, OnOk, vec_len};
 ghost use Rattle.cluster_board.specs.Commits.{Declines};
 ghost use Rattle.cluster_journal.specs.Journal.{world_of};
 ghost use Rattle.silo_workers.specs.Delivered.{AreDeliveriesTo};
@@ -72,6 +72,7 @@ impl<L: Charter> Tally<L> {
         requires room { self.old.many < self.old.room }
         requires its { prepared.letter.to ≡ self.old.silo }
         ensures silo { self.new.silo ≡ self.old.silo }
+        ensures one { OnOk result (self.new.many ≡ self.old.many + 1) }
         ensures declined { IfErr result (λ uncommitted. Declines (world_of L.settings self.new.seen) prepared uncommitted.refusal) }
     {
         board.journaled();
@@ -101,7 +102,7 @@ impl<L: Charter> Tally<L> {
 #[derive(Drop)]
 pub struct Worked<L: Charter> {
     tally: Tally<L>,
-    ending: Ending,
+    ending: Ending<L>,
 }
 
 impl<L: Charter> Model for Worked<L> {
@@ -117,7 +118,7 @@ impl<L: Charter> Model for Worked<L> {
 
 impl<L: Charter> Worked<L> {
     // The worker ended so.
-    pub(crate) fn new(tally: Tally<L>, ending: Ending) -> Worked<L>
+    pub(crate) fn new(tally: Tally<L>, ending: Ending<L>) -> Worked<L>
         requires { Ends L.settings tally.silo tally.seen ending }
         ensures { result ≡ tally.silo }
     {
@@ -126,7 +127,7 @@ impl<L: Charter> Worked<L> {
 
     /// The worker's hand, with its part of the share and what it saw of the journal; the receipts of what it committed, as many as the
     /// part counts, each of a delivery to its silo; and how it ended.
-    pub fn whole(self) -> (Hand<L>, Vec<Receipt>, Ending)
+    pub fn whole(self) -> (Hand<L>, Vec<Receipt>, Ending<L>)
         ensures part { result.0.share.parts ≡ 1 }
         ensures counted { result.0.share.amount ≡ vec_len result.1 }
         ensures delivered { AreDeliveriesTo L.settings self result.0.seen result.1.items }

@@ -1,10 +1,14 @@
-use Rattle.std.proofs.Common.{◌∙◌, sym}
-use Rattle.silo_workers.proofs.Deliveries.{declined}
+use Rattle.std.proofs.Common.{sym}
+use Rattle.cluster_journal.specs.Journal.{world_of}
+use Rattle.silo_workers.proofs.Deliveries.{stale}
 use Rattle.silo_workers.proofs.turn.commit.Goals as goal
 
+-- the commit was refused without a cause
+pub returns-in-None-clause-done : goal.returns-in-None-clause-done
+returns-in-None-clause-done g c =
+    right (stale (world_of g.L.Charter.settings c.commit-committed.new.self.seen) c.args.prepared c.in-Err.uncommitted.refusal
+    c.in-Err.ensures.declined c.let_go.ensures)
+
 -- the commit was refused, and the refusal has a cause
-pub returns-in-Some-clause-ended : goal.returns-in-Some-clause-ended
-returns-in-Some-clause-ended g c =
-    let after = c.commit-committed.new.self in
-    declined g.L.Charter.settings after.silo after.seen c.args.prepared c.in-Err.uncommitted.refusal c.in-Some.cause
-    (c.requires.its ∙ sym c.commit-committed.ensures.silo) c.in-Err.ensures.declined c.in-Some.ensures
+pub returns-in-Some-clause-refused : goal.returns-in-Some-clause-refused
+returns-in-Some-clause-refused g c = (c.in-Err.uncommitted.refusal, c.in-Err.ensures.declined, sym c.in-Some.ensures)

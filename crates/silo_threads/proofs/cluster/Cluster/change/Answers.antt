@@ -8,5 +8,5 @@ returns-clause-followed g c =
     let publish = c.publish in
     changed g.L.Charter.settings c.args.hand.now.seen c.post_change.new.hand.seen (event_of c.args.event.now) posted.posted.receipt
     posted.ensures.receipt posted.ensures.last
-    posted.posted.newest posted.ensures.left c.args.self.now publish.new.self publish.result c.err-lack.result c.err-lack.ensures.value
-    publish.ensures.workers publish.ensures.published publish.ensures.unchanged publish.ensures.lack
+    posted.posted.newest c.args.self.now publish.new.self (left_behind g c) publish.result c.err-lack.result c.err-lack.ensures.value
+    publish.ensures.workers publish.ensures.published publish.ensures.unchanged publish.ensures.lack publish.ensures.nothing
