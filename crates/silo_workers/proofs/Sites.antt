@@ -58,11 +58,11 @@ module _ (T : RattleType) (c : charter.Ghosts T.Denot) (l : ledger.Ghosts T.Deno
         (hand_field_sends T c l g n s, (crossing.Vec-send receipt.the_row receipt_crosses.moved, tt)),
       )
 
-  dismissal_sends : IsSend (dismissal.the_row T)
-  dismissal_sends = sent (dismissal_inside.the_type T) _ _ _ _ (silo_crosses.moved, (truth.moved, (search (rules, sendable), tt)))
+  dismissal_sends : IsSend (dismissal.the_row T c l g n)
+  dismissal_sends = sent (dismissal_inside.the_type T c l g n) _ _ _ _ (silo_crosses.moved, (truth.moved, (search (rules, sendable), tt)))
 
-  ending_sends : IsSend (ending.the_row T)
-  ending_sends = sent (ending_inside.the_type T) _ _ _ _ (dismissal_sends, ((optional cause.the_row whole_cause_crosses).moved, tt))
+  ending_sends : IsSend (ending.the_row T c l g n)
+  ending_sends = sent (ending_inside.the_type T c l g n) _ _ _ _ (dismissal_sends, ((optional cause.the_row whole_cause_crosses).moved, tt))
 
   pub worked_sends : IsSend (worked.the_row T c l g n)
   worked_sends = sent (worked_inside.the_type T c l g n) _ _ _ _ (tally_sends, (ending_sends, tt))

@@ -1,4 +1,4 @@
-use Rattle.std.proofs.Common.{sym}
+use Rattle.std.proofs.Common.{inr, sym}
 use Rattle.cluster_journal.specs.Journal.{world_of}
 use Rattle.silo_workers.proofs.Deliveries.{stale}
 use Rattle.silo_workers.proofs.turn.commit.Goals as goal
@@ -6,7 +6,7 @@ use Rattle.silo_workers.proofs.turn.commit.Goals as goal
 -- the commit was refused without a cause
 pub returns-in-None-clause-done : goal.returns-in-None-clause-done
 returns-in-None-clause-done g c =
-    right (stale (world_of g.L.Charter.settings c.commit-committed.new.self.seen) c.args.prepared c.in-Err.uncommitted.refusal
+    inr (stale (world_of g.L.Charter.settings c.commit-committed.new.self.seen) c.args.prepared c.in-Err.uncommitted.refusal
     c.in-Err.ensures.declined c.let_go.ensures)
 
 -- the commit was refused, and the refusal has a cause
