@@ -1,5 +1,5 @@
 -- A publication of what an event left.
-use Rattle.std.proofs.Common.{◌≡◌, ◌∙◌, ◌≤◌, ◌++◌, [], ◌∷◌, ℕ, IfErr, IfSome, List, Option, Some, None, Result, Ok, Err, ap, arith, inl, inr, length, refl, subst, sym}
+use Rattle.std.proofs.Common.{◌≡◌, ◌∙◌, ◌≤◌, ◌++◌, [], ◌∷◌, ℕ, IfErr, IfSome, List, Option, Some, None, Result, Ok, Err, ap, arith, inl, inr, length, refl, subst, sym, true≢false}
 use Rattle.membership_view.specs.View.{ViewValue}
 use Rattle.hash_ring.specs.Places.{PlacesValue}
 use Rattle.directory_rules.specs.Settings.{Settings}
@@ -80,7 +80,7 @@ module _ (settings : Settings) (known now : List EntryValue) (event : Event) (re
     lacks_newer : (newest : Result (Option (ViewValue × PlacesValue)) E) (published : ℕ) (lack : Lack) (result : Result (Unit {0}) Lack)
         → result ≡ Err lack → IsToShow (world_of settings now) published newest → (newest ≡ Ok None → IsOk result)
         → IsBehind published (world_of settings now)
-    lacks_newer (Ok None) published lack result is left nothing = absurd (subst (λ (r : Result (Unit {0}) Lack). IsOk r) is (nothing refl))
+    lacks_newer (Ok None) published lack result is left nothing = absurd (true≢false (sym (subst (λ (r : Result (Unit {0}) Lack). IsOk r) is (nothing refl))))
     lacks_newer (Ok (Some newest)) published lack result is left nothing = left.0
     lacks_newer (Err failure) published lack result is left nothing = left
 

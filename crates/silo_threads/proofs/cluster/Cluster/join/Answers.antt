@@ -1,10 +1,10 @@
-use Rattle.std.proofs.Common.{◌≡◌, ◌∙◌, List, ap, subst, sym}
+use Rattle.std.proofs.Common.{◌≡◌, ◌∙◌, ℕ, List, ap, subst, sym}
 use Rattle.silo_address.specs.Silo.{Silo}
 use Rattle.directory_rules.specs.EventModel.{event_of}
 use Rattle.cluster_journal.specs.Entry.{EntryValue}
 use Rattle.cluster_journal.specs.Journal.{world_of}
 use Rattle.silo_threads.specs.Cluster.{ClusterValue}
-use Rattle.silo_threads.specs.Followed.{HasJoined, LacksThread, with_worker}
+use Rattle.silo_threads.specs.Followed.{HasJoined, IsToShow, LacksThread, with_worker}
 use Rattle.silo_threads.proofs.Rings.{joined, unstarted}
 use Rattle.silo_threads.proofs.cluster.Cluster.join.Goals.{in-Ok-start, in-Err}
 use Rattle.silo_threads.proofs.cluster.Cluster.join.Goals as goal
@@ -32,15 +32,17 @@ returns-clause-followed g c =
           ∙ ap (λ (v : ClusterValue). let after : ClusterValue = record v { workers = with_worker v.workers c.args.silo } in after)
           c.self.view_is in
           let publish = w.publish in
+          let left = subst (λ (n : ℕ). IsToShow (world_of settings known) n posted.posted.newest)
+          (c.version-published.ensures ∙ ap (λ (v : ClusterValue). v.published.last.version) c.self.view_is) posted.ensures.left in
           subst (λ (l : List EntryValue). HasJoined (world_of settings l) c.args.silo posted.posted.receipt before c.match-start.self
           c.match-start.lack) (sym c.start.ensures.seen)
           (subst (λ (v : ClusterValue). HasJoined (world_of settings known) c.args.silo posted.posted.receipt before v c.match-start.lack)
           (sym w.self-is)
           (joined settings c.args.hand.now.seen known (event_of c.args.event.now) posted.posted.receipt posted.ensures.receipt
           posted.ensures.last
-          posted.posted.newest posted.ensures.left c.args.silo before started publish.new.self publish.result c.match-start.lack
+          posted.posted.newest c.args.silo before started publish.new.self left publish.result c.match-start.lack
           (w.lack-is ∙ w.err-lack.ensures.value) start
-          publish.ensures.workers publish.ensures.published publish.ensures.unchanged publish.ensures.lack))
+          publish.ensures.workers publish.ensures.published publish.ensures.unchanged publish.ensures.lack publish.ensures.nothing))
       | in-Err w ↦
           let lacks : LacksThread c.args.silo before.workers workers =
           subst (λ (s : Silo). LacksThread s before.workers workers) desk_is
