@@ -36,11 +36,15 @@ fn refused(journal: &[JournalEntry], receipts: &mut [Receipt]) -> Option<u16> {
     }
 }
 
-// Two letters were lost, in the other order than their receipts come.
+// Two letters were lost, in the other order than their receipts come; one receipt lacks, or comes twice.
 fn are_compared(rt: &impl Abort, alloc: Global) -> bool {
     let journal = [entry(rt, alloc, 5), entry(rt, alloc, 6)];
     let mut both = [receipt(rt, alloc, 2, 6), receipt(rt, alloc, 1, 5)];
-    refused(&journal, &mut both[..]) == None && refused(&journal, &mut both[1..]) == Some(953)
+    let mut one = [receipt(rt, alloc, 2, 6)];
+    let mut twice = [receipt(rt, alloc, 2, 6), receipt(rt, alloc, 2, 6)];
+    refused(&journal, &mut both) == None
+        && refused(&journal, &mut one) == Some(953)
+        && refused(&journal, &mut twice) == Some(953)
 }
 
 #[test]
