@@ -1,5 +1,5 @@
 //! The marks that a board keeps of its silos' nodes.
-ghost use Rattle.std.specs.Prelude.{◌≡◌, None, IfSome, IsTrue, true};
+ghost use Rattle.std.specs.Prelude.{◌≡◌, None, IfSome, true};
 ghost use Rattle.silo_address.specs.Silo.{Silo};
 ghost use Rattle.directory_rules.specs.EventModel.{event_of};
 ghost use Rattle.cluster_board.specs.Changed.{IsReceiver, MayChange};

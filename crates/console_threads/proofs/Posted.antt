@@ -18,7 +18,6 @@ use Rattle.cluster_journal.proofs.Beginnings.{is_taken, it_stands, no_longer, pr
 use Rattle.script_lines.specs.CommandModel.{command_of}
 use Rattle.script_lines.specs.declared.command.Command.{Command}
 use Rattle.script_lines.specs.declared.command.Command.TheVariants as commands
-use Rattle.script_rules.specs.Output.{sync_events}
 use Rattle.script_rules.specs.Script as script
 use Rattle.threaded_play.specs.CarriedOut.{AreCarriedOut, ArePosted, IsCarriedOut, IsEntered, IsRefusedAt, no_command, posted_by, then_command, world_at}
 use Rattle.console_threads.specs.Driven.{IsPosted, Puts, numbers_of}

@@ -1,6 +1,5 @@
 //! The rows of all silos that ever joined, as a dump tells them.
 ghost use Rattle.std.specs.Prelude.{◌≡◌, IfOk, map};
-ghost use Rattle.hash_ring.specs.declared.hashing.Hashing.{Hashing as HashingSeen};
 ghost use Rattle.dump_rules.specs.Dump.{dump_row};
 ghost use Rattle.hash_ring.specs.Places.{named_places};
 

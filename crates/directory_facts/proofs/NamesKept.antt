@@ -1,5 +1,5 @@
 -- Every step leaves a node that names silos, grains and counts in their ranges, and sends letters that do.
-use Rattle.std.proofs.Common.{arith, ◌≡◌, refl, sym, ap, subst, ℕ, ◌≤◌, List, [], ◌∷◌, map}
+use Rattle.std.proofs.Common.{arith, ◌≡◌, refl, sym, ap, subst, ℕ, ◌≤◌, List, [], ◌∷◌}
 use Rattle.std.specs.Prelude.{Bool, true, false, cond, ◌==◌, ◌&&◌, All, Option, Some, None, Result, Ok, Err, find, filter}
 use Rattle.std.specs.Option.{option_map}
 use Rattle.std.specs.Ordering.{nat_cmp}

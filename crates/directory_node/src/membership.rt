@@ -1,12 +1,10 @@
 //! Membership as a world has it, or a silo by what it was told: all that changes of membership make.
 
-ghost use Rattle.std.specs.Prelude.{◌≡◌, ◌≤◌, ◌==◌, [], IfErr, IfOk, IsOk, IsSomeAnd, Ok, OnErr, OnOk, false, length, true};
+ghost use Rattle.std.specs.Prelude.{◌≡◌, ◌≤◌, ◌==◌, [], IfErr, IfOk, IsOk, IsSomeAnd, Ok, OnErr, OnOk, false, true};
 ghost use Rattle.membership_view.specs.Beginning.{after_listing, with_listed};
 ghost use Rattle.membership_view.specs.Changes.{after_join, with_join};
-ghost use Rattle.membership_view.specs.Refusal.{views_error_number};
 ghost use Rattle.membership_view.specs.Views.{view_at};
 ghost use Rattle.hash_ring.specs.Numbers.{ring_error_number};
-ghost use Rattle.hash_ring.specs.Places.{after_add};
 ghost use Rattle.directory_rules.specs.ListedModel.{all_listed_of, listed_of};
 ghost use Rattle.directory_rules.specs.Membership.{Join, Leave, Die, begun, changed, first_membership, is_seeable, listed, placed, replaced_by, status_in};
 ghost use Rattle.directory_rules.specs.Settings.{Settings as SettingsValue};

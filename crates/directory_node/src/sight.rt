@@ -1,5 +1,5 @@
 //! A sight as a plan: what it sends, and the change that it makes.
-ghost use Rattle.std.specs.Prelude.{◌≡◌, ◌&&◌, ◌==◌, ◌<◌, ◌+◌, ◌++◌, if◌then◌else◌, IfErr, IfOk, IsOk, flat_map, length, true};
+ghost use Rattle.std.specs.Prelude.{◌≡◌, ◌&&◌, ◌==◌, ◌<◌, ◌+◌, ◌++◌, IfErr, IfOk, IsOk, flat_map, length, true};
 ghost use Rattle.directory_rules.specs.Host.{has_numbers, outstanding, renewed};
 ghost use Rattle.directory_rules.specs.Sent.{request_letters};
 ghost use Rattle.directory_rules.specs.Sight.{is_next, sealed};

@@ -1,6 +1,6 @@
 //! The changes of transfers: snapshots go from the shelf, pages are gathered, and pieces settle or recover.
 ghost use Rattle.std.specs.Prelude.{◌≡◌, OnErr, OnOk, Ok};
-ghost use Rattle.directory_rules.specs.Gatherings.{gathered, new_gathering, with_page};
+ghost use Rattle.directory_rules.specs.Gatherings.{new_gathering, with_page};
 ghost use Rattle.directory_rules.specs.Sent.{gathering_of};
 ghost use Rattle.directory_rules.specs.Snapshot.{shelf_without};
 ghost use Rattle.directory_rules.specs.Transfer.{with_gathering, with_settled};

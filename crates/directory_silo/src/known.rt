@@ -1,6 +1,5 @@
 //! Which change made a version, as the views and places tell it (`docs/RULES.md#a-silo-by-itself`).
-ghost use Rattle.std.specs.Prelude.{◌≡◌, ◌==◌, List, ℕ};
-ghost use Rattle.std.specs.List.{list_any};
+ghost use Rattle.std.specs.Prelude.{◌≡◌, ◌==◌};
 ghost use Rattle.hash_ring.specs.Places.{places_of};
 ghost use Rattle.membership_view.specs.Row.{is_made_in};
 ghost use Rattle.silo_rules.specs.Known.{are_these, is_before, is_known, is_of_join, were_stated};

@@ -1,10 +1,8 @@
 //! A dump as the bytes of one JSON object.
 
-ghost use Rattle.std.specs.Prelude.{◌≡◌, ◌++◌, ◌<◌, ◌∷◌, [], List, ℕ, OnOk, IfOk, map, codes, string_bytes};
+ghost use Rattle.std.specs.Prelude.{◌≡◌, ◌++◌, ◌<◌, ◌∷◌, List, ℕ, OnOk, IfOk, map, codes, string_bytes};
 ghost use Rattle.std.specs.Fmt.{decimal};
 ghost use Rattle.silo_address.specs.SiloText.{silo_text};
-ghost use Rattle.silo_address.specs.Grain.{grain_text};
-ghost use Rattle.silo_address.specs.ActivationText.{activation_text};
 ghost use Rattle.ring_range.specs.Text.{range_text};
 ghost use Rattle.dump_rules.specs.Dump.{comma, dump_text, entry_json, from_text, held_json, json_list, json_member, node_json, piece_json, point_json, quoted, row_json};
 

@@ -11,7 +11,7 @@ ghost use Rattle.std.specs.Cow.{cow_slice_items};
 ghost use Rattle.json.specs.Json.{after_end_array};
 ghost use Rattle.json.specs.Lex.{tokens};
 ghost use Rattle.json.specs.Word.{is_space};
-ghost use Rattle.json.specs.Token.{begin_array, begin_object, end_array, end_object, key, string};
+ghost use Rattle.json.specs.Token.{begin_array, begin_object, end_object, key, string};
 ghost use Rattle.dump_rules.specs.Values.{number_in};
 ghost use Rattle.dumps.specs.Straight.{Tells};
 ghost use Rattle.dumps.specs.declared.error.DumpError.TheVariants.{OutOfMemory};

@@ -1,4 +1,4 @@
-ghost use Rattle.std.specs.Prelude.{◌≡◌, ◌↔◌, [], ◌∷◌, true, IsTrue, IfOk, OnOk, OnErr};
+ghost use Rattle.std.specs.Prelude.{◌≡◌, ◌↔◌, [], true, IsTrue, IfOk, OnOk, OnErr};
 ghost use Rattle.directory_rules.specs.Answer.{turned};
 ghost use Rattle.directory_rules.specs.declared.PieceState.TheVariants.{Recovering, Settled};
 ghost use Rattle.directory_rules.specs.Sight.{is_settled};

@@ -6,7 +6,6 @@ ghost use Rattle.std.specs.Map.{lookup, set_value};
 ghost use Rattle.std.specs.Ordering.{nat_cmp};
 ghost use Rattle.silo_address.specs.Silo.{silo_cmp};
 ghost use Rattle.directory_rules.specs.Answer.{turned};
-ghost use Rattle.directory_rules.specs.State.{Piece as PieceValue};
 ghost use Rattle.grain_partition.specs.Served.{IsTurnOf, number_before};
 
 use crate::Piece;

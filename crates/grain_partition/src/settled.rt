@@ -1,6 +1,6 @@
 //! Whether a range is settled throughout: a walk from piece to piece.
 ghost use Rattle.std.specs.Prelude.{◌≡◌, ◌-◌, ◌<◌, ◌≤◌, MatchOption, false, true};
-ghost use Rattle.ring_range.specs.Range.{circle, distance, holds, part_of};
+ghost use Rattle.ring_range.specs.Range.{distance, holds, part_of};
 ghost use Rattle.directory_rules.specs.Laws.{lies_settled};
 ghost use Rattle.directory_rules.specs.Sight.{was_settled};
 ghost use Rattle.grain_partition.specs.Holdings.{ArePieces};

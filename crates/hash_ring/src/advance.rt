@@ -4,7 +4,6 @@ ghost use Rattle.std.specs.List.Sorted.{IsStrictlySortedBy};
 ghost use Rattle.std.specs.Prelude.{◌≡◌, ◌≢◌, ◌↔◌, ◌⊎◌, ◌+◌, ◌≤◌, ◌&&◌, not, [], length, Contains, vec_len, vec_capacity, IsTrue, IfOk, IfErr, OnOk, OnErr, IsErrOf, IsOk, false};
 ghost use Rattle.silo_address.specs.Silo.{silo_eq};
 ghost use Rattle.membership_view.specs.Row.{is_active};
-ghost use Rattle.membership_view.specs.View.{IsByAddress};
 ghost use Rattle.hash_ring.specs.Point.{point_cmp};
 ghost use Rattle.hash_ring.specs.Ring.{IsRingBy, are_added, is_active_in, is_on_ring, new_silos, ring_of, silo_points, sorted_points};
 ghost use Rattle.hash_ring.specs.Search.{HasWholeSilos};

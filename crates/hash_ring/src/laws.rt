@@ -1,16 +1,13 @@
 //! Laws of the definitions, for proofs about rings: each function does nothing, and its clauses state a law.
 
-ghost use Rattle.std.specs.Prelude.{◌≡◌, ◌↔◌, ◌+◌, ◌%◌, ◌<◌, ℕ, List, [], ◌∷◌, All, IsTrue, Some, None, Ok, Err, codes, true, false};
-ghost use Rattle.silo_address.specs.Silo.{Silo};
+ghost use Rattle.std.specs.Prelude.{◌≡◌, ◌+◌, ◌%◌, ◌<◌, [], ◌∷◌, Some, Err, true, false};
 ghost use Rattle.ring_range.specs.Range.{circle, EachHash};
-ghost use Rattle.membership_view.specs.View.{ViewValue, IsByAddress};
-ghost use Rattle.hash_ring.specs.Point.{back, IsOnCircle};
-ghost use Rattle.hash_ring.specs.Places.{PlacesValue, IsPlaces, after_add, is_added, most_points};
-ghost use Rattle.hash_ring.specs.Owner.{IsOwner, Owns, owner_of, owns};
-ghost use Rattle.hash_ring.specs.Ring.{IsPointOf, IsSortedAnew, IsRing, are_added, points_of, ring_of, sorted_points, sorted_ring};
+ghost use Rattle.hash_ring.specs.Point.{back};
+ghost use Rattle.hash_ring.specs.Places.{after_add};
+ghost use Rattle.hash_ring.specs.Owner.{owner_of, owns};
+ghost use Rattle.hash_ring.specs.Ring.{are_added, points_of, sorted_ring};
 ghost use Rattle.hash_ring.specs.Ranges.{ranges_of};
 ghost use Rattle.hash_ring.specs.Laws.{IsPoint, RingsStay, OwnerIsNearest, OneOwner, NobodyOwns, OwnsIsOwned, OneList, SortedAnew, RingsAreRings, a, b, two_places, two_view};
-ghost use Rattle.hash_ring.specs.declared.point.Point.{Point as PointSeen};
 
 /// How far back a place lies is the difference round the circle: that many steps forward from the place is the hash.
 pub fn distances_back()

@@ -1,11 +1,10 @@
-ghost use Rattle.std.specs.Prelude.{◌≡◌, ◌⊎◌, ◌+◌, ◌<◌, ◌≤◌, MatchOption, length, slice_index_or, set};
+ghost use Rattle.std.specs.Prelude.{◌≡◌, ◌⊎◌, ◌+◌, ◌<◌, MatchOption, length};
 ghost use Rattle.std.specs.Map.{keys_of};
 ghost use Rattle.std.specs.Option.{option_map};
 ghost use Rattle.directory_rules.specs.State.{Posted};
 ghost use Rattle.letter_mail.specs.Slots.{IsSlot, is_fresh, lost_slot, posted_in, slot_to, stale_slot};
 ghost use Rattle.letter_mail.specs.Queues.{fresh_at};
 ghost use Rattle.letter_mail.specs.MailedModel.{letter_seen};
-ghost use Rattle.letter_mail.specs.declared.slots.Slot.{Slot as SlotSeen};
 
 use crate::MailedLetter;
 use crate::kept::{Brief, letter_by};

@@ -17,7 +17,7 @@ use Rattle.membership_view.specs.declared.status.Status.{Status}
 use Rattle.membership_view.specs.declared.status.Status.TheVariants.{Active, Leaving, Dead}
 use Rattle.membership_view.specs.Row.{has_come, is_made_in, status_in, was_dead}
 use Rattle.membership_view.specs.View.{IsByAddress, is_newer, is_outlived, listed_rows, or_outlived, status_of}
-use Rattle.membership_view.specs.Views.{ViewsValue, rows_in, status_at, view_at}
+use Rattle.membership_view.specs.Views.{ViewsValue, rows_in, view_at}
 use Rattle.membership_view.specs.Beginning.{beginning}
 use Rattle.membership_view.specs.Whole.{IsInTime}
 use Rattle.membership_view.specs.Laws.{ViewsSayStatuses, ViewsSayNoMore, IsOutlivedIn}

@@ -1,4 +1,4 @@
-ghost use Rattle.std.specs.Prelude.{◌≡◌, ◌≢◌, ◌↔◌, ◌⊎◌, ◌+◌, ◌-◌, ◌<◌, ◌≤◌, ◌++◌, ◌∷◌, [], All, Some, drop, fold, vec_len, vec_capacity, IsTrue, IfOk, IfErr, OnOk, OnErr, IsErrOf, false};
+ghost use Rattle.std.specs.Prelude.{◌≡◌, ◌↔◌, ◌⊎◌, ◌+◌, ◌-◌, ◌<◌, ◌≤◌, ◌++◌, ◌∷◌, [], All, Some, drop, fold, vec_len, vec_capacity, IfOk, IfErr, OnOk, OnErr, IsErrOf, false};
 ghost use Rattle.left_right.specs.Sides.{view as known_at};
 ghost use Rattle.hash_ring.specs.Ring.{IsRingBy, are_added, ring_of};
 ghost use Rattle.published_rings.specs.Ends.{after_publishing, first_publisher, first_reader, published_by};

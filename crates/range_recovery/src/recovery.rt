@@ -37,8 +37,7 @@ impl Model for Recovery {
 }
 
 impl Recovery {
-    /// Awaits each silo of the view that isn't Dead there; nothing is reported yet, and what comes is kept under the hashes of the
-    /// settings. Fails only when memory runs out.
+    /// Awaits each silo of the view that isn't Dead there; nothing is reported yet. Fails only when memory runs out.
     pub fn new(
         alloc: Global,
         settings: &Settings,

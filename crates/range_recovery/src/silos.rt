@@ -1,4 +1,4 @@
-ghost use Rattle.std.specs.Prelude.{◌≡◌, ◌↔◌, ◌<◌, ℕ, [], map, filter, not, length, Contains, IsTrue, IfOk, IfNone, IfSome, Some, false};
+ghost use Rattle.std.specs.Prelude.{◌≡◌, ◌↔◌, ◌<◌, [], map, filter, not, length, Contains, IsTrue, IfOk, IfNone, IfSome, Some, false};
 ghost use Rattle.directory_rules.specs.Members.{is_dead_status, members_of};
 ghost use Rattle.range_recovery.specs.Silos.{AreAwaited, IsByAddress, IsSiloAt, awaiting_of, has_reported, marked, silos_of};
 

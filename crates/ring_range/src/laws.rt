@@ -2,7 +2,7 @@
 
 ghost use Rattle.std.specs.Prelude.{◌≡◌, ℕ, ◌+◌, ◌-◌, ◌%◌, ◌<◌, ◌≤◌, ◌&&◌, ◌↔◌, IsTrue, All, List, [], ◌∷◌, codes, true, false, Ok, Err};
 ghost use Rattle.std.specs.List.{list_any};
-ghost use Rattle.ring_range.specs.Range.{circle, Range, IsRange, EachHash, EachRange, EachTwo, holds, Holds, within, IsWithin, distance, ahead, part_of};
+ghost use Rattle.ring_range.specs.Range.{circle, IsRange, EachHash, EachRange, EachTwo, holds, Holds, within, IsWithin, distance, ahead, part_of};
 ghost use Rattle.ring_range.specs.Meet.{meet_of, AreCommon, AreApart, AreFewest, AreNearerFirst, AreAbsentAtStart};
 ghost use Rattle.ring_range.specs.Cut.{cut_parts, IsCut};
 ghost use Rattle.ring_range.specs.Text.{range_text, read_range};

@@ -3,7 +3,6 @@
 #![tactic(auto, using(crate::proofs::WrittenPieces::word_by_word))]
 
 ghost use Rattle.std.specs.Prelude.{◌≡◌, [], ◌∷◌, ◌++◌, OnOk, OnErr, codes};
-ghost use Rattle.std.specs.Fmt.{decimal};
 ghost use Rattle.silo_address.specs.SiloText.{silo_text};
 ghost use Rattle.silo_address.specs.Grain.{grain_text};
 ghost use Rattle.silo_address.specs.ActivationText.{activation_text};

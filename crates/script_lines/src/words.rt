@@ -1,7 +1,7 @@
 //! The words of a line, as slices of it.
 
 ghost use Rattle.std.specs.Option.{option_copied};
-ghost use Rattle.std.specs.Prelude.{◌≡◌, ◌≢◌, ◌<◌, ◌≤◌, ℕ, [], ◌∷◌, IfSome, MatchOption, length, option_map, slice_index};
+ghost use Rattle.std.specs.Prelude.{◌≡◌, ◌≢◌, ◌<◌, ◌≤◌, ℕ, [], ◌∷◌, IfSome, MatchOption, length, slice_index};
 ghost use Rattle.texts.specs.Words.{space, words_in};
 ghost use Rattle.script_lines.specs.WordCounts.{only_three_words, only_two_words, only_word, three_copied, two_copied};
 

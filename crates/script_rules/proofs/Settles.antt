@@ -1,6 +1,6 @@
 -- A settle ends: each delivery leaves one fresh letter less, or one letter less that may still be sent.
 use Rattle.std.proofs.Common.{arith, ◌≡◌, refl, ap, ◌∙◌, ℕ, zero, suc, ◌+◌}
-use Rattle.std.specs.Prelude.{false, count_by, option_map, Option, Some, None, Result, Ok, Err}
+use Rattle.std.specs.Prelude.{false, option_map, Option, Some, None, Result, Ok, Err}
 use Rattle.std.proofs.lemmas.List.Sums.{count_by-le-length}
 use Rattle.directory_rules.specs.Event.{Deliver}
 use Rattle.directory_rules.specs.State.{Posted, Accepted}

@@ -1,9 +1,7 @@
 //! The words of a silo's text, as slices of it.
 
-ghost use Rattle.std.specs.Option.{SomeIff};
 ghost use Rattle.std.specs.Prelude.{◌≡◌, ◌↔◌, ◌≤◌, IsTrue, length, option_map};
 ghost use Rattle.std.specs.List.{position_or_len};
-ghost use Rattle.texts.specs.Numeral.{IsNumeral, numeral_value};
 ghost use Rattle.silo_address.specs.SiloText.{AreNumerals, is_mark};
 ghost use Rattle.silo_address.specs.ReadSilo.{only_word, silo_words, word_before};
 ghost use Rattle.silo_address.specs.WordsModel.{cut_view, slice_view, words_view};

@@ -10,7 +10,7 @@ use Rattle.directory_rules.specs.Event.{See}
 use Rattle.directory_rules.specs.EventModel.{event_of}
 use Rattle.directory_rules.specs.declared.Event.{Event}
 use Rattle.directory_rules.specs.State.{Node, World}
-use Rattle.script_rules.specs.Output.{sync_events, unseen_versions}
+use Rattle.script_rules.specs.Output.{unseen_versions}
 
 -- those of a silo that are left
 pub sights_left : (silo : Silo) (seen current : ℕ) → seen < current

@@ -1,6 +1,5 @@
 //! The ring of the view that an event made is published.
 ghost use Rattle.std.specs.Prelude.{◌≡◌, ◌<◌, IfErr, IfOk, IfSome, IsOk, None, Ok, OnErr, OnOk};
-ghost use Rattle.directory_rules.specs.World.{current_view};
 ghost use Rattle.hash_ring.specs.Ring.{ring_of};
 ghost use Rattle.published_rings.specs.Ends.{after_publishing};
 ghost use Rattle.silo_threads.specs.Followed.{IsLeftIn, IsToShow, ShowsNewest};

@@ -32,8 +32,8 @@ impl<L: Charter + Send + 'static, G: Gate + Drop + Send + Sync + 'static> Cluste
     /// at each change of membership the ring of the view that it made is published, unless that of a later one was. Refused as the
     /// world refuses the event that the journal so far leaves, which the hand has seen then; out of memory may come before any other
     /// refusal. A refusal changes nothing. That no thread or no publication could be had is told with the receipt; a publication can
-    /// lack only where the last ring is older; without a thread all silos are to stop, and nothing is published. The caller has all parts of the share that no worker has
-    /// (`docs/RULES.md#running-silos`).
+    /// lack only where the last ring is older; without a thread all silos are to stop, and nothing is published. The caller has all
+    /// parts of the share that no worker has (`docs/RULES.md#running-silos`).
     pub fn run<R: Threads + Wait + Copy + Drop + Send + 'static>(
         &mut self,
         rt: &R,

@@ -1,4 +1,4 @@
-use Rattle.std.proofs.Common.{◌≡◌, true, false, not, sym, ◌∙◌, rules}
+use Rattle.std.proofs.Common.{◌≡◌, true, false, sym, ◌∙◌, rules}
 use Rattle.membership_view.specs.Changes.{is_newest}
 use Rattle.membership_view.proofs.Order.{shares_is}
 use Rattle.membership_view.proofs.KnownEndpoint.{known_first, known_last, known_unless_newest}

@@ -1,4 +1,4 @@
-use Rattle.std.proofs.Common.{None, Some}
+use Rattle.std.proofs.Common.{Some}
 use Rattle.line_loop.specs.Progress.{progress}
 use Rattle.line_loop.proofs.Turns.{broken_then, drained, ended_then, filled_then, stepped}
 use Rattle.line_loop.proofs.session.Session.turn.Goals as goal
