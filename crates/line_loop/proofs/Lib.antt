@@ -1,5 +1,6 @@
 pub mod Calls
 mod Held
+mod LastLines
 mod Pieces
 mod Played
 pub mod Scripts

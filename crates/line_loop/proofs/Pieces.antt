@@ -1,5 +1,5 @@
 -- Bytes cut at their line feeds: more bytes behind them, and where the first line feed was found.
-use Rattle.std.proofs.Common.{◌≡◌, ◌+◌, ◌-◌, ◌<◌, ◌≤◌, ◌∙◌, ◌==◌, ℕ, suc, Bool, true, false, List, [], ◌∷◌, ◌++◌, length, take, drop, Option, None, Some, ap, arith, refl, subst, sym}
+use Rattle.std.proofs.Common.{◌≡◌, ◌+◌, ◌-◌, ◌<◌, ◌≤◌, ◌∙◌, ◌==◌, ℕ, suc, Bool, true, false, List, [], ◌∷◌, ◌++◌, length, take, drop, Option, None, Some, ap, arith, refl, subst, sym, take-append-drop}
 use Rattle.std.proofs.lemmas.Bool.{eq-eqb, eqb-true}
 use Rattle.std.proofs.lemmas.List.{drop-drop, get_or-take, length-append, length-take}
 use Rattle.std.proofs.Math.Seq.{drop-append-add, drop-cons, take-add, take-append-add}
@@ -54,6 +54,13 @@ goes_on_behind front back lines begun first others cut is =
     pieces_at-append front back first others is ∙ (ap (λ (ps : List (List ℕ)). joined ps first others) cut
     ∙ joined-last lines begun first others)
 
+-- the pieces of what was seen, and of some bytes behind it
+pub pieces_behind : (seen back line : List ℕ) (lines : List (List ℕ)) (begun : List ℕ) (others : List (List ℕ))
+    → pieces_at line_feed seen ≡ lines ++ begun ∷ [] → begun ≡ [] → pieces_at line_feed back ≡ line ∷ others
+    → pieces_at line_feed (seen ++ back) ≡ lines ++ line ∷ others
+pieces_behind seen back line lines begun others cut none is =
+    goes_on_behind seen back lines begun line others cut is ∙ ap (λ (b : List ℕ). lines ++ (b ++ line) ∷ others) none
+
 -- two pieces in a row are one
 pub one_behind : (front back : List ℕ) → IsOnePiece front → IsOnePiece back → IsOnePiece (front ++ back)
 one_behind front back one other = goes_on_behind front back [] front back [] one other
@@ -99,3 +106,7 @@ held_parts bytes start searched end begun within =
     ∙ (take-add (searched - start) (end - searched) (drop start bytes)
     ∙ ap (λ (bs : List ℕ). take (searched - start) (drop start bytes) ++ take (end - searched) bs)
     (drop-drop (searched - start) start bytes ∙ ap (λ (n : ℕ). drop n bytes) place))
+
+-- what is held, cut behind a line feed
+pub cut_held : (held : List ℕ) (count : ℕ) → IsEndedAfter held (Some count) → held ≡ take count held ++ line_feed ∷ drop (suc count) held
+cut_held held count found = sym (take-append-drop count held) ∙ ap (λ (bs : List ℕ). take count held ++ bs) found.2

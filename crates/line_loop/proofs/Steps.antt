@@ -7,7 +7,8 @@ use Rattle.line_loop.specs.Endings.{MayWait, most_waiting}
 use Rattle.line_loop.specs.Lines.{PrintsLine}
 use Rattle.line_loop.specs.Pieces.{IsEndedAfter, IsOnePiece}
 use Rattle.line_loop.specs.Progress.{EndsStep, HasEnded, HasStepped, IsBegun, PlayedSoFar, PlaysPart, Progress, behind_line, work}
-use Rattle.line_loop.proofs.Played.{ended_is_next, ends_at_last, ends_by_line, ends_over, last_is_next, long_is_next, passed_all, passed_line, played_line, played_long}
+use Rattle.line_loop.proofs.LastLines.{ended_is_next, ends_at_last, ends_by_line, ends_over, last_is_next, long_is_next}
+use Rattle.line_loop.proofs.Played.{passed_all, passed_line, played_line, played_long}
 
 -- a line is work done
 work_behind : (at : Progress) (count : ℕ) → count < length at.held → work (behind_line count at) < work at
