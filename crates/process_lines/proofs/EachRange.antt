@@ -57,3 +57,5 @@ module _ (of : OfRanges) (words behind : List (List ℕ)) (word : List ℕ) (spl
     pub letter_brings : TellsThem of → AreSome (ranges_in words) → LetterTellsList (some_ranges of read words)
     letter_brings tells some =
         subst LetterTellsList (sym letter_is) (brings_then (ranges_in words) (λ ranges. letter_of head (of ranges)) tells some)
+
+pub ruleset range_letters = (front_fault)

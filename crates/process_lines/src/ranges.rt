@@ -41,6 +41,7 @@ pub(crate) fn an_empty(
 }
 
 /// Ranges, one at least.
+#[tactic(auto, using(crate::proofs::EachRange::range_letters))]
 fn some_ranges(
     alloc: Global,
     head: Result<Head, LineFault>,
