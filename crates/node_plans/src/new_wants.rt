@@ -6,6 +6,7 @@ ghost use Rattle.directory_rules.specs.State.{Survey_letter};
 ghost use Rattle.node_plans.specs.Sender.{asks_of, sending};
 
 use crate::Sender;
+use crate::copies::copied_ranges;
 use crate::members::members;
 use directory_letters::{Body, Letter};
 use directory_rules::PieceState;
@@ -66,7 +67,7 @@ impl Sender<'_> {
     {
         let silos = members(alloc, self.view)?;
         for silo in &silos {
-            let survey = Body::Survey(ranges.to_vec(alloc)?);
+            let survey = Body::Survey(copied_ranges(alloc, ranges)?);
             letters.push(self.letter_to(*silo, survey))?;
         }
         Ok(())
