@@ -1,11 +1,12 @@
 //! What new pieces want, of which nobody has told anything yet (`docs/RULES.md#recovery`).
-ghost use Rattle.std.specs.Prelude.{◌≡◌, ◌++◌, IfOk, OnOk, map};
+ghost use Rattle.std.specs.Prelude.{◌≡◌, ◌++◌, IfOk, OnOk, flat_map, map};
 ghost use Rattle.directory_rules.specs.Members.{members_of};
-ghost use Rattle.directory_rules.specs.Sent.{asks_by, letter_to, recovering_by, recovering_ranges, survey_letters};
+ghost use Rattle.directory_rules.specs.Sent.{asks_by, letter_to, query_letters, recovering_by, recovering_ranges, survey_letters};
 ghost use Rattle.directory_rules.specs.State.{Survey_letter};
 ghost use Rattle.node_plans.specs.Sender.{asks_of, sending};
 
 use crate::Sender;
+use crate::copies::copied_ranges;
 use crate::members::members;
 use directory_letters::{Body, Letter};
 use directory_rules::PieceState;
@@ -13,6 +14,9 @@ use grain_partition::Piece;
 use ring_range::RingRange;
 use std::alloc::{AllocError, Global};
 use std::collections::BTreeMap;
+
+// Up to so many ranges are asked for one by one.
+const MOST_QUERIED: usize = 2;
 
 impl Sender<'_> {
     // The asks of the pieces that await snapshots, piece by piece.
@@ -39,7 +43,7 @@ impl Sender<'_> {
         }
     }
 
-    // One survey of all ranges to each silo of the view, by address; where there is but one range, the queries for it.
+    // Each silo of the view is asked for ranges: for few by a query each, else by one survey of all, by address.
     pub(crate) fn send_surveys(
         &self,
         alloc: Global,
@@ -48,11 +52,27 @@ impl Sender<'_> {
     ) -> Result<(), AllocError>
         ensures { OnOk result (letters.new.items ≡ letters.old.items ++ survey_letters (sending self.now) ranges.now) }
     {
-        match ranges.len() {
-            0 => Ok(()),
-            1 => self.send_queries(alloc, letters, ranges[0]),
-            _ => self.send_survey(alloc, letters, ranges),
+        if ranges.len() <= MOST_QUERIED {
+            return self.send_queries_for(alloc, letters, ranges);
         }
+        self.send_survey(alloc, letters, ranges)
+    }
+
+    // The queries for ranges, one after the other.
+    fn send_queries_for(
+        &self,
+        alloc: Global,
+        letters: &mut Vec<Letter>,
+        ranges: &[RingRange],
+    ) -> Result<(), AllocError>
+        ensures { OnOk result (letters.new.items ≡ letters.old.items ++ flat_map (query_letters (sending self.now)) ranges.now) }
+    {
+        let mut rest = ranges;
+        while let Some((range, behind)) = rest.split_first() {
+            self.send_queries(alloc, letters, *range)?;
+            rest = behind;
+        }
+        Ok(())
     }
 
     // A survey of the ranges to each silo of the view, by address.
@@ -66,7 +86,7 @@ impl Sender<'_> {
     {
         let silos = members(alloc, self.view)?;
         for silo in &silos {
-            let survey = Body::Survey(ranges.to_vec(alloc)?);
+            let survey = Body::Survey(copied_ranges(alloc, ranges)?);
             letters.push(self.letter_to(*silo, survey))?;
         }
         Ok(())
