@@ -1,6 +1,6 @@
 -- What is summed over fresh letters, after one was delivered and others were sent.
 use Rattle.std.proofs.Common.{arith, ◌≡◌, refl, ap, ◌∙◌, ℕ, ◌+◌, List, [], ◌∷◌}
-use Rattle.std.specs.Prelude.{true, cond, All, map, sum_by, Some}
+use Rattle.std.specs.Prelude.{true, false, cond, All, map, sum_by, Some}
 use Rattle.std.specs.List.{enumerate_from}
 use Rattle.std.specs.Ordering.{nat_cmp}
 use Rattle.std.specs.Map.{lookup, values_of}
