@@ -34,8 +34,8 @@ pub fn pages_reach_the_bound()
     ensures { PagesReachTheBound }
 {}
 
-/// A silo that recovers two ranges asks for both in one letter. Where it has nothing in either, one letter settles both; where it has an
-/// activation in each, the plan sends just as many letters as the bound lets, of which two are for that letter, a report each.
+/// A silo that recovers three ranges asks for all in one letter. Where it has nothing in any, one letter settles all; where it has an
+/// activation in two of them, the plan sends just as many letters as the bound lets, of which three answer that letter.
 pub fn survey_reaches_the_bound()
     ensures { SurveyReachesTheBound }
 {}
