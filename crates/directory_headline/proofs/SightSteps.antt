@@ -28,7 +28,7 @@ use Rattle.directory_rules.specs.Gatherings.{new_gathering}
 use Rattle.directory_rules.specs.Recovery.{new_recovery}
 use Rattle.directory_rules.specs.Sight.{was_settled, kept_entries, shelf_after}
 use Rattle.directory_rules.specs.Host.{outstanding, new_number, renewed}
-use Rattle.directory_rules.specs.Sent.{all_requests, all_wants}
+use Rattle.directory_rules.specs.Sent.{all_requests, new_wants}
 use Rattle.directory_rules.specs.Step.{gathering_in, recovery_in, new_gatherings, new_recoveries, node_after, sight}
 use Rattle.directory_rules.proofs.Cases.{on_bool}
 use Rattle.directory_facts.proofs.Carried.{IsSight}
@@ -45,10 +45,11 @@ use Rattle.directory_headline.proofs.PieceAt.{of_found}
 use Rattle.directory_headline.proofs.NewRecoveries.{new_recovery_shown}
 use Rattle.directory_headline.proofs.KeptEntries.{kept_at, kept_rises, kept_again, kept_inside}
 use Rattle.directory_headline.proofs.SettledPiece.{grain_below}
+use Rattle.directory_headline.proofs.Stands.{stands}
 use Rattle.directory_headline.proofs.SightPieces.{IsSealed}
 use Rattle.directory_headline.proofs.Renewals.{sends_anew}
 use Rattle.directory_headline.proofs.Distinct.{all_renewed}
-use Rattle.directory_headline.proofs.Nudges.{requests_shown, all_wants_shown}
+use Rattle.directory_headline.proofs.Nudges.{requests_shown, new_wants_shown}
 use Rattle.directory_headline.proofs.Sights as sights
 
 -- ---- what begins anew
@@ -128,7 +129,7 @@ module _ (m : Setting) (f : World) (w : protocol.World) (silo : Silo) (node : No
       (entry_at grain (kept_entries node.settings.hashing view pieces range))
   survives range is was grain held =
       let its = hash_is m f w silo node here in
-      let below = grain_below m f w silo node here grain in
+      let below = grain_below m w silo node (stands m f w silo node here) grain in
       let has = sights.had_settled m f w silo node here before view places newer brings range is was (m.hash grain) below held in
       let piece = (of_found (λ e. IsPiece m.hash e.1) (m.hash grain) pieces has.piece facts.pieces.each has.found).1 in
       ap (surviving m view.version) ((node_shown m f w silo node here).holding.table grain has.piece has.found has.settled)
@@ -229,6 +230,6 @@ module _ (m : Setting) (f : World) (w : protocol.World) (silo : Silo) (node : No
           recoveries = recoveries_still m seen later grows made.recoveries (recoveries_anew m seen view member by_address after);
         };
         letters =
-            All-append (IsShownLetter m.hash later) (all_wants made) (all_requests made) (all_wants_shown m later made)
+            All-append (IsShownLetter m.hash later) (new_wants made) (all_requests made) (new_wants_shown m later made)
             (requests_shown m made later (seen.seen silo) silo version (sym its) sends.sent);
       }
