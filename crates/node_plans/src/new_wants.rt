@@ -1,0 +1,101 @@
+//! What new pieces want, of which nobody has told anything yet (`docs/RULES.md#recovery`).
+ghost use Rattle.std.specs.Prelude.{◌≡◌, ◌++◌, IfOk, OnOk, map};
+ghost use Rattle.directory_rules.specs.Members.{members_of};
+ghost use Rattle.directory_rules.specs.Sent.{asks_by, letter_to, recovering_by, recovering_ranges, survey_letters};
+ghost use Rattle.directory_rules.specs.State.{Survey_letter};
+ghost use Rattle.node_plans.specs.Sender.{asks_of, sending};
+
+use crate::Sender;
+use crate::members::members;
+use directory_letters::{Body, Letter};
+use directory_rules::PieceState;
+use grain_partition::Piece;
+use ring_range::RingRange;
+use std::alloc::{AllocError, Global};
+use std::collections::BTreeMap;
+
+impl Sender<'_> {
+    // The asks of the pieces that await snapshots, piece by piece.
+    pub(crate) fn send_asks(
+        &self,
+        letters: &mut Vec<Letter>,
+        pieces: &BTreeMap<u32, Piece>,
+    ) -> Result<(), AllocError>
+        ensures { OnOk result (letters.new.items ≡ letters.old.items ++ asks_of (sending self.now) pieces.now.entries) }
+    {
+        for (_, piece) in pieces {
+            self.send_asked(letters, piece)?;
+        }
+        Ok(())
+    }
+
+    // The ask of a piece, where it awaits a snapshot.
+    fn send_asked(&self, letters: &mut Vec<Letter>, piece: &Piece) -> Result<(), AllocError>
+        ensures { OnOk result (letters.new.items ≡ letters.old.items ++ asks_by piece.now.state (sending self.now) piece.now.range) }
+    {
+        match piece.state() {
+            PieceState::Awaiting(from) => self.send_ask(letters, from, piece.range()),
+            PieceState::Settled | PieceState::Recovering => Ok(()),
+        }
+    }
+
+    // One survey of all ranges to each silo of the view, by address; where there is but one range, the queries for it.
+    pub(crate) fn send_surveys(
+        &self,
+        alloc: Global,
+        letters: &mut Vec<Letter>,
+        ranges: &[RingRange],
+    ) -> Result<(), AllocError>
+        ensures { OnOk result (letters.new.items ≡ letters.old.items ++ survey_letters (sending self.now) ranges.now) }
+    {
+        match ranges.len() {
+            0 => Ok(()),
+            1 => self.send_queries(alloc, letters, ranges[0]),
+            _ => self.send_survey(alloc, letters, ranges),
+        }
+    }
+
+    // A survey of the ranges to each silo of the view, by address.
+    fn send_survey(
+        &self,
+        alloc: Global,
+        letters: &mut Vec<Letter>,
+        ranges: &[RingRange],
+    ) -> Result<(), AllocError>
+        ensures { OnOk result (letters.new.items ≡ letters.old.items ++ map (λ silo. letter_to silo (sending self.now) (Survey_letter ranges.now)) (members_of self.now.view.now)) }
+    {
+        let silos = members(alloc, self.view)?;
+        for silo in &silos {
+            let survey = Body::Survey(ranges.to_vec(alloc)?);
+            letters.push(self.letter_to(*silo, survey))?;
+        }
+        Ok(())
+    }
+}
+
+/// The ranges of the pieces that recover, piece by piece.
+pub(crate) fn recovering_ranges(
+    alloc: Global,
+    pieces: &BTreeMap<u32, Piece>,
+) -> Result<Vec<RingRange>, AllocError>
+    ensures { IfOk result (λ ranges. ranges.items ≡ recovering_ranges pieces.now.entries) }
+{
+    let mut ranges = Vec::new(alloc);
+    for (_, piece) in pieces {
+        push_recovering(&mut ranges, piece)?;
+    }
+    Ok(ranges)
+}
+
+// The range of a piece, behind others, where the piece recovers.
+fn push_recovering(ranges: &mut Vec<RingRange>, piece: &Piece) -> Result<(), AllocError>
+    ensures { OnOk result (ranges.new.items ≡ ranges.old.items ++ recovering_by piece.now.state piece.now.range) }
+{
+    match piece.state() {
+        PieceState::Recovering => {
+            ranges.push(piece.range())?;
+            Ok(())
+        }
+        PieceState::Settled | PieceState::Awaiting(_) => Ok(()),
+    }
+}
