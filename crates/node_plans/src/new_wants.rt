@@ -1,7 +1,7 @@
 //! What new pieces want, of which nobody has told anything yet (`docs/RULES.md#recovery`).
-ghost use Rattle.std.specs.Prelude.{◌≡◌, ◌++◌, IfOk, OnOk, map};
+ghost use Rattle.std.specs.Prelude.{◌≡◌, ◌++◌, IfOk, OnOk, flat_map, map};
 ghost use Rattle.directory_rules.specs.Members.{members_of};
-ghost use Rattle.directory_rules.specs.Sent.{asks_by, letter_to, recovering_by, recovering_ranges, survey_letters};
+ghost use Rattle.directory_rules.specs.Sent.{asks_by, letter_to, query_letters, recovering_by, recovering_ranges, survey_letters};
 ghost use Rattle.directory_rules.specs.State.{Survey_letter};
 ghost use Rattle.node_plans.specs.Sender.{asks_of, sending};
 
@@ -13,6 +13,9 @@ use grain_partition::Piece;
 use ring_range::RingRange;
 use std::alloc::{AllocError, Global};
 use std::collections::BTreeMap;
+
+// Up to so many ranges are asked for one by one.
+const MOST_QUERIED: usize = 2;
 
 impl Sender<'_> {
     // The asks of the pieces that await snapshots, piece by piece.
@@ -39,7 +42,7 @@ impl Sender<'_> {
         }
     }
 
-    // One survey of all ranges to each silo of the view, by address; where there is but one range, the queries for it.
+    // Each silo of the view is asked for ranges: for few by a query each, else by one survey of all, by address.
     pub(crate) fn send_surveys(
         &self,
         alloc: Global,
@@ -48,11 +51,25 @@ impl Sender<'_> {
     ) -> Result<(), AllocError>
         ensures { OnOk result (letters.new.items ≡ letters.old.items ++ survey_letters (sending self.now) ranges.now) }
     {
-        match ranges.len() {
-            0 => Ok(()),
-            1 => self.send_queries(alloc, letters, ranges[0]),
-            _ => self.send_survey(alloc, letters, ranges),
+        if ranges.len() <= MOST_QUERIED {
+            return self.send_queries_for(alloc, letters, ranges);
         }
+        self.send_survey(alloc, letters, ranges)
+    }
+
+    // The queries for ranges, one after the other.
+    fn send_queries_for(
+        &self,
+        alloc: Global,
+        letters: &mut Vec<Letter>,
+        ranges: &[RingRange],
+    ) -> Result<(), AllocError>
+        ensures { OnOk result (letters.new.items ≡ letters.old.items ++ flat_map (query_letters (sending self.now)) ranges.now) }
+    {
+        for range in ranges {
+            self.send_queries(alloc, letters, *range)?;
+        }
+        Ok(())
     }
 
     // A survey of the ranges to each silo of the view, by address.

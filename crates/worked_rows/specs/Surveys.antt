@@ -3,7 +3,7 @@ use Rattle.std.specs.Prelude.{[], ◌∷◌, codes}
 use Rattle.texts.specs.Printed.{text_of_lines}
 use Rattle.worked_rows.specs.Row.{Row}
 
--- A silo skips the version of its join, so both of its ranges recover: it asks each silo for both by one survey. One silo has an activation in
+-- A silo skips the version of its join, so all of its ranges recover: it asks each silo for them by one survey. One silo has an activation in
 -- one of them; it hasn't seen the version when the survey comes first, and has passed it when that comes last.
 abbrev pub several_ranges : Row
 several_ranges = record {
@@ -13,7 +13,7 @@ several_ranges = record {
       ∷ codes "settle"
       ∷ codes "wake 10.0.0.1:1000@1 user/a#1500"
       ∷ codes "settle"
-      ∷ codes "join 10.0.0.2:1000@1 1000 3000"
+      ∷ codes "join 10.0.0.2:1000@1 1000 3000 5000"
       ∷ codes "join 10.0.0.3:1000@1 2000"
       ∷ codes "see 10.0.0.2:1000@1 3"
       ∷ codes "deliver 5"
@@ -66,7 +66,8 @@ several_ranges = record {
       ∷ codes "range 0+1000 10.0.0.1:1000@1 settled entries 0"
       ∷ codes "range 1000+1000 10.0.0.2:1000@1 settled entries 1"
       ∷ codes "range 2000+1000 10.0.0.3:1000@1 settled entries 0"
-      ∷ codes "range 3000+4294964296 10.0.0.2:1000@1 settled entries 0"
+      ∷ codes "range 3000+2000 10.0.0.2:1000@1 settled entries 0"
+      ∷ codes "range 5000+4294962296 10.0.0.2:1000@1 settled entries 0"
       ∷ codes "view 4 leaving 10.0.0.3:1000@1"
       ∷ codes "10.0.0.1:1000@1 sees 4 next"
       ∷ codes "delivered 5 survey ahead sent 21..21"

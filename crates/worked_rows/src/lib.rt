@@ -218,7 +218,7 @@ pub fn kept_skip()
     ensures { Prints recoveries.kept_skip }
 {}
 
-/// Two ranges of a silo recover at once: each silo is asked for both by one message, and tells in one in which of them it has nothing.
+/// Three ranges of a silo recover at once: each silo is asked for all by one message, and tells by one in which of them it has nothing.
 #[tactic(auto, using(crate::proofs::Computed::several_ranges))]
 pub fn several_ranges()
     ensures { Prints surveys.several_ranges }
