@@ -39,7 +39,8 @@ module _ (node : Node) (letter : Letter) where
   no_ranges (range ∷ ranges) none = absurd (cc (none))
 
   module _ (ranges : List Range) (first : Range) (is : slice_get ranges 0 ≡ Some first) where
-    pub told_behind : node.view.version < letter.version → surveyed node letter ranges ≡ answering letter node (Behind_letter first) effect.Behind
+    pub told_behind : node.view.version < letter.version
+        → surveyed node letter ranges ≡ answering letter node (Behind_letter first) effect.Behind
     told_behind behind =
         by_first ranges first is
         ∙ ap (λ b. cond b (answering letter node (Behind_letter first) effect.Behind)
@@ -57,7 +58,8 @@ module _ (node : Node) (letter : Letter) where
         (record { node = node; letters = tellings letter node ranges; effect = effect.Report })))
         (le-ltb node.view.version letter.version seen)
 
-    pub told_ahead : letter.version < node.view.version → surveyed node letter ranges ≡ answering letter node (Ahead_letter first) effect.Ahead
+    pub told_ahead : letter.version < node.view.version
+        → surveyed node letter ranges ≡ answering letter node (Ahead_letter first) effect.Ahead
     told_ahead ahead =
         upto (omega (arith, ahead))
         ∙ ap (λ b. cond b (answering letter node (Ahead_letter first) effect.Ahead)
@@ -78,7 +80,8 @@ module _ (node : Node) (letter : Letter) where
   counts_none (range ∷ ranges) is = absurd (omega (arith, is))
 
   one_of : (a b : Bool) (first : Range) (x : Stepped) → (a ≡ false → b ≡ false → ⊥)
-      → 1 ≡ length (cond a (answering letter node (Behind_letter first) effect.Behind) (cond b (answering letter node (Ahead_letter first) effect.Ahead) x)).letters
+      → 1 ≡ length (cond a (answering letter node (Behind_letter first) effect.Behind)
+      (cond b (answering letter node (Ahead_letter first) effect.Ahead) x)).letters
   one_of true b first x some = refl
   one_of false true first x some = refl
   one_of false false first x some = absurd (some refl refl)
@@ -101,21 +104,17 @@ module _ (node : Node) (letter : Letter) where
       sym (ap (λ (s : Stepped). length s.letters) (told_all (range ∷ ranges) range refl (omega (arith, same)) (omega (arith, same))))
 
   -- ---- Those that are empty, and the others.
+  by_one : (b : Bool) (none some : List Range) (n : ℕ) (range : Range) → length none + length some ≡ n
+      → length (cond b (range ∷ none) none) + length (cond (not b) (range ∷ some) some) ≡ suc n
+  by_one true none some n range rest = omega (arith, rest)
+  by_one false none some n range rest = omega (arith, rest)
+
   both : (ranges : List Range) → length (filter (has_nothing node) ranges) + length (filter (λ r. not (has_nothing node r)) ranges)
       ≡ length ranges
   both [] = refl
-  both (range ∷ ranges) = by (has_nothing node range) (both ranges)
-    where
-      abbrev none : List Range
-      none = filter (has_nothing node) ranges
-
-      abbrev some : List Range
-      some = filter (λ r. not (has_nothing node r)) ranges
-
-      by : (b : Bool) → length none + length some ≡ length ranges
-          → length (cond b (range ∷ none) none) + length (cond (not b) (range ∷ some) some) ≡ suc (length ranges)
-      by true rest = omega (arith, rest)
-      by false rest = omega (arith, rest)
+  both (range ∷ ranges) =
+      by_one (has_nothing node range) (filter (has_nothing node) ranges) (filter (λ r. not (has_nothing node r)) ranges)
+      (length ranges) range (both ranges)
 
   reports_are : (ranges : List Range)
       → length (tellings letter node ranges)
@@ -170,7 +169,8 @@ module _ (node : Node) (letter : Letter) where
     outcome = recovered (recovery_of node range) (nothing_in letter range)
 
     -- one that doesn't recover
-    pub makes_nothing : (test : Recovered → Bool) → recovers node letter.version range ≡ false → false ≡ nothing_makes test letter node range
+    pub makes_nothing : (test : Recovered → Bool) → recovers node letter.version range ≡ false
+        → false ≡ nothing_makes test letter node range
     makes_nothing test not = sym (ap (λ b. b && test outcome) not)
 
     made_by : (test : Recovered → Bool) → recovers node letter.version range ≡ true → test outcome ≡ nothing_makes test letter node range

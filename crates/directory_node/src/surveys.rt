@@ -9,7 +9,7 @@ ghost use Rattle.directory_node.specs.Emptied.{is_complete};
 use crate::{Change, Node, Plan};
 use directory_letters::{Body, Letter};
 use directory_rules::Effect;
-use node_plans::{list_of, take_nothing};
+use node_plans::{copied_ranges, list_of, take_nothing};
 use range_recovery::{RecoveryProgress, Report};
 use ring_range::RingRange;
 use silo_address::SiloAddress;
@@ -181,7 +181,7 @@ impl Node {
         let change = Change::Empties {
             from: letter.from(),
             version: letter.version(),
-            ranges: ranges.to_vec(alloc)?,
+            ranges: copied_ranges(alloc, ranges)?,
         };
         Ok(Plan::silent(alloc, effect, change))
     }

@@ -171,12 +171,13 @@ module _ (asked : PageAsked) where
         → false ≡ nat_lt 0 (length (asked_for asked (standing_at es (hashed_between first circle hashed)))) → (any : Bool)
         → any ≡ nat_lt 0 (length (asked_for asked (standing_at es (hashed_between 0 (end - circle) hashed)))) → HasAny asked es any
     in_both_stretches over none any is =
-        let nothing = has_none (between first circle) none in (
-          between first circle ++ between 0 (end - circle),
+        let nothing = has_none (between first circle) none in
+        let empty : length (between first circle) ≡ 0 = ap length nothing in
+        let new = between first circle ++ between 0 (end - circle) in (
+          new,
           (
-            by_both_stretches asked is_range es are hashed by_hash sorted first end first_from
-                end_is [] (between first circle ++ between 0 (end - circle)) refl over (between first circle) (adds first circle [])
-                (let no : length (between first circle) ≡ 0 = ap length nothing in omega (arith, no)) (adds 0 (end - circle) (between first circle)),
+            by_both_stretches asked is_range es are hashed by_hash sorted first end first_from end_is [] new refl over
+                (between first circle) (adds first circle []) (omega (arith, empty)) (adds 0 (end - circle) (between first circle)),
             is ∙ ap (λ l. nat_lt 0 (length (l ++ between 0 (end - circle)))) (sym nothing),
           ),
         )
@@ -196,10 +197,11 @@ module _ (asked : PageAsked) where
         put_as_they_stand (hash_grain asked.hashing) (asked.range ∷ []) []
         (map (λ e. entry_on silo e.0 e.1) (filter (is_told asked.hashing asked.range) es))
 
+    abbrev behind : Option Grain → Entry → Bool
+    behind after e = stands_behind (hash_grain asked.hashing) (asked.range ∷ []) after e.grain
+
     all_told : told_behind silo asked es ≡ values_of standing
-    all_told =
-        ap (λ (o : Option Grain). filter (λ e. stands_behind (hash_grain asked.hashing) (asked.range ∷ []) o e.grain) (values_of standing)) from
-        ∙ all_pass (values_of standing)
+    all_told = ap (λ (o : Option Grain). filter (behind o) (values_of standing)) from ∙ all_pass (values_of standing)
 
     found_any : (test : Grain → Bool) (table : Table) → is_some (lookup test table) ≡ true → true ≡ nat_lt 0 (length (values_of table))
     found_any test [] is = cc

@@ -1,34 +1,31 @@
 -- What new pieces want: by how many of them recover, without their entries, and of nodes that differ only in what their letters don't
 -- depend on.
-use Rattle.std.proofs.Common.{◌≡◌, refl, sym, ap, ◌∙◌, ℕ, List, [], ◌∷◌, ◌++◌, get_or, length, arith}
+use Rattle.std.proofs.Common.{◌≡◌, refl, sym, ap, ◌∙◌, ℕ, List, [], ◌∷◌, ◌++◌, ◌<◌, ◌≤◌, cond, length}
 use Rattle.std.specs.Prelude.{flat_map, map}
+use Rattle.std.proofs.lemmas.Bool.{le-leb, lt-leb}
 use Rattle.ring_range.specs.Range.{Range}
 use Rattle.directory_rules.specs.declared.PieceState.{PieceState}
 use Rattle.directory_rules.specs.declared.PieceState.TheVariants.{Settled, Awaiting, Recovering}
 use Rattle.directory_rules.specs.Members.{members_of}
 use Rattle.directory_rules.specs.State.{Cache, Holding, Node, Piece, Snapshot, Survey_letter}
-use Rattle.directory_rules.specs.Sent.{asks_by, letter_to, query_letters, recovering_by, recovering_ranges, survey_letters}
+use Rattle.directory_rules.specs.Sent.{asks_by, letter_to, most_queried, query_letters, recovering_by, recovering_ranges, survey_letters}
 use Rattle.grain_partition.specs.Seen.{emptied}
 use Rattle.node_plans.specs.Sender.{asks_of, bare, new_wants_of}
 use Rattle.node_plans.proofs.Alike.{other}
 
 -- ---- By how many ranges recover.
 module _ (node : Node) where
-  pub none_surveyed : (ranges : List Range) → length ranges ≡ 0 → survey_letters node ranges ≡ []
-  none_surveyed [] is = refl
-  none_surveyed (range ∷ ranges) is = absurd (omega (arith, is))
+  pub few_surveyed : (ranges : List Range) → length ranges ≤ most_queried
+      → flat_map (query_letters node) ranges ≡ survey_letters node ranges
+  few_surveyed ranges few =
+      sym (ap (λ b. cond b (flat_map (query_letters node) ranges)
+      (map (λ silo. letter_to silo node (Survey_letter ranges)) (members_of node.view))) (le-leb (length ranges) most_queried few))
 
-  pub one_surveyed : (ranges : List Range) (default : Range) → length ranges ≡ 1
-      → query_letters node (get_or ranges 0 default) ≡ survey_letters node ranges
-  one_surveyed [] default is = absurd (omega (arith, is))
-  one_surveyed (range ∷ []) default is = refl
-  one_surveyed (range ∷ another ∷ ranges) default is = absurd (omega (arith, is))
-
-  pub all_surveyed : (ranges : List Range) → (length ranges ≡ 0 → ⊥) → (length ranges ≡ 1 → ⊥)
+  pub many_surveyed : (ranges : List Range) → most_queried < length ranges
       → map (λ silo. letter_to silo node (Survey_letter ranges)) (members_of node.view) ≡ survey_letters node ranges
-  all_surveyed [] some more = absurd (some refl)
-  all_surveyed (range ∷ []) some more = absurd (more refl)
-  all_surveyed (range ∷ another ∷ ranges) some more = refl
+  many_surveyed ranges many =
+      sym (ap (λ b. cond b (flat_map (query_letters node) ranges)
+      (map (λ silo. letter_to silo node (Survey_letter ranges)) (members_of node.view))) (lt-leb (length ranges) most_queried many))
 
 -- ---- Entries are nothing to it.
 emptied_asks : (node : Node) (pieces : List (ℕ × Piece)) → asks_of node (emptied pieces) ≡ asks_of node pieces
@@ -53,9 +50,7 @@ module _ (node : Node) (holding : Holding) (shelf : List Snapshot) (cache : Cach
   same_asks Recovering range = refl
 
   same_surveys : (ranges : List Range) → survey_letters node ranges ≡ survey_letters after ranges
-  same_surveys [] = refl
-  same_surveys (range ∷ []) = refl
-  same_surveys (range ∷ another ∷ ranges) = refl
+  same_surveys ranges = refl
 
   pub same_new : (pieces : List (ℕ × Piece)) → new_wants_of node pieces ≡ new_wants_of (other node holding shelf cache) pieces
   same_new pieces = λ i. flat_map (λ e. same_asks e.1.state e.1.range i) pieces ++ same_surveys (recovering_ranges pieces) i

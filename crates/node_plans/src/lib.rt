@@ -23,7 +23,9 @@ mod transition;
 
 pub use beginnings::new_waits;
 pub use cache::{forget, hint_in, learn, new_cache, same_caches, see_in_cache, use_hint};
-pub use copies::{copied_own, copied_seen, copied_sight, copied_tables, copied_waits};
+pub use copies::{
+    copied_own, copied_ranges, copied_seen, copied_sight, copied_tables, copied_waits,
+};
 pub use effects::{offer_effect, reply_effect, seen_effect};
 pub use gathered::{gather_among, gather_anew_among, same_gatherings};
 pub use input::Input;

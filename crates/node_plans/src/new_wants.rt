@@ -6,6 +6,7 @@ ghost use Rattle.directory_rules.specs.State.{Survey_letter};
 ghost use Rattle.node_plans.specs.Sender.{asks_of, sending};
 
 use crate::Sender;
+use crate::copies::copied_ranges;
 use crate::members::members;
 use directory_letters::{Body, Letter};
 use directory_rules::PieceState;
@@ -66,8 +67,10 @@ impl Sender<'_> {
     ) -> Result<(), AllocError>
         ensures { OnOk result (letters.new.items ≡ letters.old.items ++ flat_map (query_letters (sending self.now)) ranges.now) }
     {
-        for range in ranges {
+        let mut rest = ranges;
+        while let Some((range, behind)) = rest.split_first() {
             self.send_queries(alloc, letters, *range)?;
+            rest = behind;
         }
         Ok(())
     }
@@ -83,7 +86,7 @@ impl Sender<'_> {
     {
         let silos = members(alloc, self.view)?;
         for silo in &silos {
-            let survey = Body::Survey(ranges.to_vec(alloc)?);
+            let survey = Body::Survey(copied_ranges(alloc, ranges)?);
             letters.push(self.letter_to(*silo, survey))?;
         }
         Ok(())

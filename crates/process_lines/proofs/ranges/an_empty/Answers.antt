@@ -6,12 +6,12 @@ use Rattle.process_lines.specs.ReadAs.{head_of, told}
 use Rattle.process_lines.proofs.Onto.{handed_on}
 use Rattle.process_lines.proofs.ranges.an_empty.Goals as goal
 
-pub returns-in_err-some_ranges-clause-reads : goal.returns-in_err-some_ranges-clause-reads
-returns-in_err-some_ranges-clause-reads c =
-    handed_on (λ letter. letter) c.from_residual.result c.in_err-some_ranges.field-0.0
+pub returns-in_err-head-clause-reads : goal.returns-in_err-head-clause-reads
+returns-in_err-head-clause-reads c =
+    handed_on (λ letter. letter) c.from_residual.result c.in_err-head.field-0.0
     (some_ranges Empty_letter (told head_of c.args.head) (words_in c.args.words.now)) c.from_residual.ensures.1
-    (c.in_err-some_ranges.ensures.reads Empty_letter)
+    (c.in_err-head.ensures.reads Empty_letter)
 
-pub returns-in_err-some_ranges-clause-memory : goal.returns-in_err-some_ranges-clause-memory
-returns-in_err-some_ranges-clause-memory c memory =
-    c.in_err-some_ranges.ensures.memory Empty_letter (λ ranges some. some) (search rules)
+pub returns-in_err-head-clause-memory : goal.returns-in_err-head-clause-memory
+returns-in_err-head-clause-memory c memory =
+    c.in_err-head.ensures.memory Empty_letter (λ ranges some. some) (search rules)

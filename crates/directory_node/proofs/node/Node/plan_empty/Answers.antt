@@ -8,7 +8,7 @@ returns-clause-planned c =
     c.silent.ensures.planned c.args.self.now
     ∙ (λ i. record {
       node =
-          fold (told_nothing (empty_from (c.from.ensures i) (c.version.ensures i))) c.args.self.now (c.in_ok-to_vec.ensures i);
+          fold (told_nothing (empty_from (c.from.ensures i) (c.version.ensures i))) c.args.self.now (c.in_ok-copied_ranges.ensures i);
       letters = [];
       effect = c.empty_effect-effect.ensures i;
     })

@@ -11,7 +11,7 @@ pub stretch-init : goal.stretch-init
 stretch-init c = record {
   whole = ap (λ l. asked_for c.args.asked.now (standing_at c.args.held.now l)) c.into_iter-key-iterator.ensures.into_iter_gives;
   under =
-      subst (AllByRecursion (IsUnder c.args.asked.now.hashing c.args.held.now)) (sym c.into_iter-key-iterator.ensures.into_iter_gives) c.requires;
+      subst (AllByRecursion (IsUnder c.args.asked.now.hashing c.args.held.now)) (sym c.into_iter-key-iterator.ensures.into_iter_gives) c.requires.under;
 }
 
 pub is_asked_for-requires : goal.is_asked_for-requires
