@@ -1,6 +1,6 @@
 -- What a node sends when a survey comes, and what it needs once a letter of empty ranges has come.
-use Rattle.std.proofs.Common.{arith, ◌≡◌, refl, ap, subst, ℕ, ◌+◌, ◌≤◌, List, [], ◌∷◌, ◌++◌, length}
-use Rattle.std.specs.Prelude.{Bool, cond, not, nat_lt, filter, find, fold, map, All, Option, Some, None}
+use Rattle.std.proofs.Common.{arith, ◌≡◌, refl, ap, subst, ℕ, ◌+◌, ◌≤◌, List, [], ◌∷◌, length}
+use Rattle.std.specs.Prelude.{Bool, cond, not, nat_lt, filter, find, fold, map, Option, Some, None}
 use Rattle.std.proofs.lemmas.List.{length-append, length-map}
 use Rattle.silo_address.specs.Silo.{Silo}
 use Rattle.silo_address.specs.Grain.{Grain}
@@ -10,9 +10,8 @@ use Rattle.directory_rules.specs.declared.effect.Effect.{Effect}
 use Rattle.directory_rules.specs.declared.effect.Effect.TheVariants as effect
 use Rattle.directory_rules.specs.State.{Snapshot, Report_letter, Survey_letter, Empty_letter, Behind_letter, Ahead_letter, Letter, Body, Host, Node}
 use Rattle.directory_rules.specs.Snapshot.{is_snapshot}
-use Rattle.directory_rules.specs.Recovery.{Awaits_more}
 use Rattle.directory_rules.specs.Sent.{recovery_of}
-use Rattle.directory_rules.specs.Step.{Stepped, silently}
+use Rattle.directory_rules.specs.Step.{Stepped}
 use Rattle.directory_rules.specs.Transfer.{answer_to, empty_effect, empty_letters, emptied, has_nothing, nothing_in, report_of, surveyed, tellings, told_nothing}
 use Rattle.directory_rules.specs.Laws.{requests_of}
 use Rattle.directory_rules.proofs.Cases.{on_bool}
