@@ -1,6 +1,6 @@
 -- What holds of each letter of a survey's answer, and of each letter that new pieces want.
 use Rattle.std.proofs.Common.{ℕ, List, [], ◌∷◌}
-use Rattle.std.specs.Prelude.{All, filter, flat_map, map, not, None}
+use Rattle.std.specs.Prelude.{All, cond, filter, flat_map, length, map, nat_le, not, None}
 use Rattle.std.proofs.lemmas.List.Elements.{All-append, All-cons, All-map, All-nil}
 use Rattle.silo_address.specs.Silo.{Silo}
 use Rattle.ring_range.specs.Range.{Range}
@@ -8,7 +8,8 @@ use Rattle.directory_rules.specs.declared.piece_state.PieceState.{PieceState}
 use Rattle.directory_rules.specs.declared.piece_state.PieceState.TheVariants as state
 use Rattle.directory_rules.specs.Members.{members_of}
 use Rattle.directory_rules.specs.State.{Piece, Ask_letter, Survey_letter, Empty_letter, Report_letter, Letter, Node}
-use Rattle.directory_rules.specs.Sent.{asks_by, gathering_of, letter_to, new_wants, query_to, recovering_ranges, recovery_of, survey_letters}
+use Rattle.directory_rules.specs.Sent.{asks_by, gathering_of, letter_to, most_queried, new_wants, query_letters, query_to, recovering_ranges, recovery_of, survey_letters}
+use Rattle.directory_rules.proofs.Cases.{on_bool}
 use Rattle.directory_rules.specs.Transfer.{answer_to, empty_letters, has_nothing, report_of, tellings}
 
 module _ (Q : Letter → Type 0) (letter : Letter) (node : Node) where
@@ -41,12 +42,18 @@ module _ (Q : Letter → Type 0) (node : Node)
       All-append Q (asks_by e.1.state node e.1.range) (flat_map (λ x. asks_by x.1.state node x.1.range) es) (asks e.1.state e.1.range)
       (all_asks es)
 
+  all_queries : (ranges : List Range) → All Q (flat_map (query_letters node) ranges)
+  all_queries [] = All-nil Q
+  all_queries (range ∷ ranges) =
+      All-append Q (query_letters node range) (flat_map (query_letters node) ranges)
+      (All-map Q (query_to node range) (recovery_of node range).awaiting (λ k d below. query range _)) (all_queries ranges)
+
   all_surveys : (ranges : List Range) → All Q (survey_letters node ranges)
-  all_surveys [] = All-nil Q
-  all_surveys (range ∷ []) = All-map Q (query_to node range) (recovery_of node range).awaiting (λ k d below. query range _)
-  all_surveys (range ∷ other ∷ ranges) =
-      All-map Q (λ silo. letter_to silo node (Survey_letter (range ∷ other ∷ ranges))) (members_of node.view)
-      (λ k d below. survey _ (range ∷ other ∷ ranges))
+  all_surveys ranges =
+      on_bool (λ b. All Q (cond b (flat_map (query_letters node) ranges)
+      (map (λ silo. letter_to silo node (Survey_letter ranges)) (members_of node.view)))) (nat_le (length ranges) most_queried)
+      (λ t. all_queries ranges)
+      (λ f. All-map Q (λ silo. letter_to silo node (Survey_letter ranges)) (members_of node.view) (λ k d below. survey _ ranges))
 
   -- of what new pieces want
   pub all_new_wants : All Q (new_wants node)

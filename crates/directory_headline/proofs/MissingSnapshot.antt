@@ -39,7 +39,7 @@ module _ (m : Setting) (f : World) (w : protocol.World) (silo : Silo) (node : No
             on_bool (λ b. holds range (m.hash grain) ≡ b → w.table silo grain ≡ activation_in (entry_at grain its.entries))
             (holds range (m.hash grain))
             (λ t held.
-            let changed = sym (changed_has m w silo node it version range piece has state.Recovering [] (m.hash grain) (grain_below m w silo node it grain) held) ∙ found in
+            let changed = sym (changed_has m w silo node it version range piece has state.Recovering [] (m.hash grain) (grain_below m f w silo node here grain) held) ∙ found in
             let its_state : state.Recovering ≡ its.state = ap (state_or state.Recovering) changed in
             absurd (cc (its_state ∙ is)))
             (λ no apart. was.table grain its (sym (others_have m w silo node it version range piece has state.Recovering []

@@ -15,7 +15,7 @@ use Rattle.directory_protocol.specs.Effects.{after_settling}
 use Rattle.directory_protocol.proofs.Changes.{put_same}
 use Rattle.directory_rules.specs.declared.piece_state.PieceState.{PieceState}
 use Rattle.directory_rules.specs.declared.piece_state.PieceState.TheVariants as state
-use Rattle.directory_rules.specs.State.{Table, Piece, Gathering, Recovery, Node}
+use Rattle.directory_rules.specs.State.{Table, Piece, Gathering, Recovery, Node, World}
 use Rattle.directory_rules.specs.Table.{entry_at}
 use Rattle.directory_rules.specs.Answer.{piece_with}
 use Rattle.directory_rules.specs.Sight.{is_settled}
@@ -27,7 +27,8 @@ use Rattle.directory_facts.proofs.Ways.{HasPiece}
 use Rattle.directory_headline.specs.SiloState.{state_of}
 use Rattle.directory_headline.specs.Shown.{IsShownNode, IsShownHolding, IsShownGathering, IsShownRecovery, is_settled_piece, has_settled, activation_in}
 use Rattle.directory_headline.proofs.PieceSet.{looked_counted, looked_found, set_found, set_elsewhere}
-use Rattle.directory_headline.proofs.Stands.{Stands}
+use Rattle.directory_headline.proofs.Stands.{Stands, stands}
+use Rattle.directory_headline.proofs.Frame.{Here}
 
 pub lt_true : (a b : ℕ) → nat_lt a b ≡ true → a < b
 lt_true a b is = grind arith
@@ -40,14 +41,14 @@ abbrev pub part_of_range : Range → (hash : ℕ) → Bool
 part_of_range range h = holds range h && nat_lt h circle
 
 module _ (m : Setting) (w : protocol.World) (silo : Silo) (node : Node) (stands : Stands m w silo node) where
-  pub grain_below : (grain : Grain) → m.hash grain < circle
-  grain_below grain =
-      subst (λ hash. hash grain < circle) (sym stands.hash) (grains_have_hashes node.settings.hashing grain)
+  -- the hash of a grain is a hash
+  hash_below : (grain : Grain) → m.hash grain < circle
+  hash_below grain = subst (λ hash. hash grain < circle) (sym stands.hash) (grains_have_hashes node.settings.hashing grain)
 
   pub part_grain : (range : Range) (grain : Grain) → part_of_range range (m.hash grain) ≡ holds range (m.hash grain)
   part_grain range grain =
       on_bool (λ b. (b && nat_lt (m.hash grain) circle) ≡ b) (holds range (m.hash grain))
-      (λ t. lt_from (m.hash grain) circle (grain_below grain)) (λ f. refl)
+      (λ t. lt_from (m.hash grain) circle (hash_below grain)) (λ f. refl)
 
   module _ (version : ℕ) (range : Range) (piece : Piece) (has : HasPiece node version range piece) where
     held_by_piece : (h : ℕ) → holds range h ≡ true → holds piece.range h ≡ true
@@ -153,7 +154,7 @@ module _ (m : Setting) (w : protocol.World) (silo : Silo) (node : Node) (stands 
                 ∙ on_bool (λ b. holds range (m.hash grain) ≡ b
                 → cond b (entries grain) (w.table silo grain) ≡ activation_in (entry_at grain its.entries)) (holds range (m.hash grain))
                 (λ t held.
-                let one : Some (changed state.Settled table) ≡ Some its = sym (changed_has state.Settled table (m.hash grain) (grain_below grain) held) ∙ found in
+                let one : Some (changed state.Settled table) ≡ Some its = sym (changed_has state.Settled table (m.hash grain) (hash_below grain) held) ∙ found in
                 let same : changed state.Settled table ≡ its = cc (one) in
                 says grain held ∙ ap (λ (p : Piece). activation_in (entry_at grain p.entries)) same)
                 (λ f apart. was.table grain its (sym (others_have state.Settled table (m.hash grain) apart) ∙ found) is) refl;
@@ -176,3 +177,8 @@ module _ (m : Setting) (w : protocol.World) (silo : Silo) (node : Node) (stands 
                 all_removed (λ (e : ℕ × Recovery). IsShownRecovery m w.reports e.1) (is_at (nat_cmp range.start)) node.recoveries
                 was.recoveries;
           }
+
+pub grain_below :
+    (m : Setting) (f : World) (w : protocol.World) (silo : Silo) (node : Node) → Here m f w silo node → (grain : Grain)
+    → m.hash grain < circle
+grain_below m f w silo node here = hash_below m w silo node (stands m f w silo node here)

@@ -45,7 +45,6 @@ use Rattle.directory_headline.proofs.PieceAt.{of_found}
 use Rattle.directory_headline.proofs.NewRecoveries.{new_recovery_shown}
 use Rattle.directory_headline.proofs.KeptEntries.{kept_at, kept_rises, kept_again, kept_inside}
 use Rattle.directory_headline.proofs.SettledPiece.{grain_below}
-use Rattle.directory_headline.proofs.Stands.{stands}
 use Rattle.directory_headline.proofs.SightPieces.{IsSealed}
 use Rattle.directory_headline.proofs.Renewals.{sends_anew}
 use Rattle.directory_headline.proofs.Distinct.{all_renewed}
@@ -129,7 +128,7 @@ module _ (m : Setting) (f : World) (w : protocol.World) (silo : Silo) (node : No
       (entry_at grain (kept_entries node.settings.hashing view pieces range))
   survives range is was grain held =
       let its = hash_is m f w silo node here in
-      let below = grain_below m w silo node (stands m f w silo node here) grain in
+      let below = grain_below m f w silo node here grain in
       let has = sights.had_settled m f w silo node here before view places newer brings range is was (m.hash grain) below held in
       let piece = (of_found (λ e. IsPiece m.hash e.1) (m.hash grain) pieces has.piece facts.pieces.each has.found).1 in
       ap (surviving m view.version) ((node_shown m f w silo node here).holding.table grain has.piece has.found has.settled)

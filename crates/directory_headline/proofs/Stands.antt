@@ -1,4 +1,5 @@
--- What of a silo and its node the letters about its ranges build on, in words that such a letter's effects keep.
+-- What the steps of a silo's pieces and recoveries use of its node and of the protocol's world. Such a step keeps it, so that
+-- another may follow.
 use Rattle.std.proofs.Common.{◌≡◌, ℕ, ◌<◌, ◌≤◌, sym, ap, subst, ◌∙◌}
 use Rattle.std.specs.Prelude.{true, Some}
 use Rattle.silo_address.specs.Silo.{Silo}

@@ -1,5 +1,5 @@
 -- What a node sends: requests to owners, and what its unsettled pieces want of other silos.
-use Rattle.std.specs.Prelude.{ℕ, ◌++◌, List, [], ◌∷◌, Option, Some, None, map, flat_map}
+use Rattle.std.specs.Prelude.{ℕ, ◌++◌, nat_le, if◌then◌else◌, List, [], ◌∷◌, Option, Some, None, length, map, flat_map}
 use Rattle.std.specs.Option.{unwrap_or}
 use Rattle.std.specs.Ordering.{nat_cmp}
 use Rattle.std.specs.Map.{lookup}
@@ -90,7 +90,7 @@ wants_by Recovering node range = query_letters node range
 abbrev pub all_wants : Node → List Letter
 all_wants node = flat_map (λ e. wants_by e.1.state node e.1.range) node.holding.pieces
 
--- What new pieces want, of which nobody has told anything yet: one survey of all ranges that recover, in place of a query for each.
+-- What new pieces want, of which nobody has told anything yet: one survey of the ranges that recover, in place of a query for each.
 
 -- the asks, piece by piece
 abbrev pub asks_by : PieceState → Node → Range → List Letter
@@ -107,12 +107,15 @@ recovering_by Recovering range = range ∷ []
 abbrev pub recovering_ranges : List (ℕ × Piece) → List Range
 recovering_ranges pieces = flat_map (λ e. recovering_by e.1.state e.1.range) pieces
 
--- each silo of the view is asked for ranges: by a query where there is but one, else by one letter for all
+-- up to so many ranges are asked for one by one
+abbrev pub most_queried : ℕ
+most_queried = 2
+
+-- each silo of the view is asked for ranges: for few by a query each, else by one letter for all
 abbrev pub survey_letters : Node → List Range → List Letter
-survey_letters node [] = []
-survey_letters node (range ∷ []) = query_letters node range
-survey_letters node (range ∷ other ∷ ranges) =
-    map (λ silo. letter_to silo node (Survey_letter (range ∷ other ∷ ranges))) (members_of node.view)
+survey_letters node ranges =
+    if nat_le (length ranges) most_queried then flat_map (query_letters node) ranges
+    else map (λ silo. letter_to silo node (Survey_letter ranges)) (members_of node.view)
 
 -- the asks, and then the surveys
 abbrev pub new_wants : Node → List Letter
