@@ -1,6 +1,6 @@
 -- What a node sends goes from a silo to silos.
 use Rattle.std.proofs.Common.{◌≡◌, ℕ, List, [], ◌∷◌, refl, sym, ap, subst}
-use Rattle.std.specs.Prelude.{Bool, true, false, cond, nat_le, not, All, IfSome, Option, Some, None, filter, flat_map, fold}
+use Rattle.std.specs.Prelude.{Bool, true, false, cond, nat_le, not, All, IfSome, Option, Some, None, filter, flat_map, fold, length, map}
 use Rattle.std.specs.List.{filter_map, cons_option}
 use Rattle.std.specs.Map.{keys_of}
 use Rattle.std.specs.Option.{option_map}
@@ -28,7 +28,7 @@ use Rattle.directory_rules.specs.Members.{is_dead_status, members_of}
 use Rattle.directory_rules.specs.State.{Piece, Recovery, Host, Letter, Body, Request_letter, Query_letter, Survey_letter, Node}
 use Rattle.directory_rules.specs.Recovery.{new_recovery, told_by}
 use Rattle.directory_rules.specs.Host.{grain_of, entry_of, act_in, held_acts, find_acts, outstanding, requests_about}
-use Rattle.directory_rules.specs.Sent.{letter_to, letter_if_owned, owner_by, hash_of, request_of, request_letters, all_requests, requests_of_grain, recovery_of, query_to, query_letters, wants_by, all_wants, asks_by, recovering_ranges, survey_letters, new_wants}
+use Rattle.directory_rules.specs.Sent.{letter_to, letter_if_owned, owner_by, hash_of, request_of, request_letters, all_requests, requests_of_grain, recovery_of, query_to, query_letters, wants_by, all_wants, asks_by, recovering_ranges, most_queried, survey_letters, new_wants}
 use Rattle.directory_rules.specs.Settings.{Settings}
 use Rattle.directory_rules.proofs.Cases.{on_bool}
 use Rattle.directory_facts.specs.Named.{IsNamed, AwaitsSilo}
@@ -223,17 +223,24 @@ module _ (node : Node) (its : Knows node) (sends : Sends node.host node.recoveri
       (ask_goes e.1.state e.1.range (All-head (λ (x : ℕ × Piece). AwaitsSilo x.1.state) e es all))
       (asks_go es (All-tail (λ (x : ℕ × Piece). AwaitsSilo x.1.state) e es all))
 
-  survey_goes : (range : Range) (ranges : List Range) (silo : Silo) → IsSilo silo
-      → Goes (letter_to silo node (Survey_letter (range ∷ ranges)))
-  survey_goes range ranges silo is = sent node its silo (Survey_letter (range ∷ ranges)) is (λ none. cc none)
+  all_queries_go : (ranges : List Range) → All Goes (flat_map (query_letters node) ranges)
+  all_queries_go [] = none_goes
+  all_queries_go (range ∷ ranges) =
+      All-append Goes (query_letters node range) (flat_map (query_letters node) ranges) (queries_go range) (all_queries_go ranges)
+
+  survey_goes : (ranges : List Range) → nat_le (length ranges) most_queried ≡ false → (silo : Silo) → IsSilo silo
+      → Goes (letter_to silo node (Survey_letter ranges))
+  survey_goes [] many silo is = absurd (cc many)
+  survey_goes (range ∷ ranges) many silo is = sent node its silo (Survey_letter (range ∷ ranges)) is (λ none. cc none)
 
   surveys_go : (ranges : List Range) → All Goes (survey_letters node ranges)
-  surveys_go [] = none_goes
-  surveys_go (range ∷ []) = queries_go range
-  surveys_go (range ∷ other ∷ ranges) =
-      All-map Goes (λ silo. letter_to silo node (Survey_letter (range ∷ other ∷ ranges))) (members_of node.view)
-      (All-weaker IsSilo (λ silo. Goes (letter_to silo node (Survey_letter (range ∷ other ∷ ranges))))
-      (survey_goes range (other ∷ ranges)) (members_of node.view) its.members)
+  surveys_go ranges =
+      on_bool (λ b. All Goes (cond b (flat_map (query_letters node) ranges)
+      (map (λ silo. letter_to silo node (Survey_letter ranges)) (members_of node.view)))) (nat_le (length ranges) most_queried)
+      (λ few. all_queries_go ranges)
+      (λ many. All-map Goes (λ silo. letter_to silo node (Survey_letter ranges)) (members_of node.view)
+      (All-weaker IsSilo (λ silo. Goes (letter_to silo node (Survey_letter ranges))) (survey_goes ranges many) (members_of node.view)
+      its.members))
 
   pub new_wants_go : All Goes (new_wants node)
   new_wants_go =

@@ -196,11 +196,11 @@ may_before = (
     (
       (a, line (codes "see 1") refl, tt, tt),
       (
-        let said = codes "letter 10.0.0.1:1000@1 10.0.0.1:1000@1 1 survey 1434877701+1302175457 2737053158+2992791839" in
+        let said = codes "letter 10.0.0.1:1000@1 10.0.0.1:1000@1 1 query 1434877701+1302175457" in
             (a, line said refl, λ own joined. said_so (hashed_by 3) _ 2 said refl refl, tt),
         (
-          let said = codes "letter 10.0.0.1:1000@1 10.0.0.1:1000@1 1 empty 1434877701+1302175457 2737053158+2992791839" in
-              (a, line said refl, λ own joined. said_so (hashed_by 4) _ 4 said refl refl, tt),
+          let said = codes "letter 10.0.0.1:1000@1 10.0.0.1:1000@1 1 report 1434877701+1302175457 last" in
+              (a, line said refl, λ own joined. said_so (hashed_by 4) _ 5 said refl refl, tt),
           (
             (b, All-nil (λ place. place < circle)),
             tt,
@@ -225,38 +225,38 @@ may_after = (
           (b, line (codes "see 2") refl, tt, tt),
           (
             let said = codes "letter 10.0.0.2:1000@1 10.0.0.1:1000@1 2 ask 40231030+2696822128 0" in
-                (a, line said refl, λ own joined. said_so (apart_by 5) _ 11 said refl refl, tt),
+                (a, line said refl, λ own joined. said_so (apart_by 5) _ 14 said refl refl, tt),
             (
               let said = codes "letter 10.0.0.1:1000@1 10.0.0.2:1000@1 2 missing 40231030+2696822128" in
-                  (b, line said refl, λ own joined. said_so (apart_by 6) _ 9 said refl refl, tt),
+                  (b, line said refl, λ own joined. said_so (apart_by 6) _ 12 said refl refl, tt),
               (
                 let said = codes "letter 10.0.0.2:1000@1 10.0.0.1:1000@1 2 query 40231030+2696822128" in
-                    (a, line said refl, λ own joined. said_so (apart_by 7) _ 15 said refl refl, tt),
+                    (a, line said refl, λ own joined. said_so (apart_by 7) _ 18 said refl refl, tt),
                 (
                   let said = codes "letter 10.0.0.2:1000@1 10.0.0.2:1000@1 2 query 40231030+2696822128" in
-                      (b, line said refl, λ own joined. said_so (apart_by 8) _ 18 said refl refl, tt),
+                      (b, line said refl, λ own joined. said_so (apart_by 8) _ 21 said refl refl, tt),
                   (
                     let said = codes "letter 10.0.0.1:1000@1 10.0.0.2:1000@1 2 report 40231030+2696822128 last" in
-                        (b, line said refl, λ own joined. said_so (apart_by 9) _ 11 said refl refl, tt),
+                        (b, line said refl, λ own joined. said_so (apart_by 9) _ 14 said refl refl, tt),
                     (
                       let said = codes "letter 10.0.0.2:1000@1 10.0.0.2:1000@1 2 report 40231030+2696822128 last" in
-                          (b, line said refl, λ own joined. said_so (apart_by 10) _ 20 said refl refl, tt),
+                          (b, line said refl, λ own joined. said_so (apart_by 10) _ 23 said refl refl, tt),
                       (
                         (a, line (codes "wake user/a#7") refl, tt, tt),
                         (
                           let said = codes "letter 10.0.0.1:1000@1 10.0.0.1:1000@1 2 register 1 user/a#7 10.0.0.1:1000@1!1" in
-                              (a, line said refl, λ own joined. said_so (apart_by 12) _ 13 said refl refl, tt),
+                              (a, line said refl, λ own joined. said_so (apart_by 12) _ 16 said refl refl, tt),
                           (
                             let said = codes "letter 10.0.0.1:1000@1 10.0.0.1:1000@1 2 registered 1 user/a#7 10.0.0.1:1000@1!1" in
-                                (a, line said refl, λ own joined. said_so (apart_by 13) _ 15 said refl refl, tt),
+                                (a, line said refl, λ own joined. said_so (apart_by 13) _ 18 said refl refl, tt),
                             (
                               (b, line (codes "wake user/a#7") refl, tt, tt),
                               (
                                 let said = codes "letter 10.0.0.2:1000@1 10.0.0.2:1000@1 2 register 1 user/a#7 10.0.0.2:1000@1!1" in
-                                    (b, line said refl, λ own joined. said_so (apart_by 15) _ 29 said refl refl, tt),
+                                    (b, line said refl, λ own joined. said_so (apart_by 15) _ 32 said refl refl, tt),
                                 (
                                   let said = codes "letter 10.0.0.2:1000@1 10.0.0.2:1000@1 2 registered 1 user/a#7 10.0.0.2:1000@1!1" in
-                                      (b, line said refl, λ own joined. said_so (apart_by 16) _ 31 said refl refl, tt),
+                                      (b, line said refl, λ own joined. said_so (apart_by 16) _ 34 said refl refl, tt),
                                   tt,
                                 ),
                               ),

@@ -118,14 +118,14 @@ ARestartIsRefused =
 abbrev pub hashed_settings : Settings
 hashed_settings = directory_settings Sha256 2 0
 
--- the first silo is alone, asks itself for its two ranges, and has them settled; then the second one joins
+-- the first silo is alone, and has the range of the grain's hash settled; then the second one joins
 abbrev pub hashed : List Step
 hashed =
     Decide (Join silo_a [])
     ∷ Read silo_a (codes "joined 1 10.0.0.1:1000@1")
     ∷ Read silo_a (codes "see 1")
-    ∷ Read silo_a (codes "letter 10.0.0.1:1000@1 10.0.0.1:1000@1 1 survey 1434877701+1302175457 2737053158+2992791839")
-    ∷ Read silo_a (codes "letter 10.0.0.1:1000@1 10.0.0.1:1000@1 1 empty 1434877701+1302175457 2737053158+2992791839")
+    ∷ Read silo_a (codes "letter 10.0.0.1:1000@1 10.0.0.1:1000@1 1 query 1434877701+1302175457")
+    ∷ Read silo_a (codes "letter 10.0.0.1:1000@1 10.0.0.1:1000@1 1 report 1434877701+1302175457 last")
     ∷ Decide (Join silo_b [])
     ∷ []
 
