@@ -5,7 +5,6 @@ use Rattle.std.proofs.lemmas.Bool.{and_parts, lt-ltb, le-ltb, ltb-false}
 use Rattle.std.proofs.lemmas.List.{length-map}
 use Rattle.std.proofs.lemmas.Option.{same_Some}
 use Rattle.ring_range.specs.Range.{Range}
-use Rattle.directory_rules.specs.declared.Effect.{Effect}
 use Rattle.directory_rules.specs.declared.Effect.TheVariants as effect
 use Rattle.directory_rules.specs.State.{Letter, Node, Report, Report_letter, Empty_letter, Behind_letter, Ahead_letter}
 use Rattle.directory_rules.specs.Recovery.{Recovered, Has_more, Awaits_more, Has_union, Rejects, recovered}

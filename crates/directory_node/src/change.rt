@@ -78,7 +78,7 @@ impl Node {
                 version,
                 ranges,
             } => {
-                self.empty(from, version, &ranges);
+                self.count_empty(from, version, &ranges);
                 Ok(())
             }
         }

@@ -248,7 +248,7 @@ impl Node {
     }
 
     // A silo that has seen the version has nothing in these ranges: one after the other. It takes no memory.
-    pub(crate) fn empty(&mut self, from: SiloAddress, version: u64, ranges: &[RingRange])
+    pub(crate) fn count_empty(&mut self, from: SiloAddress, version: u64, ranges: &[RingRange])
         ensures { self.new ≡ fold (told_nothing (empty_from from version)) self.old ranges.now }
     {
         for range in ranges {

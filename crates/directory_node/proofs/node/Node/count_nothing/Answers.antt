@@ -1,6 +1,6 @@
 use Rattle.std.proofs.Common.{◌≡◌, sym, subst, ap, ◌∙◌, true}
 use Rattle.directory_rules.specs.State.{Node}
-use Rattle.directory_rules.specs.Transfer.{recovers}
+use Rattle.directory_rules.specs.Transfer.{has_range, is_recovering, piece_at, recovers}
 use Rattle.range_recovery.specs.Progress.{nothing_of}
 use Rattle.node_plans.specs.Plans.{empty_from}
 use Rattle.directory_node.specs.NodeModel.{node_of}
@@ -12,6 +12,16 @@ use Rattle.directory_node.proofs.node.Node.count_nothing.Goals as goal
 pub returns-then-not-recovers : goal.returns-then-not-recovers
 returns-then-not-recovers c =
     uncounted c.args.self.now (empty_from c.args.from c.args.version) c.args.range (sym c.recovers.ensures ∙ c.if-not-recovers.true)
+
+pub settle_recovered-requires : goal.settle_recovered-requires
+settle_recovered-requires c =
+    let letter = empty_from c.args.from c.args.version in
+    let is : recovers c.args.self.now c.args.version c.args.range ≡ true = sym c.recovers.ensures ∙ c.if-not-recovers.false in
+    record {
+      recovers =
+          ap (λ (n : Node). has_range is_recovering c.args.range (piece_at n c.args.range)) c.self.view_is
+          ∙ recovering c.args.self.now letter c.args.range is;
+    }
 
 pub invariant_of-self-then-take_nothing : goal.invariant_of-self-then-take_nothing
 invariant_of-self-then-take_nothing c =
