@@ -1,12 +1,12 @@
 -- Several ranges at once: what a survey of them comes to, and what their owner makes of those that are empty.
-use Rattle.std.proofs.Common.{◌≡◌, ◌≢◌, refl, sym, ap, ◌∙◌, ℕ, suc, ◌+◌, ◌<◌, ◌≤◌, List, [], ◌∷◌, ◌++◌, length, cond, filter, map, arith, length-append}
+use Rattle.std.proofs.Common.{◌≡◌, ◌≢◌, refl, sym, ap, ◌∙◌, ℕ, suc, ◌+◌, ◌<◌, ◌≤◌, List, [], ◌∷◌, length, cond, filter, map, arith, length-append}
 use Rattle.std.specs.Prelude.{Bool, true, false, ◌&&◌, not, nat_lt, Option, Some, None, Ok, IsSomeAnd, slice_get}
-use Rattle.std.proofs.lemmas.Bool.{and_parts, lt-ltb, le-ltb, ltb-false}
+use Rattle.std.proofs.lemmas.Bool.{and_parts, le-ltb}
 use Rattle.std.proofs.lemmas.List.{length-map}
 use Rattle.std.proofs.lemmas.Option.{same_Some}
 use Rattle.ring_range.specs.Range.{Range}
 use Rattle.directory_rules.specs.declared.Effect.TheVariants as effect
-use Rattle.directory_rules.specs.State.{Letter, Node, Report, Report_letter, Empty_letter, Behind_letter, Ahead_letter}
+use Rattle.directory_rules.specs.State.{Letter, Node, Report, Report_letter, Behind_letter, Ahead_letter}
 use Rattle.directory_rules.specs.Recovery.{Recovered, Has_more, Awaits_more, Has_union, Rejects, recovered}
 use Rattle.directory_rules.specs.Sent.{recovery_of}
 use Rattle.directory_rules.specs.Step.{Stepped, silently}
@@ -33,20 +33,7 @@ module _ (node : Node) (letter : Letter) where
   by_first [] first is = absurd (let no : None ≡ Some first = is in cc (no))
   by_first (range ∷ ranges) first is = ap (λ (r : Range). answers (range ∷ ranges) r) (same_Some range first is)
 
-  pub no_ranges : (ranges : List Range) → slice_get ranges 0 ≡ None → surveyed node letter ranges ≡ silently node effect.Ignored
-  no_ranges [] none = refl
-  no_ranges (range ∷ ranges) none = absurd (cc (none))
-
   module _ (ranges : List Range) (first : Range) (is : slice_get ranges 0 ≡ Some first) where
-    pub told_behind : node.view.version < letter.version
-        → surveyed node letter ranges ≡ answering letter node (Behind_letter first) effect.Behind
-    told_behind behind =
-        by_first ranges first is
-        ∙ ap (λ b. cond b (answering letter node (Behind_letter first) effect.Behind)
-        (cond (nat_lt letter.version node.view.version) (answering letter node (Ahead_letter first) effect.Ahead)
-        (record { node = node; letters = tellings letter node ranges; effect = effect.Report })))
-        (lt-ltb node.view.version letter.version behind)
-
     upto : letter.version ≤ node.view.version → surveyed node letter ranges
         ≡ cond (nat_lt letter.version node.view.version) (answering letter node (Ahead_letter first) effect.Ahead)
         (record { node = node; letters = tellings letter node ranges; effect = effect.Report })
@@ -57,14 +44,6 @@ module _ (node : Node) (letter : Letter) where
         (record { node = node; letters = tellings letter node ranges; effect = effect.Report })))
         (le-ltb node.view.version letter.version seen)
 
-    pub told_ahead : letter.version < node.view.version
-        → surveyed node letter ranges ≡ answering letter node (Ahead_letter first) effect.Ahead
-    told_ahead ahead =
-        upto (omega (arith, ahead))
-        ∙ ap (λ b. cond b (answering letter node (Ahead_letter first) effect.Ahead)
-        (record { node = node; letters = tellings letter node ranges; effect = effect.Report }))
-        (lt-ltb letter.version node.view.version ahead)
-
     pub told_all : letter.version ≤ node.view.version → node.view.version ≤ letter.version
         → surveyed node letter ranges ≡ record { node = node; letters = tellings letter node ranges; effect = effect.Report }
     told_all seen up =
@@ -74,28 +53,6 @@ module _ (node : Node) (letter : Letter) where
         (le-ltb letter.version node.view.version up)
 
   -- ---- How many letters that is.
-  pub counts_none : (ranges : List Range) → length ranges ≡ 0 → 0 ≡ length (surveyed node letter ranges).letters
-  counts_none [] is = refl
-  counts_none (range ∷ ranges) is = absurd (omega (arith, is))
-
-  one_of : (a b : Bool) (first : Range) (x : Stepped) → (a ≡ false → b ≡ false → ⊥)
-      → 1 ≡ length (cond a (answering letter node (Behind_letter first) effect.Behind)
-      (cond b (answering letter node (Ahead_letter first) effect.Ahead) x)).letters
-  one_of true b first x some = refl
-  one_of false true first x some = refl
-  one_of false false first x some = absurd (some refl refl)
-
-  pub counts_one : (ranges : List Range) → length ranges ≢ 0 → letter.version ≢ node.view.version
-      → 1 ≡ length (surveyed node letter ranges).letters
-  counts_one [] some other = absurd (some refl)
-  counts_one (range ∷ ranges) some other =
-      one_of (nat_lt node.view.version letter.version) (nat_lt letter.version node.view.version) range
-      (record { node = node; letters = tellings letter node (range ∷ ranges); effect = effect.Report })
-      (λ one two.
-      let up = ltb-false node.view.version letter.version one in
-      let down = ltb-false letter.version node.view.version two in
-      other (omega (arith, up, down)))
-
   pub counts_all : (ranges : List Range) → length ranges ≢ 0 → letter.version ≡ node.view.version
       → length (tellings letter node ranges) ≡ length (surveyed node letter ranges).letters
   counts_all [] some same = absurd (some refl)
@@ -149,15 +106,6 @@ module _ (node : Node) (letter : Letter) where
       let no = no_empty (filter (has_nothing node) ranges) none in
       let sum = reports_are ranges in
       omega (arith, is, no, sum)
-
-  pub empty_told : (none : List Range) → length none ≢ 0
-      → answer_to letter node (Empty_letter none) ∷ [] ≡ empty_letters letter node none
-  empty_told [] some = absurd (some refl)
-  empty_told (range ∷ none) some = refl
-
-  pub empty_untold : (none : List Range) → length none ≡ 0 → [] ≡ empty_letters letter node none
-  empty_untold [] is = refl
-  empty_untold (range ∷ none) is = absurd (omega (arith, is))
 
   -- ---- Ranges that are empty.
   module _ (range : Range) where

@@ -23,8 +23,8 @@ settle_recovered-requires c =
           ∙ recovering c.args.self.now letter c.args.range is;
     }
 
-pub invariant_of-self-then-take_nothing : goal.invariant_of-self-then-take_nothing
-invariant_of-self-then-take_nothing c =
+pub invariant_of-self : goal.invariant_of-self
+invariant_of-self c =
     let node = node_of c.self.inside in
     let report = nothing_of c.args.version c.args.range c.args.from in
     let letter = empty_from c.args.from c.args.version in

@@ -45,8 +45,8 @@ returns-in-Ok-clause-taken c =
     makes_taken node c.args.letter.now range is c.in-Ok.progress
     (sym (ap (λ (r : Report). progress_of (recovered (recovery_of node r.range) r)) report) ∙ c.in-Ok.ensures.judged)
 
-pub returns-in-Err-clause-whole : goal.returns-in-Err-clause-whole
-returns-in-Err-clause-whole c =
+pub returns-clause-whole : goal.returns-clause-whole
+returns-clause-whole c =
     let node = c.args.self.now in
     let range = c.args.range in
     let is : recovers node c.args.letter.now.version range ≡ true = cc (c.recovers.ensures, c.if-not-recovers.false, c.version.ensures) in
@@ -54,8 +54,8 @@ returns-in-Err-clause-whole c =
     makes_refusal node c.args.letter.now range is_whole (λ number. refl) is c.in-Err.field-0
     (subst (λ (r : Report). Refuses (recovery_of node r.range) r c.in-Err.field-0) report c.in-Err.ensures.refused)
 
-pub returns-in-Err-clause-taken : goal.returns-in-Err-clause-taken
-returns-in-Err-clause-taken c =
+pub returns-clause-taken : goal.returns-clause-taken
+returns-clause-taken c =
     let node = c.args.self.now in
     let range = c.args.range in
     let is : recovers node c.args.letter.now.version range ≡ true = cc (c.recovers.ensures, c.if-not-recovers.false, c.version.ensures) in
