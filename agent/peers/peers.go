@@ -28,7 +28,7 @@ func New(now clock.Clock) *Silence {
 // Asked notes that a letter went to a silo that is answered, if it is one.
 func (s *Silence) Asked(to directory.Silo, kind string) {
 	switch kind {
-	case "register", "deregister", "find", "ask", "query":
+	case "register", "deregister", "find", "ask", "query", "survey":
 		s.mu.Lock()
 		defer s.mu.Unlock()
 		if _, isAsked := s.since[to]; !isAsked {

@@ -9,7 +9,7 @@ LONGEST = 16
 RANGES = "ranges"
 BEGINS = {"started": "activation", "closing": "activation", "offered": "activation", "finding": "find"}
 ENDS = {"firm": "activation", "taken": "activation", "ended": "activation", "found": "find", "nothing": "find"}
-SETTLES = {"page": "installed", "report": "complete"}
+COUNTS = ("more", "complete")
 
 
 class Wait:
@@ -41,10 +41,15 @@ class Patience:
         self.waits = {}
 
     def wrote(self, letter):
-        """The silo wrote a letter: by an ask or a query it waits for a range."""
-        _, _, _, _, kind, *said = letter.split()
-        if kind in ("ask", "query") and said[0] not in self.things_of(RANGES):
-            self.begin(RANGES, said[0])
+        """The silo wrote a letter: by an ask it waits for a range, by a query or a survey for what a silo tells of ranges."""
+        _, _, to, _, kind, *said = letter.split()
+        if kind == "ask":
+            self.begin_once(said[0])
+        elif kind == "query":
+            self.begin_once(f"{said[0]} {to}")
+        elif kind == "survey":
+            for hashes in said:
+                self.begin_once(f"{hashes} {to}")
 
     def answered(self, asked, said):
         """The silo answered a line."""
@@ -55,12 +60,18 @@ class Patience:
             self.end(grain_of(said), ENDS[what])
         elif said[1:2] == ["sees"]:
             self.waits.pop(RANGES, None)
-        elif what == "delivered" and SETTLES.get(said[1]) == said[2]:
-            self.end(RANGES, words[5])
+        elif what == "delivered":
+            for thing in ended_by(words, said[2]):
+                self.end(RANGES, thing)
 
     def things_of(self, word):
         """What is waited for under the word."""
         return self.waits[word].things if word in self.waits else []
+
+    def begin_once(self, thing):
+        """The silo waits for something of its ranges, unless it does already."""
+        if thing not in self.things_of(RANGES):
+            self.begin(RANGES, thing)
 
     def begin(self, word, thing):
         """The silo waits for something more."""
@@ -87,3 +98,15 @@ class Patience:
 def grain_of(said):
     """The grain that an answer is about."""
     return said[1] if said[0] in ("taken", "nothing", "finding") else said[2]
+
+
+def ended_by(words, effect):
+    """What a silo doesn't wait for any more once a letter has come to it with this effect."""
+    _, teller, _, _, kind, *said = words
+    if (kind, effect) in (("page", "installed"), ("missing", "recovering")):
+        return [said[0]]
+    if kind == "empty" and effect in COUNTS:
+        return [f"{hashes} {teller}" for hashes in said]
+    if kind == "report" and effect in COUNTS and "last" in said:
+        return [f"{said[0]} {teller}"]
+    return []

@@ -8,7 +8,7 @@ use crate::world::{Node, Range, State, World};
 /// What is still to be answered, asked or told.
 #[derive(Default)]
 struct Outstanding {
-    /// Fresh requests, asks and queries, each of which is answered.
+    /// Answers to fresh requests, asks and queries, one each, and to fresh surveys, one for each range at most.
     questions: u64,
     /// Fresh offers, each of which may begin an activation.
     offers: u64,
@@ -43,6 +43,7 @@ impl Outstanding {
         match world.mail().letter(number).map(|letter| letter.body) {
             Some(Body::Register { .. } | Body::Deregister { .. } | Body::Find { .. }) => self.questions += 1,
             Some(Body::Ask { .. } | Body::Query { .. }) => self.questions += 1,
+            Some(Body::Survey { ranges }) => self.questions += world.mail().ranges(ranges).len() as u64,
             Some(Body::Offer { .. }) => self.offers += 1,
             _ => {}
         }

@@ -1,6 +1,6 @@
 -- Whatever a silo does but see a version, it only waits for less.
-use Rattle.std.proofs.Common.{arith, ◌≡◌, refl, sym, ap, subst, ◌∙◌, ℕ, ◌+◌, ◌<◌, List, [], inl, inr}
-use Rattle.std.specs.Prelude.{Bool, true, false, ◌==◌, Option, Some, Ok}
+use Rattle.std.proofs.Common.{arith, ◌≡◌, refl, sym, ap, subst, ◌∙◌, ℕ, ◌+◌, ◌<◌, List, [], ◌⊎◌, inl, inr}
+use Rattle.std.specs.Prelude.{Bool, true, false, ◌==◌, fold, Option, Some, Ok}
 use Rattle.std.specs.Option.{unwrap_or}
 use Rattle.std.specs.Ordering.{nat_cmp}
 use Rattle.std.specs.Map.{lookup}
@@ -19,24 +19,26 @@ use Rattle.directory_rules.specs.declared.act.Request.{Request}
 use Rattle.directory_rules.specs.declared.piece_state.PieceState.{PieceState}
 use Rattle.directory_rules.specs.declared.piece_state.PieceState.TheVariants as state
 use Rattle.directory_rules.specs.Answer.{answered}
-use Rattle.directory_rules.specs.State.{Gathering, Letter, Node, Piece, Page, Table}
+use Rattle.directory_rules.specs.State.{Gathering, Letter, Node, Piece, Page, Recovery, Report, Table}
 use Rattle.directory_rules.specs.Gatherings.{Wants_page, new_gathering, gathered}
 use Rattle.directory_rules.specs.Input.{Input, step}
-use Rattle.directory_rules.specs.Recovery.{new_recovery, told_by}
+use Rattle.directory_rules.specs.Recovery.{Awaits_more, new_recovery, recovered, told_by}
 use Rattle.directory_rules.specs.Settings.{Settings}
 use Rattle.directory_rules.specs.Sent.{gathering_of, recovery_of}
 use Rattle.directory_rules.specs.Sight.{is_settled}
 use Rattle.directory_rules.specs.Step.{Stepped}
-use Rattle.directory_rules.specs.Transfer.{piece_at, has_range, is_awaiting_from, is_recovering, with_gathering, with_recovery, with_settled, turned_to_recovery}
+use Rattle.directory_rules.specs.Transfer.{piece_at, has_range, is_awaiting_from, is_recovering, nothing_in, told_nothing, with_gathering, with_recovery, with_settled, turned_to_recovery}
 use Rattle.directory_rules.proofs.Cases.{on_bool}
 use Rattle.directory_facts.specs.Pieces.{HasPieces, IsPiece}
 use Rattle.directory_facts.proofs.Answers.{answers_leave_others}
 use Rattle.directory_facts.proofs.Collected.{GatheredSo, gathered_so}
 use Rattle.directory_facts.proofs.EachStep.{by_way}
+use Rattle.directory_facts.proofs.Emptied.{as_report, by_nothing}
 use Rattle.directory_facts.proofs.Lookups.{found_put, found_beside_put, found_beside_set}
-use Rattle.directory_facts.proofs.Ways.{IsPageTaken, Ways}
+use Rattle.directory_facts.proofs.Ways.{IsPageTaken, IsReportTaken, Ways}
 use Rattle.progress_rules.specs.Waits.{Recovers, Awaits, IsUpTo}
 use Rattle.progress_rules.proofs.Asked.{outlined, by_outline, more_awaits, told_more, collected_awaits}
+use Rattle.progress_rules.proofs.EmptiedPieces.{by_each_piece}
 use Rattle.progress_rules.proofs.Gathers.{IsDropped, settling, turning, gathers_so, wanted_range}
 use Rattle.progress_rules.proofs.Told.{up_to_both}
 use Rattle.progress_rules.proofs.Waits.{AsBefore, as_before, settled_awaits}
@@ -47,6 +49,62 @@ use Rattle.deployment_progress.proofs.States.{GoesOn, same_states, one_moves, se
 told_on : (before after : Node) (range : Range) (silo : Silo) → AsBefore before after range silo
     → Awaits before range silo × HasToldOn before after range silo
 told_on before after range silo so = (so.0, inl so.1)
+
+-- ---- at once and on
+pub same_waits : (node : Node) → GoesOn node node
+same_waits node =
+    same_states node node refl (λ range giver waits. (waits, inl refl)) (λ range silo was waits. (waits, inl refl)) (λ test range. refl)
+
+pub waits_on : (one two three : Node) → WaitsForLess one two → WaitsForLess two three → WaitsForLess one three
+waits_on one two three a b = record {
+  settings = b.settings ∙ a.settings;
+  settled = λ range is. b.settled range (a.settled range is);
+  recovers = λ range is. elim (a.recovers range is) [ inl still ↦ b.recovers range still | inr settled ↦ inr (b.settled range settled) ];
+  awaits = λ range giver is.
+      elim (a.awaits range giver is) [
+        | inl still ↦ b.awaits range giver still
+        | inr less ↦ inr (elim less [ inl recovers ↦ b.recovers range recovers | inr settled ↦ inr (b.settled range settled) ])
+      ];
+  recovered =
+      λ range is. elim (b.recovered range is) [
+        | inl before ↦ a.recovered range before
+        | inr awaited ↦ inr
+            (awaited.0, (a.pages range awaited.0 awaited.1).0)
+      ];
+  reports = λ range silo was waits.
+      elim (a.recovers range was) [
+        | inl still ↦ a.reports range silo was (b.reports range silo still waits)
+        | inr settled ↦ absurd (not_settled_and_recovers three range (b.settled range settled) waits.recovers)
+      ];
+  told = λ range silo was waits.
+      elim (a.recovers range was) [
+        | inl still ↦ up_to_both (hash_grain one.settings.hashing) range (told_by silo (recovery_of one range))
+            (told_by silo (recovery_of two range)) (told_by silo (recovery_of three range))
+            (a.told range silo was (b.reports range silo still waits))
+            (subst (λ (s : Settings). IsUpTo (hash_grain s.hashing) range (told_by silo (recovery_of two range))
+            (told_by silo (recovery_of three range))) a.settings (b.told range silo still waits))
+        | inr settled ↦ absurd (not_settled_and_recovers three range (b.settled range settled) waits.recovers)
+      ];
+  pages =
+      λ range giver waits. let before = b.pages range giver waits in let first = a.pages range giver before.0 in
+      (first.0, let less = before.1 in let more = first.1 in omega (arith, less, more));
+}
+
+gathers_both : (one two three : Gathering) → (two ≡ one) ⊎ (one.next < two.next) → (three ≡ two) ⊎ (two.next < three.next)
+    → (three ≡ one) ⊎ (one.next < three.next)
+gathers_both one two three (inl same) (inl still) = inl (still ∙ same)
+gathers_both one two three (inl same) (inr more) = let next = ap (λ (g : Gathering). g.next) same in inr (omega (arith, next, more))
+gathers_both one two three (inr more) (inl still) = let next = ap (λ (g : Gathering). g.next) still in inr (omega (arith, next, more))
+gathers_both one two three (inr more) (inr further) = inr (omega (arith, more, further))
+
+goes_both : (one two three : Node) → GoesOn one two → GoesOn two three → GoesOn one three
+goes_both one two three a b = record {
+  less = waits_on one two three a.less b.less;
+  pages = λ range giver waits.
+      let later = b.pages range giver waits in
+      let first = a.pages range giver later.0 in
+      (first.0, gathers_both (gathering_of one range) (gathering_of two range) (gathering_of three range) first.1 later.1);
+}
 
 -- ---- every step
 abbrev pub GoesOnWith : Node → Input → Stepped → Type 0
@@ -148,8 +206,23 @@ module _ (hashing : Hashing) (node : Node) (has : HasPieces hashing node) where
           (found_beside_put nat_cmp nat_cmp_total exact_unsigned range.start (new_recovery node.view range) node.recoveries other.start
           apart)) waits)) refl
 
-  ways : Ways node (GoesOnWith node)
-  ways = record {
+  -- a report is taken that is its silo's last, and others haven't told all
+  collects : (letter : Letter) (report : Report) (recovery : Recovery) → IsReportTaken node letter report
+      → recovered (recovery_of node report.range) report ≡ Awaits_more recovery → GoesOn node (with_recovery node recovery)
+  collects letter report recovery taken is =
+      same_states node (with_recovery node recovery) refl (λ range giver waits. (waits, inl refl))
+      (λ range silo was waits. told_on node (with_recovery node recovery) range silo
+      (collected_awaits node letter report recovery taken is range silo waits)) (λ test range. refl)
+
+  -- a silo has nothing in a range
+  one_emptied : (letter : Letter) (range : Range) → GoesOn node (told_nothing letter node range)
+  one_emptied letter range =
+      by_nothing letter node range (GoesOn node) (same_waits node)
+      (λ recovery so. collects (as_report letter range) (nothing_in letter range) recovery so.0 so.1)
+      (λ table so. settles range so.0.piece table so.0.has.found so.0.has.same)
+
+  ways : ((letter : Letter) (ranges : List Range) → GoesOn node (fold (told_nothing letter) node ranges)) → Ways node (GoesOnWith node)
+  ways emptied = record {
     nothing = λ input its plain seen never. still node refl refl (λ range. refl) (λ range. refl);
     sees = λ before view places newer numbers seen never. let version = ap (λ v. v.version) seen in absurd (omega (arith, version, newer));
     wakes = λ grain may seen never. still _ refl refl (λ range. refl) (λ range. refl);
@@ -187,53 +260,22 @@ module _ (hashing : Hashing) (node : Node) (has : HasPieces hashing node) where
           more_awaits node letter report recovery taken is range silo waits,
           told_more node letter report recovery taken is range silo waits,
         )) (λ test range. refl);
-    collects = λ letter report recovery taken is seen never.
-        same_states node (with_recovery node recovery) refl (λ range giver waits. (waits, inl refl))
-        (λ range silo was waits. told_on node (with_recovery node recovery) range silo
-        (collected_awaits node letter report recovery taken is range silo waits)) (λ test range. refl);
+    collects = λ letter report recovery taken is seen never. collects letter report recovery taken is;
     completes = λ letter report table taken is seen never. settles report.range taken.piece _ taken.has.found taken.has.same;
+    surveys = λ letter first others body now seen never. still node refl refl (λ range. refl) (λ range. refl);
+    empties = λ letter ranges its body plain seen never. emptied letter ranges;
     takes_over = λ letter entry body now may seen never. still _ refl refl (λ range. refl) (λ range. refl);
   }
 
-  pub goes_on : (input : Input) (stepped : Stepped) → step node input ≡ Ok stepped → GoesOnWith node input stepped
-  goes_on input stepped is = by_way node (GoesOnWith node) ways input stepped is
+-- or in several ranges
+emptied : (hashing : Hashing) (node : Node) → HasPieces hashing node → (letter : Letter) (ranges : List Range)
+    → GoesOn node (fold (told_nothing letter) node ranges)
+emptied hashing start has letter ranges =
+    by_each_piece hashing letter (GoesOn start)
+    (λ node range pieces so. goes_both start node (told_nothing letter node range) so (one_emptied hashing node pieces letter range)) ranges
+    start has (same_waits start)
 
--- ---- at once and on
-pub same_waits : (node : Node) → GoesOn node node
-same_waits node =
-    same_states node node refl (λ range giver waits. (waits, inl refl)) (λ range silo was waits. (waits, inl refl)) (λ test range. refl)
-
-pub waits_on : (one two three : Node) → WaitsForLess one two → WaitsForLess two three → WaitsForLess one three
-waits_on one two three a b = record {
-  settings = b.settings ∙ a.settings;
-  settled = λ range is. b.settled range (a.settled range is);
-  recovers = λ range is. elim (a.recovers range is) [ inl still ↦ b.recovers range still | inr settled ↦ inr (b.settled range settled) ];
-  awaits = λ range giver is.
-      elim (a.awaits range giver is) [
-        | inl still ↦ b.awaits range giver still
-        | inr less ↦ inr (elim less [ inl recovers ↦ b.recovers range recovers | inr settled ↦ inr (b.settled range settled) ])
-      ];
-  recovered =
-      λ range is. elim (b.recovered range is) [
-        | inl before ↦ a.recovered range before
-        | inr awaited ↦ inr
-            (awaited.0, (a.pages range awaited.0 awaited.1).0)
-      ];
-  reports = λ range silo was waits.
-      elim (a.recovers range was) [
-        | inl still ↦ a.reports range silo was (b.reports range silo still waits)
-        | inr settled ↦ absurd (not_settled_and_recovers three range (b.settled range settled) waits.recovers)
-      ];
-  told = λ range silo was waits.
-      elim (a.recovers range was) [
-        | inl still ↦ up_to_both (hash_grain one.settings.hashing) range (told_by silo (recovery_of one range))
-            (told_by silo (recovery_of two range)) (told_by silo (recovery_of three range))
-            (a.told range silo was (b.reports range silo still waits))
-            (subst (λ (s : Settings). IsUpTo (hash_grain s.hashing) range (told_by silo (recovery_of two range))
-            (told_by silo (recovery_of three range))) a.settings (b.told range silo still waits))
-        | inr settled ↦ absurd (not_settled_and_recovers three range (b.settled range settled) waits.recovers)
-      ];
-  pages =
-      λ range giver waits. let before = b.pages range giver waits in let first = a.pages range giver before.0 in
-      (first.0, let less = before.1 in let more = first.1 in omega (arith, less, more));
-}
+pub goes_on : (hashing : Hashing) (node : Node) → HasPieces hashing node → (input : Input) (stepped : Stepped)
+    → step node input ≡ Ok stepped → GoesOnWith node input stepped
+goes_on hashing node has input stepped is =
+    by_way node (GoesOnWith node) (ways hashing node has (emptied hashing node has)) input stepped is

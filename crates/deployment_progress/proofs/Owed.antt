@@ -1,5 +1,5 @@
 -- Whatever a silo does but see a version, what it has outstanding then it had before, or it has one of the free numbers.
-use Rattle.std.proofs.Common.{arith, ◌≡◌, refl, ap, subst, ◌∙◌, ℕ, ◌≤◌, List, [], ◌∷◌, ◌++◌, ◌⊎◌, inl, inr}
+use Rattle.std.proofs.Common.{arith, ◌≡◌, refl, sym, ap, subst, ◌∙◌, ℕ, ◌≤◌, List, [], ◌∷◌, ◌++◌, ◌⊎◌, inl, inr}
 use Rattle.std.specs.Prelude.{Bool, true, false, cond, not, if◌then◌else◌, map, filter, Contains, Option, Some, None, Ok}
 use Rattle.std.specs.List.{cons_option}
 use Rattle.std.specs.Ordering.{nat_cmp, match_ordering}
@@ -24,6 +24,7 @@ use Rattle.directory_rules.specs.Laws.{AreNumbered}
 use Rattle.directory_rules.specs.Step.{Stepped}
 use Rattle.directory_rules.proofs.Cases.{on_bool}
 use Rattle.directory_facts.proofs.EachStep.{by_way}
+use Rattle.directory_facts.proofs.Emptied.{leaves_else}
 use Rattle.directory_facts.proofs.Ways.{Ways}
 use Rattle.progress_rules.specs.Owed.{Owes}
 use Rattle.progress_rules.proofs.Answered.{only_one}
@@ -285,6 +286,9 @@ module _ (node : Node) where
     continues = λ letter report recovery taken is seen. same h (λ x has. has) (omega arith);
     collects = λ letter report recovery taken is seen. same h (λ x has. has) (omega arith);
     completes = λ letter report table taken is seen. same h (λ x has. has) (omega arith);
+    surveys = λ letter first others body now seen. same h (λ x has. has) (omega arith);
+    empties = λ letter ranges its body plain seen.
+        subst (λ (after : Host). AsksOn h after) (sym (leaves_else letter node ranges).host) (same h (λ x has. has) (omega arith));
     takes_over = λ letter entry body now may seen. starts entry.grain (Some entry.activation);
   }
 

@@ -9,6 +9,7 @@ use Rattle.directory_rules.specs.Input.{Input, Receives, step}
 use Rattle.directory_rules.specs.State.{Letter, Request_letter, Node}
 use Rattle.directory_rules.specs.Step.{Stepped}
 use Rattle.directory_facts.proofs.EachStep.{by_way}
+use Rattle.directory_facts.proofs.Emptied.{leaves_else}
 use Rattle.directory_facts.proofs.Ways.{Ways}
 use Rattle.progress_rules.proofs.Answered.{served_so}
 
@@ -68,6 +69,8 @@ module _ (node : Node) where
     continues = λ letter report recovery taken is seen silo. inl refl;
     collects = λ letter report recovery taken is seen silo. inl refl;
     completes = λ letter report table taken is seen silo. inl refl;
+    surveys = λ letter first others body now seen silo. inl refl;
+    empties = λ letter ranges its body plain seen silo. inl (ap (last_served silo) (leaves_else letter node ranges).served);
     takes_over = λ letter entry body now may seen silo. inl refl;
   }
 

@@ -13,6 +13,7 @@ use Rattle.directory_rules.specs.Step.{Stepped}
 use Rattle.directory_rules.proofs.Cases.{on_bool}
 use Rattle.directory_facts.proofs.Entries.{found_so}
 use Rattle.directory_facts.proofs.EachStep.{by_way}
+use Rattle.directory_facts.proofs.Emptied.{leaves_else}
 use Rattle.directory_facts.proofs.Ways.{Ways}
 use Rattle.silo_rules.specs.SiloValue.{SiloValue}
 use Rattle.deployment_headline.specs.Deployment.{Deployment, process_of}
@@ -62,6 +63,8 @@ module _ (P : Snapshot → Type 0) (node : Node) where
     continues = λ letter report recovery taken is seen all. all;
     collects = λ letter report recovery taken is seen all. all;
     completes = λ letter report table taken is seen all. all;
+    surveys = λ letter first others body now seen all. all;
+    empties = λ letter ranges its body plain seen all. subst (λ (s : List Snapshot). All P s) (sym (leaves_else letter node ranges).shelf) all;
     takes_over = λ letter entry body now may seen all. all;
   }
 

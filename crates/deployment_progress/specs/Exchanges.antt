@@ -5,7 +5,7 @@ use Rattle.silo_address.specs.Silo.{Silo, IsSilo}
 use Rattle.ring_range.specs.Range.{Range}
 use Rattle.hash_ring.specs.Hash.{hash_grain}
 use Rattle.directory_rules.specs.Input.{Does}
-use Rattle.directory_rules.specs.State.{Letter, Body, Request_letter, Reply_letter, Ask_letter, Page_letter, Missing_letter, Done_letter, Query_letter, Report_letter, Behind_letter, Ahead_letter, Offer_letter, Node}
+use Rattle.directory_rules.specs.State.{Letter, Body, Request_letter, Reply_letter, Ask_letter, Page_letter, Missing_letter, Done_letter, Query_letter, Report_letter, Survey_letter, Empty_letter, Behind_letter, Ahead_letter, Offer_letter, Node}
 use Rattle.directory_rules.specs.Recovery.{told_by}
 use Rattle.directory_rules.specs.Sent.{gathering_of, recovery_of}
 use Rattle.directory_rules.specs.Snapshot.{page_count}
@@ -32,7 +32,7 @@ pub record IsAnswered (d : Deployment) (silo : Silo) (steps : List Step) (index 
   pub rest : List Step
   pub is : steps ≡ before ++ (Receive letter.to index ∷ (between ++ (Receive silo (length (after_all d before).written) ∷ rest)))
 
--- what a piece wants: an ask or a query
+-- what a piece wants, as a nudge sends it: an ask or a query
 abbrev pub IsWant : Body → Type 0
 IsWant (Request_letter request) = ⊥
 IsWant (Reply_letter number answer) = ⊥
@@ -42,6 +42,8 @@ IsWant (Missing_letter range) = ⊥
 IsWant (Done_letter range) = ⊥
 IsWant (Query_letter range after) = ⊤
 IsWant (Report_letter report) = ⊥
+IsWant (Survey_letter ranges) = ⊥
+IsWant (Empty_letter ranges) = ⊥
 IsWant (Behind_letter range) = ⊥
 IsWant (Ahead_letter range) = ⊥
 IsWant (Offer_letter entry) = ⊥

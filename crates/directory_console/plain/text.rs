@@ -225,6 +225,8 @@ fn kind_word(kind: Kind) -> &'static str {
         Kind::Done => "done",
         Kind::Query => "query",
         Kind::Report => "report",
+        Kind::Survey => "survey",
+        Kind::Empty => "empty",
         Kind::Behind => "behind",
         Kind::Ahead => "ahead",
         Kind::Offer => "offer",

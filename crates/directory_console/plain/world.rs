@@ -14,6 +14,7 @@ mod node;
 mod pieces;
 mod ring;
 mod sight;
+mod surveys;
 mod transfer;
 mod views;
 mod words;

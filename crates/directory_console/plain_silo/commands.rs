@@ -3,7 +3,7 @@
 use crate::host::{Held, Phase, Request};
 use crate::identities::{Activation, Address};
 use crate::letters::Told;
-use crate::pieces::State;
+use crate::pieces::{Piece, State};
 use crate::process::{Process, Step};
 use crate::text::Act;
 
@@ -161,7 +161,12 @@ impl Process {
 
     /// Asks for what the pieces want, piece by piece.
     pub fn post_wants(&mut self) {
-        for piece in &self.pieces.0 {
+        self.post_wants_of(|_| true);
+    }
+
+    /// Asks for what these of the pieces want, piece by piece.
+    pub fn post_wants_of(&mut self, is_meant: impl Fn(&Piece) -> bool) {
+        for piece in self.pieces.0.iter().filter(|piece| is_meant(piece)) {
             match &piece.state {
                 State::Settled => {}
                 State::Awaiting { from, gathered } => {

@@ -25,6 +25,9 @@ pub enum Body<'a> {
     /// Behind that grain, if one is named.
     Query { range: Span, after: Option<&'a [u8]> },
     Report(Report<'a>),
+    /// At least one range, and those in which the sender has nothing.
+    Survey { ranges: Vec<Span> },
+    Empty { ranges: Vec<Span> },
     Behind,
     Ahead,
     Offer { entry: Told<'a> },
@@ -87,6 +90,7 @@ pub fn read_letter<'a>(mut words: impl Iterator<Item = &'a [u8]>) -> Read<Letter
         }
         b"query" => query(&head, words)?,
         b"report" => report(&head, words)?,
+        b"survey" | b"empty" => several(&head, kind, words)?,
         b"offer" => {
             let [grain, activation] = exactly(words)?;
             (head.read()?, Body::Offer { entry: entry(grain, activation)? })
@@ -203,6 +207,16 @@ fn report<'a>(head: &Head, mut words: impl Iterator<Item = &'a [u8]>) -> Read<Pa
     let after = after.first().map(|word| grain_word(word)).transpose()?;
     let is_last = last_word(is_last)?;
     Ok((head, Body::Report(Report { range, after, is_last, entries: entries(words)? })))
+}
+
+fn several<'a>(head: &Head, kind: &[u8], words: impl Iterator<Item = &'a [u8]>) -> Read<Parts<'a>> {
+    let words: Vec<&[u8]> = words.collect();
+    if words.is_empty() {
+        return Err(922);
+    }
+    let head = head.read()?;
+    let ranges = words.into_iter().map(Span::read).collect::<Read<Vec<Span>>>()?;
+    Ok((head, if kind == b"survey" { Body::Survey { ranges } } else { Body::Empty { ranges } }))
 }
 
 fn last_word(word: &[u8]) -> Read<bool> {

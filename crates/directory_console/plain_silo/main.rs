@@ -25,6 +25,7 @@ mod ring;
 mod sha256;
 mod show;
 mod sight;
+mod surveys;
 mod text;
 mod transfers;
 mod views;

@@ -93,6 +93,21 @@ impl State {
         State::Recovering { awaited, told: BTreeMap::new(), reported: Default::default() }
     }
 
+    /// A silo that is awaited has told all; whether all have, so that the piece is settled. Of two entries of a grain the first stays.
+    pub fn tell_all(&mut self, silo: Address, table: &mut Table) -> bool {
+        let State::Recovering { awaited, told, reported } = self else {
+            return false;
+        };
+        awaited.retain(|awaited| *awaited != silo);
+        told.remove(&silo);
+        if !awaited.is_empty() {
+            return false;
+        }
+        table.extend(std::mem::take(reported));
+        *self = State::Settled;
+        true
+    }
+
     pub fn is_settled(&self) -> bool {
         matches!(self, State::Settled)
     }

@@ -179,6 +179,8 @@ impl Process {
             Body::Done { range } => self.take_done(from, version, range),
             Body::Query { range, after } => self.answer_query(from, version, range, after),
             Body::Report(report) => self.take_report(from, version, &report),
+            Body::Survey { ranges } => self.answer_survey(from, version, &ranges),
+            Body::Empty { ranges } => self.take_empty(from, version, &ranges),
             Body::Behind => self.delivered("behind noted"),
             Body::Ahead => self.delivered("ahead noted"),
             Body::Offer { entry } => self.take_offer(version, entry),

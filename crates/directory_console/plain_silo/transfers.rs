@@ -148,20 +148,33 @@ impl Process {
 
     /// The first firm activations of a range behind a grain, where the silo has seen just the query's version.
     pub fn answer_query(&mut self, from: Address, version: u64, range: Span, after: Option<&[u8]>) {
-        let seen = self.seen;
-        if seen != version {
-            let kind = if seen < version { "behind" } else { "ahead" };
-            self.out.word("delivered query ").word(kind).word("\n");
-            return self.answer_ranged(from, version, kind, range);
+        if self.is_at_another_version(from, version, "query", range) {
+            return;
         }
+        self.delivered("query report");
+        self.report(from, version, range, after);
+    }
+
+    /// Whether the silo hasn't seen just the version of a letter of that kind; if so it says so of the range.
+    pub fn is_at_another_version(&mut self, from: Address, version: u64, kind: &str, range: Span) -> bool {
+        if self.seen == version {
+            return false;
+        }
+        let answer = if self.seen < version { "behind" } else { "ahead" };
+        self.out.word("delivered ").word(kind).word(" ").word(answer).word("\n");
+        self.answer_ranged(from, version, answer, range);
+        true
+    }
+
+    /// The first firm activations of a range behind a grain.
+    pub fn report(&mut self, to: Address, version: u64, range: Span, after: Option<&[u8]>) {
         let settings = self.settings;
         let is_behind = |entry: &Entry| after.is_none_or(|after| is_before(settings, range, after, &entry.0));
         let mut entries: Vec<Entry> = self.host.firm_in(range).into_iter().filter(is_behind).collect();
         entries.sort_unstable_by(|one, other| in_order(settings, range, &one.0, &other.0));
         let is_last = entries.len() <= settings.report_size;
         entries.truncate(settings.report_size);
-        self.delivered("query report");
-        self.out.letter(self.name, from, version, "report").span(range).after(after);
+        self.out.letter(self.name, to, version, "report").span(range).after(after);
         self.out.word(if is_last { " last" } else { " more" }).entries(&entries);
     }
 
@@ -176,10 +189,9 @@ impl Process {
             return self.delivered("report ignored");
         };
         let State::Recovering { awaited, told, reported } = state else { unreachable!() };
-        let at = awaited.binary_search(&from).ok().filter(|_| told.get(&from).map(|grain| &grain[..]) == report.after);
-        let Some(at) = at else {
+        if awaited.binary_search(&from).is_err() || told.get(&from).map(|grain| &grain[..]) != report.after {
             return self.delivered("report ignored");
-        };
+        }
         for (grain, activation) in &report.entries {
             reported.entry((*grain).into()).or_insert((self.settings.hash(grain), *activation));
         }
@@ -189,14 +201,8 @@ impl Process {
             self.delivered("report more");
             return self.out.query(self.name, from, version, range, Some(&last));
         }
-        awaited.remove(at);
-        told.remove(&from);
-        if !awaited.is_empty() {
-            return self.delivered("report more");
-        }
-        self.table.extend(std::mem::take(reported));
-        *state = State::Settled;
-        self.delivered("report complete");
+        let is_whole = state.tell_all(from, &mut self.table);
+        self.delivered(if is_whole { "report complete" } else { "report more" });
     }
 
     /// Whether a report's entries are its silo's, lie in its range and rise there behind its grain; and there is one, unless it is the last.

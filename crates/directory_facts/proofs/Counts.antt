@@ -17,6 +17,7 @@ use Rattle.directory_facts.proofs.Entries.{same_key, all_set, all_removed, found
 use Rattle.directory_facts.proofs.Carried.{Facts, Keeps}
 use Rattle.directory_facts.proofs.Ways.{Ways}
 use Rattle.directory_facts.proofs.EachStep.{by_way}
+use Rattle.directory_facts.proofs.Emptied.{leaves_else}
 
 -- what holds of each activation's grain and count
 abbrev pub Each : (Grain → ℕ → Type 0) → List (Grain × Held) → Type 0
@@ -157,6 +158,9 @@ module _ (node : Node) (is : CountedNode node) where
     continues = λ letter report recovery taken so. is;
     collects = λ letter report recovery taken so. is;
     completes = λ letter report table taken so. is;
+    surveys = λ letter first others body seen. is;
+    empties =
+        λ letter ranges its body plain. subst (λ (h : Host). Counted h.next_count h.held) (sym (leaves_else letter node ranges).host) is;
     takes_over = λ letter entry body seen may. begun entry.grain (Some entry.activation);
   }
 

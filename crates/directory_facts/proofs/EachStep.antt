@@ -1,6 +1,7 @@
 -- What is shown of every way holds of every accepted step.
 use Rattle.std.proofs.Common.{◌≡◌, ◌≢◌, refl, ap, subst, ◌∙◌, ℕ, arith}
-use Rattle.std.specs.Prelude.{Bool, true, false, cond, not, ◌&&◌, ◌||◌, ◌==◌, ◌++◌, nat_le, nat_lt, is_some, is_none, length, Option, Some, None, Result, Ok, Err, IfOk}
+use Rattle.std.specs.Prelude.{Bool, true, false, cond, not, ◌&&◌, ◌||◌, ◌==◌, ◌++◌, nat_le, nat_lt, is_some, is_none, length, List, [], ◌∷◌, Option, Some, None, Result, Ok, Err, IfOk}
+use Rattle.std.specs.List.{list_any}
 use Rattle.std.proofs.lemmas.Bool.{eqb-true, ltb-true, ltb-false, leb-true}
 use Rattle.texts.proofs.Decided.{both}
 use Rattle.silo_address.specs.Silo.{Silo, silo_eq}
@@ -22,7 +23,7 @@ use Rattle.directory_rules.specs.declared.piece_state.PieceState.TheVariants as 
 use Rattle.directory_rules.specs.declared.reply.Reply.{Reply}
 use Rattle.directory_rules.specs.declared.reply.Reply.TheVariants as reply
 use Rattle.directory_rules.specs.declared.effect.Effect.TheVariants as effect
-use Rattle.directory_rules.specs.State.{Piece, Page, Report, Body, Request_letter, Reply_letter, Ask_letter, Page_letter, Missing_letter, Done_letter, Query_letter, Report_letter, Behind_letter, Ahead_letter, Offer_letter, Letter, Node}
+use Rattle.directory_rules.specs.State.{Piece, Page, Report, Body, Request_letter, Reply_letter, Ask_letter, Page_letter, Missing_letter, Done_letter, Query_letter, Report_letter, Survey_letter, Empty_letter, Behind_letter, Ahead_letter, Offer_letter, Letter, Node}
 use Rattle.directory_rules.specs.Table.{rise_by_grain, lie_in}
 use Rattle.directory_rules.specs.Snapshot.{ShelfAnswer, Hands_page, Has_none, Is_behind, shelf_answer, has_snapshot, shelf_without}
 use Rattle.directory_rules.specs.Gatherings.{Gathered, Wants_page, Has_all, Refuses, gathered}
@@ -34,6 +35,7 @@ use Rattle.directory_rules.specs.Step as at
 use Rattle.directory_rules.specs.Reply as re
 use Rattle.directory_rules.specs.Transfer as tr
 use Rattle.directory_rules.specs.Receive as rc
+use Rattle.directory_rules.specs.PlainMachine.{Nothing_changes, step_of_effect}
 use Rattle.directory_rules.specs.declared.own_step.OwnStep.TheVariants.{Wake, Close, Cancel, Find, Forget, Nudge, NudgeGrain, NudgeRanges, Offer}
 use Rattle.directory_rules.specs.Input.{Input, Sees, Does, Receives, step}
 use Rattle.directory_rules.proofs.ReportCounts.{report_counts}
@@ -104,6 +106,31 @@ waiting test node version range is =
     let so = both (version == node.view.version) (tr.has_range test range (tr.piece_at node range)) is in
     let there = of_range test range (tr.piece_at node range) so.1 in
     (there.0, record { seen = eqb-true version node.view.version so.0; found = there.1; same = there.2 }, there.3)
+
+-- what the test of a report says
+pub report_taken : (node : Node) (letter : Letter) (report : Report) → letter.body ≡ Report_letter report
+    → tr.is_report_awaited node letter report ≡ true → IsReportTaken node letter report
+report_taken node letter report body counts =
+    let so = report_counts node letter report counts in
+    let there = waiting tr.is_recovering node letter.version report.range so.waits in
+    record {
+      body = body;
+      version = eqb-true report.version letter.version so.version;
+      sender = same_silo report.silo letter.from so.sender;
+      piece = there.0;
+      has = there.1;
+      recovers = recovering_is there.0.state there.2;
+      rise = so.rise;
+      lie = so.lie;
+      own = so.own;
+      some = so.some;
+    }
+
+-- what comes of empty ranges changes nothing to the plain machine
+empty_plain : (whole taken : Bool) → step_of_effect (cond whole effect.Complete (cond taken effect.More effect.Ignored)) ≡ Nothing_changes
+empty_plain true taken = refl
+empty_plain false true = refl
+empty_plain false false = refl
 
 module _ (node : Node) (P : Input → at.Stepped → Type 0) (w : Ways node P) where
   -- ---- steps of the silo's own
@@ -295,32 +322,40 @@ module _ (node : Node) (P : Input → at.Stepped → Type 0) (w : Ways node P) w
   reported : (letter : Letter) (report : Report) → letter.body ≡ Report_letter report → P (Receives letter) (tr.reported node letter report)
   reported letter report body =
       where_so (P (Receives letter)) (tr.is_report_awaited node letter report) _ _
-      (λ counts.
-      let so = report_counts node letter report counts in
-      let there = waiting tr.is_recovering node letter.version report.range so.waits in
-      recovered_by (recovered (recovery_of node report.range) report) letter report (record {
-        body = body;
-        version = eqb-true report.version letter.version so.version;
-        sender = same_silo report.silo letter.from so.sender;
-        piece = there.0;
-        has = there.1;
-        recovers = recovering_is there.0.state there.2;
-        rise = so.rise;
-        lie = so.lie;
-        own = so.own;
-        some = so.some;
-      }) refl)
+      (λ counts. recovered_by (recovered (recovery_of node report.range) report) letter report (report_taken node letter report body counts)
+      refl)
       (λ otherwise. ignores letter)
 
-  queried : (letter : Letter) (range : Range) (after : Option Grain) → letter.body ≡ Query_letter range after
-      → P (Receives letter) (tr.queried node letter range after)
-  queried letter range after body =
+  -- a letter about a range, that is answered at just its version
+  at_version : (letter : Letter) (range : Range) (stepped : at.Stepped)
+      → (letter.version ≡ node.view.version → P (Receives letter) stepped)
+      → P (Receives letter) (cond (nat_lt node.view.version letter.version) (tr.answering letter node (Behind_letter range) effect.Behind)
+      (cond (nat_lt letter.version node.view.version) (tr.answering letter node (Ahead_letter range) effect.Ahead) stepped))
+  at_version letter range stepped so =
       where_so (P (Receives letter)) (nat_lt node.view.version letter.version) _ _ (λ below. w.lags letter range) (λ upto.
       where_so (P (Receives letter)) (nat_lt letter.version node.view.version) _ _ (λ above. w.passed letter range) (λ from.
       let low = ltb-false node.view.version letter.version upto in
       let high = ltb-false letter.version node.view.version from in
       let same : letter.version ≡ node.view.version = omega arith in
-      w.reports letter range after body same))
+      so same))
+
+  queried : (letter : Letter) (range : Range) (after : Option Grain) → letter.body ≡ Query_letter range after
+      → P (Receives letter) (tr.queried node letter range after)
+  queried letter range after body =
+      at_version letter range (tr.answering letter node (Report_letter (tr.report_of node range after)) effect.Report)
+      (w.reports letter range after body)
+
+  surveyed : (ranges : List Range) (letter : Letter) → letter.body ≡ Survey_letter ranges
+      → P (Receives letter) (tr.surveyed node letter ranges)
+  surveyed [] letter body = ignores letter
+  surveyed (first ∷ others) letter body =
+      at_version letter first (record { node = node; letters = tr.tellings letter node (first ∷ others); effect = effect.Report })
+      (w.surveys letter first others body)
+
+  emptied : (letter : Letter) (ranges : List Range) → letter.body ≡ Empty_letter ranges → P (Receives letter) (tr.emptied node letter ranges)
+  emptied letter ranges body =
+      w.empties letter ranges (tr.empty_effect letter node ranges) body
+      (empty_plain (list_any (tr.nothing_makes tr.is_whole letter node) ranges) (list_any (tr.nothing_makes tr.is_taken letter node) ranges))
 
   offered_to : (letter : Letter) (entry : Entry) → letter.body ≡ Offer_letter entry → P (Receives letter) (rc.offered_to node letter entry)
   offered_to letter entry body =
@@ -360,6 +395,8 @@ module _ (node : Node) (P : Input → at.Stepped → Type 0) (w : Ways node P) w
       (at.silently node effect.Ignored) (λ there. w.forgoes letter range is there) (λ otherwise. ignores letter)
   received (Query_letter range after) letter is = queried letter range after is
   received (Report_letter report) letter is = reported letter report is
+  received (Survey_letter ranges) letter is = surveyed ranges letter is
+  received (Empty_letter ranges) letter is = emptied letter ranges is
   received (Behind_letter range) letter is = w.nothing (Receives letter) effect.Noted refl
   received (Ahead_letter range) letter is = w.nothing (Receives letter) effect.Noted refl
   received (Offer_letter entry) letter is = offered_to letter entry is

@@ -11,6 +11,8 @@ pub mod SeenRings
 pub mod Tables
 pub mod Served
 pub mod Collected
+pub mod Emptied
+pub mod Surveys
 pub mod Pieces
 pub mod PiecesKept
 pub mod NamedTables

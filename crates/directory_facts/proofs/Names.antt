@@ -29,7 +29,7 @@ use Rattle.directory_rules.specs.declared.held.Phase.TheVariants.{Asking, Firm, 
 use Rattle.directory_rules.specs.declared.piece_state.PieceState.{PieceState}
 use Rattle.directory_rules.specs.declared.piece_state.PieceState.TheVariants as state
 use Rattle.directory_rules.specs.Settings.{Settings, AreSettings}
-use Rattle.directory_rules.specs.State.{Piece, Snapshot, Gathering, Recovery, Host, Letter, Body, Request_letter, Reply_letter, Ask_letter, Page_letter, Missing_letter, Done_letter, Query_letter, Report_letter, Behind_letter, Ahead_letter, Offer_letter, Node}
+use Rattle.directory_rules.specs.State.{Piece, Snapshot, Gathering, Recovery, Host, Letter, Body, Request_letter, Reply_letter, Ask_letter, Page_letter, Missing_letter, Done_letter, Query_letter, Report_letter, Survey_letter, Empty_letter, Behind_letter, Ahead_letter, Offer_letter, Node}
 use Rattle.directory_rules.specs.Host.{entry_of, grain_of, held_acts, find_acts, act_in, outstanding, requests_about}
 use Rattle.directory_rules.specs.Event.{IsEvent}
 use Rattle.directory_rules.specs.Sent.{letter_to, letter_if_owned, owner_by, hash_of, request_of, request_letters, all_requests, requests_of_grain, recovery_of, wants_by, query_to}
@@ -64,6 +64,8 @@ NamesBody (Missing_letter range) = ⊤
 NamesBody (Done_letter range) = ⊤
 NamesBody (Query_letter range after) = ⊤
 NamesBody (Report_letter report) = AllNamed report.entries
+NamesBody (Survey_letter ranges) = ⊤
+NamesBody (Empty_letter ranges) = ⊤
 NamesBody (Behind_letter range) = ⊤
 NamesBody (Ahead_letter range) = ⊤
 NamesBody (Offer_letter entry) = IsNamed entry

@@ -1,6 +1,6 @@
 -- Every step leaves a node that names silos, grains and counts in their ranges, and sends letters that do.
 use Rattle.std.proofs.Common.{arith, ◌≡◌, refl, sym, ap, subst, ℕ, ◌≤◌, List, [], ◌∷◌}
-use Rattle.std.specs.Prelude.{Bool, true, false, cond, ◌==◌, ◌&&◌, All, Option, Some, None, Result, Ok, Err, find, filter}
+use Rattle.std.specs.Prelude.{Bool, true, false, cond, ◌==◌, ◌&&◌, All, Option, Some, None, Result, Ok, Err, find, filter, fold}
 use Rattle.std.specs.Option.{option_map}
 use Rattle.std.specs.Ordering.{nat_cmp}
 use Rattle.std.specs.BTreeMap.{is_at}
@@ -33,7 +33,7 @@ use Rattle.directory_rules.specs.Recovery.{new_recovery, recovered}
 use Rattle.directory_rules.specs.Host.{entry_of, held_of, next_held, with_started, with_closing, with_find, without_find, without_held, confirmed, renewed, renewed_about}
 use Rattle.directory_rules.specs.Answer.{piece_with, with_piece, turned, serving_piece, served_by, answered_from, answered}
 use Rattle.directory_rules.specs.Node.{new_node}
-use Rattle.directory_rules.specs.Sent.{all_requests, all_wants, gathering_of, recovery_of, query_letters}
+use Rattle.directory_rules.specs.Sent.{all_requests, all_wants, new_wants, gathering_of, recovery_of, query_letters}
 use Rattle.directory_rules.specs.Step as at
 use Rattle.directory_rules.specs.Transfer as tr
 use Rattle.directory_rules.specs.Input.{Input}
@@ -44,12 +44,14 @@ use Rattle.directory_facts.proofs.Entries.{same_key, all_put, all_set, all_remov
 use Rattle.directory_facts.proofs.Carried.{Facts, Brings, Keeps, Both, KeepsBeside, beside, both_keep}
 use Rattle.directory_facts.proofs.Ways.{MayBegin, Ways}
 use Rattle.directory_facts.proofs.EachStep.{by_way}
-use Rattle.directory_facts.proofs.Owners.{OwnNode, own_facts, own_keep}
+use Rattle.directory_facts.proofs.Owners.{OwnNode, own_facts, own_keep, own_left}
 use Rattle.directory_facts.proofs.Counts.{AreOf, closed_are, confirmed_are, less_are, renewed_are, renewed_about_are}
-use Rattle.directory_facts.proofs.SeenRings.{seen_facts, seen_keep}
+use Rattle.directory_facts.proofs.SeenRings.{seen_facts, seen_keep, stay}
 use Rattle.directory_facts.proofs.Places.{added_is}
 use Rattle.directory_facts.proofs.Served.{serves}
 use Rattle.directory_facts.proofs.Collected.{found_or}
+use Rattle.directory_facts.proofs.Emptied.{as_report, by_each_beside, by_nothing}
+use Rattle.directory_facts.proofs.Surveys.{all_new_wants, all_tellings}
 use Rattle.directory_facts.proofs.PiecesKept.{base_facts}
 use Rattle.directory_facts.proofs.StandingEntries.{all_reported}
 use Rattle.directory_facts.proofs.NamedTables.{AllNamed, table_named, handed_named, GatheredNamed, gathered_named, RecoveredNamed, recovered_named, NamesAct, turned_named}
@@ -178,7 +180,8 @@ module _ (settings : Settings) (views : ViewsValue) (places : PlacesValue) (silo
           gathered_so = gatherings_anew view made.holding.pieces;
           recovered_so = recoveries_anew view made.holding.pieces;
         },
-        All-append Says (all_wants made) (all_requests made) (pieces_say made made.holding.pieces) (requests_say made held),
+        All-append Says (new_wants made) (all_requests made)
+            (all_new_wants Says made (λ from range. tt) (λ range silo. tt) (λ silo ranges. tt)) (requests_say made held),
       )
 
   nudged : NamesOf (record node { host = renewed node.host }) × All Says
@@ -295,8 +298,17 @@ module _ (settings : Settings) (views : ViewsValue) (places : PlacesValue) (silo
   queries_say : (range : Range) → All Says (query_letters (tr.turned_to_recovery node range) range)
   queries_say range = All-map Says _ (recovery_of (tr.turned_to_recovery node range) range).awaiting (λ k d below. tt)
 
-  ways : Ways node Made
-  ways = record {
+  -- a silo has nothing in a range
+  pub one_emptied : (letter : Letter) (range : Range) → NamesOf (tr.told_nothing letter node range)
+  one_emptied letter range =
+      by_nothing letter node range NamesOf names
+      (λ recovery so. recovery_so recovery
+      (subst RecoveredNamed so.1 (report_so (as_report letter range) (tr.nothing_in letter range) refl (All-nil IsNamed))))
+      (λ table so. settled_so range table
+      (subst RecoveredNamed so.1 (report_so (as_report letter range) (tr.nothing_in letter range) refl (All-nil IsNamed))))
+
+  ways : ((letter : Letter) (ranges : List Range) → NamesOf (fold (tr.told_nothing letter) node ranges)) → Ways node Made
+  ways emptied = record {
     nothing = λ input effect plain brings. (names, none);
     sees =
         λ before view brought newer numbers brings. sighted (is_next node.view before view node.host.silo) before view brought
@@ -349,6 +361,12 @@ module _ (settings : Settings) (views : ViewsValue) (places : PlacesValue) (silo
     lags = λ letter range brings. (names, one_says _ tt);
     passed = λ letter range brings. (names, one_says _ tt);
     reports = λ letter range after body seen brings. (names, one_says _ (all_reported IsNamed node range after names.held));
+    surveys =
+        λ letter first others body seen brings. (
+          names,
+          all_tellings Says letter node (first ∷ others) (λ empties. tt)
+              (λ range. all_reported IsNamed node range None names.held),
+        );
     gathers =
         λ letter page gathering taken is brings. (
           gathering_so gathering (subst GatheredNamed is (page_so letter page taken.body brings.1)),
@@ -384,6 +402,7 @@ module _ (settings : Settings) (views : ViewsValue) (places : PlacesValue) (silo
               (subst RecoveredNamed is (report_so letter report taken.body brings.1)),
           none,
         );
+    empties = λ letter ranges its body plain brings. (emptied letter ranges, none);
     takes_over =
         λ letter entry body seen may brings. let offered : IsNamed entry = subst NamesBody body brings.1 in
         begun entry.grain (Some entry.activation) may offered.grain;
@@ -392,6 +411,16 @@ module _ (settings : Settings) (views : ViewsValue) (places : PlacesValue) (silo
     held_named grain held found =
         let so = found_so (λ (e : Grain × Held). IsNamed (entry_of node.host e.0 e.1)) (is_at (grain_cmp grain)) held node.host.held names.held found in
         subst (λ g. IsNamed (entry_of node.host g held)) (sym (same_key grain_cmp grain_cmp_exact grain so.0 so.1)) so.2
+
+-- a silo has nothing in these ranges
+emptied : (settings : Settings) (views : ViewsValue) (places : PlacesValue) (silo : Silo) (node : Node) → OwnNode settings silo node
+    → SeesItsVersion views places node → SharedNames settings places → NamesOf node → (letter : Letter) (ranges : List Range)
+    → NamesOf (fold (tr.told_nothing letter) node ranges)
+emptied settings views places silo start own sees shared names letter ranges =
+    by_each_beside letter start NamesOf
+    (λ node range rest is. one_emptied settings views places silo node (own_left settings silo start node rest own)
+    (stay settings views places silo start sees node rest.view rest.ring) shared is letter range)
+    ranges names
 
 new_names : (settings : Settings) (silo : Silo) → IsSilo silo → NamesOf (new_node settings silo)
 new_names settings silo is = record {
@@ -423,7 +452,7 @@ named_beside = record {
   going = λ settings views next places way goes base shared is. shared;
   gone = λ settings views next places way goes base shared is silo node based names. names;
   stepping = λ settings views places silo node input stepped base made before is.
-      let its = by_way node (Made settings views places silo node base.node.0 base.node.1 before.shared before.node) (ways settings views places silo node base.node.0 base.node.1 before.shared before.node) input stepped is before.brings in
+      let its = by_way node (Made settings views places silo node base.node.0 base.node.1 before.shared before.node) (ways settings views places silo node base.node.0 base.node.1 before.shared before.node (emptied settings views places silo node base.node.0 base.node.1 before.shared before.node)) input stepped is before.brings in
       record { node = its.0; letters = its.1 };
 }
 

@@ -1,6 +1,6 @@
 -- Every step leaves a node its silo's own, and what it sends is the silo's own.
 use Rattle.std.proofs.Common.{◌≡◌, refl, sym, ap, subst, ◌∙◌, ℕ, List, [], ◌∷◌}
-use Rattle.std.specs.Prelude.{◌==◌, ◌&&◌, nat_lt, Bool, true, false, cond, find, length, ⊤, All, Option, Some, None, map, flat_map}
+use Rattle.std.specs.Prelude.{◌==◌, ◌&&◌, nat_lt, Bool, true, false, cond, find, length, ⊤, All, Option, Some, None, map, flat_map, fold}
 use Rattle.std.proofs.lemmas.Bool.{eqb-true}
 use Rattle.texts.proofs.Decided.{both}
 use Rattle.std.specs.Map.{keys_of}
@@ -22,13 +22,15 @@ use Rattle.directory_rules.specs.Sight.{is_next}
 use Rattle.directory_rules.specs.Snapshot.{Hands_page, Has_none, Is_behind, page_count, page_of, page_from, is_snapshot, shelf_answer}
 use Rattle.directory_rules.proofs.Cases.{on_bool}
 use Rattle.directory_rules.specs.Host.{outstanding, requests_about, entry_of, next_held, next_closing, with_started, with_closing, with_find, without_find, without_held, confirmed, renewed, renewed_about}
-use Rattle.directory_rules.specs.Sent.{letter_to, letter_if_owned, owner_by, hash_of, request_of, request_letters, all_requests, requests_of_grain, recovery_of, wants_by, all_wants, query_to}
+use Rattle.directory_rules.specs.Sent.{letter_to, letter_if_owned, owner_by, hash_of, request_of, request_letters, all_requests, requests_of_grain, recovery_of, wants_by, all_wants, new_wants, query_to}
 use Rattle.directory_rules.specs.Step as at
 use Rattle.directory_rules.specs.Transfer as tr
 use Rattle.directory_facts.specs.Own.{IsOwnNode, NamesOwn, IsOwnLetter}
 use Rattle.directory_facts.proofs.Carried.{Facts, Keeps}
 use Rattle.directory_facts.proofs.Ways.{MayBegin, Ways}
 use Rattle.directory_facts.proofs.EachStep.{by_way}
+use Rattle.directory_facts.proofs.Emptied.{LeavesElse, leaves_else}
+use Rattle.directory_facts.proofs.Surveys.{all_new_wants, all_tellings}
 use Rattle.directory_facts.proofs.Hosts.{Once, once_held, once_started, once_set, once_less, once_renewed, once_renewed_about, outstanding_own, requests_about_own}
 
 -- the node is its silo's, by the settings, and holds one activation a grain
@@ -137,6 +139,15 @@ page_version shelf seen version range asker number page is = by (nat_lt seen ver
     by true handed = absurd (cc (handed))
     by false handed = from (find (is_snapshot version range asker) shelf) refl handed
 
+-- what is left of a node but for its ranges is its own
+pub own_left : (settings : Settings) (silo : Silo) (before after : Node) → LeavesElse before after → OwnNode settings silo before
+    → OwnNode settings silo after
+own_left settings silo before after rest own = record {
+  by_settings = rest.settings ∙ own.by_settings;
+  by_silo = ap (λ (h : Host). h.silo) rest.host ∙ own.by_silo;
+  once = subst (λ (h : Host). Once (keys_of h.held)) (sym rest.host) own.once;
+}
+
 -- ---- steps
 module _ (settings : Settings) (silo : Silo) (node : Node) (own : OwnNode settings silo node) where
   abbrev Made : at.Stepped → Type 0
@@ -179,8 +190,9 @@ module _ (settings : Settings) (silo : Silo) (node : Node) (own : OwnNode settin
     sees = λ before view places newer numbers.
         let made = at.sight (is_next node.view before view node.host.silo) node before view places in (
           renewed_so,
-          All-append (IsOwnLetter settings) (all_wants made.node) (all_requests made.node)
-              (pieces_own settings made.node made.node.holding.pieces) (all_requests_own settings made.node own.by_settings),
+          All-append (IsOwnLetter settings) (new_wants made.node) (all_requests made.node)
+              (all_new_wants (IsOwnLetter settings) made.node (λ from range. tt) (λ range silo. tt) (λ silo ranges. tt))
+              (all_requests_own settings made.node own.by_settings),
         );
     wakes = λ grain may. begun grain None may;
     closes =
@@ -255,6 +267,17 @@ module _ (settings : Settings) (silo : Silo) (node : Node) (own : OwnNode settin
     continues = λ letter report recovery taken is. (own, sends _ tt);
     collects = λ letter report recovery taken is. (own, none);
     completes = λ letter report table taken is. (own, none);
+    surveys =
+        λ letter first others body seen. (
+          own,
+          all_tellings (IsOwnLetter settings) letter node (first ∷ others) (λ empties. tt)
+              (λ range. record { version = sym seen; silo = refl }),
+        );
+    empties =
+        λ letter ranges its body plain. (
+          own_left settings silo node (fold (tr.told_nothing letter) node ranges) (leaves_else letter node ranges) own,
+          none,
+        );
     takes_over = λ letter entry body seen may. begun entry.grain (Some entry.activation) may;
   }
 

@@ -1,6 +1,6 @@
 -- Every step leaves a node's pieces pieces, each entry in the piece of its hash.
 use Rattle.std.proofs.Common.{◌≡◌, refl, sym, ap, subst, ℕ, List, [], ◌∷◌}
-use Rattle.std.specs.Prelude.{⊤, Bool, true, All}
+use Rattle.std.specs.Prelude.{⊤, Bool, true, All, fold}
 use Rattle.std.specs.Ordering.{nat_cmp}
 use Rattle.std.specs.BTreeMap.{is_at}
 use Rattle.std.specs.List.{cons_option}
@@ -41,10 +41,11 @@ use Rattle.directory_facts.proofs.Entries.{all_put, all_removed}
 use Rattle.directory_facts.proofs.Carried.{Facts, Brings, Keeps, Both, KeepsBeside, beside, both_keep}
 use Rattle.directory_facts.proofs.Ways.{HasPiece, IsPageTaken, IsReportTaken, Ways}
 use Rattle.directory_facts.proofs.EachStep.{by_way}
-use Rattle.directory_facts.proofs.Owners.{OwnNode, own_facts, own_keep}
-use Rattle.directory_facts.proofs.SeenRings.{seen_facts, seen_keep}
+use Rattle.directory_facts.proofs.Owners.{OwnNode, own_facts, own_keep, own_left}
+use Rattle.directory_facts.proofs.SeenRings.{seen_facts, seen_keep, stay}
 use Rattle.directory_facts.proofs.Tables.{table_nil, table_rising}
 use Rattle.directory_facts.proofs.Collected.{found_or, gathered_into, GatheredInto, recovered_into, RecoveredInto}
+use Rattle.directory_facts.proofs.Emptied.{as_report, by_each_beside, by_nothing}
 use Rattle.directory_facts.proofs.Pieces.{HasTable, Pieces, no_pieces, are_pieces, bare_table, pieces_made, pieces_changed, pieces_answered}
 
 -- what a node keeps of ranges
@@ -201,8 +202,17 @@ module _ (settings : Settings) (views : ViewsValue) (places : PlacesValue) (silo
       let own_request = subst (SaysOwn settings.hashing letter) body says in
       pieces_answered settings.hashing node.holding request keeps.pieces_are own_request.hash
 
-  ways : Ways node Made
-  ways = record {
+  -- where a range is told empty
+  pub one_emptied : (letter : Letter) (range : Range) → KeepsRanges settings.hashing (tr.told_nothing letter node range)
+  one_emptied letter range =
+      by_nothing letter node range (KeepsRanges settings.hashing) keeps
+      (λ recovery so. recovery_so recovery
+      (subst (RecoveredInto settings.hashing range) so.1 (report_into (as_report letter range) (tr.nothing_in letter range) so.0)))
+      (λ table so. settled letter.version range so.0.piece table so.0.has
+      (subst (RecoveredInto settings.hashing range) so.1 (report_into (as_report letter range) (tr.nothing_in letter range) so.0)))
+
+  ways : ((letter : Letter) (ranges : List Range) → KeepsRanges settings.hashing (fold (tr.told_nothing letter) node ranges)) → Ways node Made
+  ways emptied = record {
     nothing = λ input effect plain brings. keeps;
     sees =
         λ before view brought newer numbers brings. sighted (is_next node.view before view node.host.silo) before view brought
@@ -235,6 +245,7 @@ module _ (settings : Settings) (views : ViewsValue) (places : PlacesValue) (silo
     lags = λ letter range brings. keeps;
     passed = λ letter range brings. keeps;
     reports = λ letter range after body seen brings. keeps;
+    surveys = λ letter first others body seen brings. keeps;
     gathers =
         λ letter page gathering taken is brings. gathering_so gathering
         (subst (GatheredInto settings.hashing page.range (gathering_of node page.range) page) is (page_into letter page taken));
@@ -255,8 +266,19 @@ module _ (settings : Settings) (views : ViewsValue) (places : PlacesValue) (silo
     completes =
         λ letter report table taken is brings. settled letter.version report.range taken.piece table taken.has
         (subst (RecoveredInto settings.hashing report.range) is (report_into letter report taken));
+    empties = λ letter ranges its body plain brings. emptied letter ranges;
     takes_over = λ letter entry body seen may brings. keeps;
   }
+
+-- where several are
+emptied : (settings : Settings) (views : ViewsValue) (places : PlacesValue) (silo : Silo) (node : Node) → OwnNode settings silo node
+    → SeesItsVersion views places node → IsPlaces places → KeepsRanges settings.hashing node → (letter : Letter) (ranges : List Range)
+    → KeepsRanges settings.hashing (fold (tr.told_nothing letter) node ranges)
+emptied settings views places silo start own sees placed keeps letter ranges =
+    by_each_beside letter start (KeepsRanges settings.hashing)
+    (λ node range rest is. one_emptied settings views places silo node (own_left settings silo start node rest own)
+    (stay settings views places silo start sees node rest.view rest.ring) placed is letter range)
+    ranges keeps
 
 new_keeps : (settings : Settings) (silo : Silo) → KeepsRanges settings.hashing (new_node settings silo)
 new_keeps settings silo = record { pieces_are = no_pieces settings.hashing; gathered_in = All-nil _; recovered_in = All-nil _ }
@@ -273,7 +295,8 @@ piece_keep_beside = record {
   stepping = λ settings views places silo node input stepped base made before is. record {
     node =
         by_way node (Made settings views places silo node base.node.0 base.node.1 before.shared before.node)
-        (ways settings views places silo node base.node.0 base.node.1 before.shared before.node) input stepped is base.brings;
+        (ways settings views places silo node base.node.0 base.node.1 before.shared before.node
+        (emptied settings views places silo node base.node.0 base.node.1 before.shared before.node)) input stepped is base.brings;
     letters = λ k d below. tt;
   };
 }

@@ -1,6 +1,6 @@
 -- What a silo has seen stays the view of its version and the ring of that view, whatever happens.
 use Rattle.std.proofs.Common.{◌≡◌, refl, sym, ap, subst, ◌∙◌, ℕ, ◌+◌, ◌≤◌, List, arith}
-use Rattle.std.specs.Prelude.{⊤, Ok}
+use Rattle.std.specs.Prelude.{⊤, fold, Ok}
 use Rattle.std.specs.Map.{keys_of}
 use Rattle.std.proofs.lemmas.List.Elements.{All-nil}
 use Rattle.silo_address.specs.Silo.{Silo}
@@ -18,6 +18,7 @@ use Rattle.hash_ring.specs.Ring.{ring_of}
 use Rattle.hash_ring.proofs.Lawful.{ring_stays}
 use Rattle.directory_rules.specs.Settings.{Settings, AreSettings}
 use Rattle.directory_rules.specs.State.{Node}
+use Rattle.directory_rules.specs.Transfer.{told_nothing}
 use Rattle.directory_rules.specs.Node.{new_node}
 use Rattle.directory_rules.specs.Step as at
 use Rattle.directory_rules.specs.Input.{Input, step}
@@ -25,6 +26,7 @@ use Rattle.directory_facts.specs.Seen.{SeesItsVersion}
 use Rattle.directory_facts.proofs.Carried.{Facts, Brings, IsSight, GoesOn, IsGoing, Keeps}
 use Rattle.directory_facts.proofs.Ways.{Ways}
 use Rattle.directory_facts.proofs.EachStep.{by_way}
+use Rattle.directory_facts.proofs.Emptied.{leaves_else}
 use Rattle.directory_facts.proofs.Places.{AllAdded, added_changed, added_joined, added_more, added_itself, added_is, added_view}
 
 -- the views are whole, and views and places are by the settings and of the same silos
@@ -136,7 +138,7 @@ module _ (settings : Settings) (views : ViewsValue) (places : PlacesValue) (silo
   Made input stepped = Brings seen_facts settings views places silo input → SeesItsVersion views places stepped.node
 
   -- the view and the ring stay
-  stay : (its : Node) → its.view ≡ node.view → its.ring ≡ node.ring → SeesItsVersion views places its
+  pub stay : (its : Node) → its.view ≡ node.view → its.ring ≡ node.ring → SeesItsVersion views places its
   stay its view ring = record {
     within = subst (λ (v : ViewValue). v.version ≤ views.version) (sym view) sees.within;
     view_is = view ∙ sees.view_is ∙ ap (λ v. view_at views v.version) (sym view);
@@ -188,6 +190,10 @@ module _ (settings : Settings) (views : ViewsValue) (places : PlacesValue) (silo
     continues = λ letter report recovery taken is brings. stay _ refl refl;
     collects = λ letter report recovery taken is brings. stay _ refl refl;
     completes = λ letter report table taken is brings. stay _ refl refl;
+    surveys = λ letter first others body seen brings. sees;
+    empties =
+        λ letter ranges its body plain brings. let rest = leaves_else letter node ranges in
+        stay (fold (told_nothing letter) node ranges) rest.view rest.ring;
     takes_over = λ letter entry body seen may brings. stay _ refl refl;
   }
 

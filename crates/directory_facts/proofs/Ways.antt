@@ -1,6 +1,6 @@
 -- Every accepted step of a silo is one of these ways, each with what its guards say.
 use Rattle.std.proofs.Common.{◌≡◌, ◌≢◌, ℕ, ◌<◌, ◌≤◌}
-use Rattle.std.specs.Prelude.{◌++◌, ◌||◌, nat_lt, true, false, length, List, [], ◌∷◌, Option, Some, None}
+use Rattle.std.specs.Prelude.{◌++◌, ◌||◌, nat_lt, true, false, length, fold, List, [], ◌∷◌, Option, Some, None}
 use Rattle.std.specs.List.{list_all}
 use Rattle.silo_address.specs.Silo.{Silo, silo_eq}
 use Rattle.silo_address.specs.Grain.{Grain}
@@ -19,7 +19,7 @@ use Rattle.directory_rules.specs.declared.reply.Reply.TheVariants as reply
 use Rattle.directory_rules.specs.declared.effect.Effect.{Effect}
 use Rattle.directory_rules.specs.declared.effect.Effect.TheVariants as effect
 use Rattle.directory_rules.specs.declared.piece_state.PieceState.TheVariants as state
-use Rattle.directory_rules.specs.State.{Piece, Table, Page, Gathering, Report, Recovery, Letter, Request_letter, Reply_letter, Ask_letter, Page_letter, Missing_letter, Done_letter, Query_letter, Report_letter, Behind_letter, Ahead_letter, Offer_letter, Node}
+use Rattle.directory_rules.specs.State.{Piece, Table, Page, Gathering, Report, Recovery, Letter, Request_letter, Reply_letter, Ask_letter, Page_letter, Missing_letter, Done_letter, Query_letter, Report_letter, Survey_letter, Empty_letter, Behind_letter, Ahead_letter, Offer_letter, Node}
 use Rattle.directory_rules.specs.Table.{table_of, rise_by_grain, lie_in}
 use Rattle.directory_rules.specs.Sight.{is_next}
 use Rattle.directory_rules.specs.Snapshot.{Hands_page, Has_none, shelf_answer, has_snapshot, shelf_without}
@@ -32,7 +32,7 @@ use Rattle.directory_rules.specs.Sent.{gathering_of, recovery_of}
 use Rattle.directory_rules.specs.Answer.{answered}
 use Rattle.directory_rules.specs.Step.{Stepped, silently, sight, started, closing, cancelled, offered, finding, having_nudged, having_nudged_grain, nudge_ranges}
 use Rattle.directory_rules.specs.Host as host
-use Rattle.directory_rules.specs.Transfer.{answering, piece_at, with_settled, with_gathering, with_recovery, asking_on, turned_to_recovery, querying, querying_on, report_of}
+use Rattle.directory_rules.specs.Transfer.{answering, piece_at, with_settled, with_gathering, with_recovery, asking_on, turned_to_recovery, querying, querying_on, report_of, tellings, told_nothing}
 use Rattle.directory_rules.specs.Receive.{replying}
 use Rattle.directory_rules.specs.PlainMachine.{Nothing_changes, step_of_effect}
 use Rattle.directory_rules.specs.declared.own_step.OwnStep.TheVariants.{Wake, Close, Cancel, Find, Forget, Nudge, NudgeGrain, NudgeRanges, Offer}
@@ -156,6 +156,9 @@ pub record Ways (node : Node) (P : Input → Stepped → Type 0) : Type 0 where
   pub reports : (letter : Letter) (range : Range) (after : Option Grain) → letter.body ≡ Query_letter range after
       → letter.version ≡ node.view.version
       → P (Receives letter) (answering letter node (Report_letter (report_of node range after)) effect.Report)
+  pub surveys : (letter : Letter) (first : Range) (others : List Range) → letter.body ≡ Survey_letter (first ∷ others)
+      → letter.version ≡ node.view.version
+      → P (Receives letter) (record { node = node; letters = tellings letter node (first ∷ others); effect = effect.Report })
   -- the new owner
   pub gathers : (letter : Letter) (page : Page) (gathering : Gathering) → IsPageTaken node letter page
       → gathered (gathering_of node page.range) page ≡ Wants_page gathering
@@ -178,6 +181,10 @@ pub record Ways (node : Node) (P : Input → Stepped → Type 0) : Type 0 where
   pub completes : (letter : Letter) (report : Report) (table : Table) → IsReportTaken node letter report
       → recovered (recovery_of node report.range) report ≡ Has_union table
       → P (Receives letter) (silently (with_settled node report.range table) effect.Complete)
+  -- of each of these ranges a silo reports that it has nothing there
+  pub empties : (letter : Letter) (ranges : List Range) (its : Effect) → letter.body ≡ Empty_letter ranges
+      → step_of_effect its ≡ Nothing_changes
+      → P (Receives letter) (silently (fold (told_nothing letter) node ranges) its)
   -- an offer is taken
   pub takes_over : (letter : Letter) (entry : Entry) → letter.body ≡ Offer_letter entry → letter.version ≤ node.view.version
       → MayBegin node entry.grain → P (Receives letter) (started node entry.grain (Some entry.activation))

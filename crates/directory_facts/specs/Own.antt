@@ -7,7 +7,7 @@ use Rattle.directory_rules.specs.declared.act.Act.{Act}
 use Rattle.directory_rules.specs.declared.act.Act.TheVariants.{Register, Deregister, Find}
 use Rattle.directory_rules.specs.declared.act.Request.{Request}
 use Rattle.directory_rules.specs.Settings.{Settings}
-use Rattle.directory_rules.specs.State.{Report, Host, Letter, Body, Request_letter, Reply_letter, Ask_letter, Page_letter, Missing_letter, Done_letter, Query_letter, Report_letter, Behind_letter, Ahead_letter, Offer_letter, Node}
+use Rattle.directory_rules.specs.State.{Report, Host, Letter, Body, Request_letter, Reply_letter, Ask_letter, Page_letter, Missing_letter, Done_letter, Query_letter, Report_letter, Survey_letter, Empty_letter, Behind_letter, Ahead_letter, Offer_letter, Node}
 use Rattle.directory_rules.specs.Host.{grain_of}
 
 -- the host holds one activation a grain
@@ -53,6 +53,8 @@ SaysOwn hashing letter (Missing_letter range) = ⊤
 SaysOwn hashing letter (Done_letter range) = ⊤
 SaysOwn hashing letter (Query_letter range after) = ⊤
 SaysOwn hashing letter (Report_letter report) = IsOwnReport letter report
+SaysOwn hashing letter (Survey_letter ranges) = ⊤
+SaysOwn hashing letter (Empty_letter ranges) = ⊤
 SaysOwn hashing letter (Behind_letter range) = ⊤
 SaysOwn hashing letter (Ahead_letter range) = ⊤
 SaysOwn hashing letter (Offer_letter entry) = entry.activation.silo ≡ letter.from

@@ -1,5 +1,5 @@
 -- Actions of one silo leave all others as they are, and letters that were sent stay sent.
-use Rattle.std.proofs.Common.{◌≡◌, ◌≢◌, ◌&&◌, Bool, cond, ℕ, List, [], ◌∷◌, refl, ap, ◌∙◌, inl, inr}
+use Rattle.std.proofs.Common.{◌≡◌, ◌≢◌, ◌&&◌, Bool, cond, ℕ, List, [], ◌∷◌, ◌++◌, refl, ap, ◌∙◌, inl, inr}
 use Rattle.std.specs.Prelude.{⊤, Option}
 use Rattle.silo_address.specs.Silo.{Silo, silo_eq}
 use Rattle.silo_address.specs.Grain.{Grain, grain_eq}
@@ -33,6 +33,10 @@ IsBy silo (Recover x told) = x.silo ≡ silo
 abbrev pub AllBy : Silo → List Action → Type 0
 AllBy silo [] = ⊤
 AllBy silo (a ∷ rest) = IsBy silo a × AllBy silo rest
+
+pub by_append : (silo : Silo) (xs ys : List Action) → AllBy silo xs → AllBy silo ys → AllBy silo (xs ++ ys)
+by_append silo [] ys a b = b
+by_append silo (x ∷ xs) ys a b = (a.0, by_append silo xs ys a.1 b)
 
 -- what was sent is sent still
 pub record Grows (w later : World) : Type 0 where

@@ -24,6 +24,7 @@ use Rattle.directory_headline.specs.Shown.{IsShownLetter, activation_in}
 use Rattle.directory_headline.proofs.SettledPiece.{lt_true, settling, settled_world, may_settle, node_settled}
 use Rattle.directory_facts.proofs.PagesTaken.{page_more, all_pages}
 use Rattle.directory_headline.proofs.Pages.{next_page}
+use Rattle.directory_headline.proofs.Stands.{stands}
 use Rattle.directory_headline.proofs.Frame.{Here, Comes, Moves, acts, seen_is, one_letter}
 
 not_lt : (a b : ℕ) → nat_lt a b ≡ false → b ≤ a
@@ -37,6 +38,7 @@ module _ (m : Setting) (f : World) (w : protocol.World) (silo : Silo) (node : No
   pub installs : (entries : List Entry) → gathered (gathering_of node page.range) page ≡ Has_all entries
       → Moves m w silo (answering letter (with_settled node page.range (table_of entries)) (Done_letter page.range) effect.Installed)
   installs entries is =
+      let it = stands m f w silo node here in
       let gathering = gathering_of node page.range in
       let so : GatheredSo gathering page (Has_all entries) = subst (GatheredSo gathering page) is (gathered_so gathering page) in
       let turn = so.0 in
@@ -49,10 +51,10 @@ module _ (m : Setting) (f : World) (w : protocol.World) (silo : Silo) (node : No
       let snapshot = its.sealed.snapshot in
       let waits : is_settled taken.piece.state ≡ false = ap is_settled taken.awaits in
       let says = λ (grain : Grain) (held : holds page.range (m.hash grain) ≡ true). its.sealed.list.exact grain held ∙ ap (λ es. activation_in (entry_at grain (table_of es))) (sym whole) in
-      let x = settling m f w silo node here letter.version page.range taken.piece taken.has waits snapshot.entries (table_of entries) says in
+      let x = settling m w silo node it letter.version page.range taken.piece taken.has waits snapshot.entries (table_of entries) says in
       let may : MayInstall m w x snapshot = record {
         settles =
-            may_settle m f w silo node here letter.version page.range taken.piece taken.has waits snapshot.entries (table_of entries) says;
+            may_settle m w silo node it letter.version page.range taken.piece taken.has waits snapshot.entries (table_of entries) says;
         sent = its.sealed.was_sent;
         same_version = its.sealed.for_version ∙ taken.version ∙ taken.has.seen ∙ sym (seen_is m f w silo node here);
         covered =
@@ -60,8 +62,8 @@ module _ (m : Setting) (f : World) (w : protocol.World) (silo : Silo) (node : No
             its.sealed.covers h (lt_true h circle both_are.1) both_are.0;
         entries = λ grain part. refl;
       } in
-      let later = settled_world m f w silo node here letter.version page.range taken.piece taken.has waits snapshot.entries (table_of entries) says in
+      let later = settled_world m w silo node it letter.version page.range taken.piece taken.has waits snapshot.entries (table_of entries) says in
       let node_then = with_settled node page.range (table_of entries) in
       acts m w silo (answering letter node_then (Done_letter page.range) effect.Installed) (Install x snapshot) may refl
-      (node_settled m f w silo node here letter.version page.range taken.piece taken.has waits snapshot.entries (table_of entries) says)
+      (node_settled m w silo node it letter.version page.range taken.piece taken.has waits snapshot.entries (table_of entries) says)
       (one_letter (IsShownLetter m.hash later) (answer_to letter node_then (Done_letter page.range)) tt)

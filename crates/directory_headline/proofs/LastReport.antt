@@ -12,7 +12,7 @@ use Rattle.directory_protocol.specs.Letters as letters
 use Rattle.directory_protocol.specs.World as protocol
 use Rattle.directory_protocol.specs.Actions.{Recover, MayRecover}
 use Rattle.directory_rules.specs.declared.effect.Effect.TheVariants as effect
-use Rattle.directory_rules.specs.State.{Table, Report, Recovery, Letter, Node, World}
+use Rattle.directory_rules.specs.State.{Table, Report, Recovery, Letter, Node}
 use Rattle.directory_rules.specs.Table.{entry_at}
 use Rattle.directory_rules.specs.Standing.{stands_behind}
 use Rattle.directory_rules.specs.Recovery.{Has_union, is_among, told_by, with_last, recovered}
@@ -22,11 +22,11 @@ use Rattle.directory_rules.specs.Step.{silently}
 use Rattle.directory_rules.specs.Transfer.{with_settled}
 use Rattle.directory_facts.proofs.Ways.{IsReportTaken}
 use Rattle.directory_facts.proofs.Collected.{TakenSo, taken_so}
-use Rattle.directory_headline.specs.Shown.{IsShownLetter, IsShownRecovery, HasTold, activation_in}
+use Rattle.directory_headline.specs.Shown.{IsShownLetter, IsShownReport, IsShownRecovery, HasTold, activation_in}
 use Rattle.directory_headline.proofs.SettledPiece.{settling, settled_world, may_settle, node_settled}
-use Rattle.directory_headline.proofs.Reports.{report_shown}
 use Rattle.directory_headline.proofs.Tellings.{last_shown}
-use Rattle.directory_headline.proofs.Frame.{Here, Comes, Moves, acts, seen_is, no_letters}
+use Rattle.directory_headline.proofs.Stands.{Stands}
+use Rattle.directory_headline.proofs.Frame.{Moves, acts, no_letters}
 
 some_entry : (o : Option Entry) (a : ActivationId) → activation_in o ≡ Some a → (e : Entry) × (o ≡ Some e) × (e.activation ≡ a)
 some_entry None a is = absurd (cc (is))
@@ -61,28 +61,28 @@ module _ (m : Setting) (sent : List letters.Report) (recovery : Recovery) (shown
   unfolding told
   told_is P silo grain member so = told_so P silo grain (λ is. so (reported silo grain is)) (m.member recovery.version silo) refl member
 
-module _ (m : Setting) (f : World) (w : protocol.World) (silo : Silo) (node : Node) (here : Here m f w silo node) (letter : Letter)
-    (report : Report) (taken : IsReportTaken node letter report) (comes : Comes m f w silo letter) where
+module _ (m : Setting) (w : protocol.World) (silo : Silo) (node : Node) (stands : Stands m w silo node) (letter : Letter) (report : Report)
+    (taken : IsReportTaken node letter report) (is_shown : IsShownReport m.hash w.reports report) where
   pub completes : (table : Table) → recovered (recovery_of node report.range) report ≡ Has_union table
       → Moves m w silo (silently (with_settled node report.range table) effect.Complete)
   completes table is =
       let before = recovery_of node report.range in
       let so : TakenSo before report (Has_union table) = subst (TakenSo before report) is (taken_so before report) in
       let all : Recovery = with_last before report in
-      let shown : IsShownRecovery m w.reports all = last_shown m f w silo node here letter report taken comes so.0 so.1 in
+      let shown : IsShownRecovery m w.reports all = last_shown m w silo node stands letter report taken is_shown so.0 so.1 in
       let union : table ≡ all.gathered = so.3 in
-      let tell = told m w.reports all shown so.2 (report_shown m f w silo node here letter report taken comes).told in
+      let tell = told m w.reports all shown so.2 is_shown.told in
       let range = report.range in
       let same_range : range ≡ all.range = so.0.range in
-      let version : w.seen silo ≡ all.version = seen_is m f w silo node here ∙ sym taken.has.seen ∙ sym taken.version ∙ so.0.version in
+      let version : w.seen silo ≡ all.version = stands.shown.seen ∙ sym taken.has.seen ∙ sym taken.version ∙ so.0.version in
       let waits : is_settled taken.piece.state ≡ false = ap is_settled taken.recovers in
       let entries = λ (grain : Grain). activation_in (entry_at grain table) in
       let says = λ (grain : Grain) (held : holds range (m.hash grain) ≡ true). refl in
-      let x = settling m f w silo node here letter.version range taken.piece taken.has waits entries table says in
+      let x = settling m w silo node stands letter.version range taken.piece taken.has waits entries table says in
       let member = λ (r : Silo) (is : m.member (w.seen silo) r ≡ true). ap (λ v. m.member v r) (sym version) ∙ is in
       let found = λ (grain : Grain) (e : Entry) (at : entry_at grain table ≡ Some e). ap (entry_at grain) (sym union) ∙ at in
       let may : MayRecover m w x tell = record {
-        settles = may_settle m f w silo node here letter.version range taken.piece taken.has waits entries table says;
+        settles = may_settle m w silo node stands letter.version range taken.piece taken.has waits entries table says;
         sent = λ r g is. told_is m w.reports all shown so.2 _ (λ t. letters.Sent t w.reports) r g (member r is) (λ had. had.was_sent);
         same_version =
             λ r g is. told_is m w.reports all shown so.2 _ (λ t. t.version ≡ w.seen silo) r g (member r is)
@@ -106,7 +106,7 @@ module _ (m : Setting) (f : World) (w : protocol.World) (silo : Silo) (node : No
             (λ had its. had.complete count (ap (λ s. holds s (m.hash grain)) (sym same_range) ∙ lies) its) firm in
             (there.0.activation, ap activation_in (ap (entry_at grain) union ∙ there.1));
       } in
-      let later = settled_world m f w silo node here letter.version range taken.piece taken.has waits entries table says in
+      let later = settled_world m w silo node stands letter.version range taken.piece taken.has waits entries table says in
       acts m w silo (silently (with_settled node range table) effect.Complete) (Recover x tell) may refl
-      (node_settled m f w silo node here letter.version range taken.piece taken.has waits entries table says)
+      (node_settled m w silo node stands letter.version range taken.piece taken.has waits entries table says)
       (no_letters (IsShownLetter m.hash later))

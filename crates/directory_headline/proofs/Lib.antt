@@ -36,6 +36,7 @@ pub mod HighHashes
 pub mod Promises
 pub mod TableEntries
 pub mod PieceSet
+pub mod Stands
 pub mod SettledPiece
 pub mod PlainWays
 pub mod PlainSilo
@@ -47,6 +48,7 @@ pub mod Awaited
 pub mod Reports
 pub mod Tellings
 pub mod LastReport
+pub mod Empties
 pub mod HashPieces
 pub mod NewRecoveries
 pub mod SameTables

@@ -22,7 +22,8 @@ use Rattle.directory_facts.proofs.Entries.{all_put, all_removed}
 use Rattle.directory_facts.proofs.Ways.{HasPiece}
 use Rattle.directory_headline.specs.SiloState.{state_of}
 use Rattle.directory_headline.specs.Shown.{activation_in, IsShownHolding, IsShownLetter, IsShownGathering, IsShownRecovery}
-use Rattle.directory_headline.proofs.Frame.{Here, Moves, stays, node_shown}
+use Rattle.directory_headline.proofs.Frame.{Here, Moves, stays}
+use Rattle.directory_headline.proofs.Stands.{stands}
 use Rattle.directory_headline.proofs.SettledPiece.{grain_below, changed_has, others_have, settled_changed}
 use Rattle.directory_headline.proofs.NewRecoveries.{recovery_begins}
 
@@ -30,17 +31,18 @@ module _ (m : Setting) (f : World) (w : protocol.World) (silo : Silo) (node : No
   holding_turned : (version : ℕ) (range : Range) (piece : Piece) → HasPiece node version range piece → is_settled piece.state ≡ false
       → IsShownHolding m.hash (with_state node range state.Recovering []).holding (state_of w silo)
   holding_turned version range piece has waits =
-      let was = (node_shown m f w silo node here).holding in
+      let it = stands m f w silo node here in
+      let was = it.shown.holding in
       record {
-        settled = λ h. was.settled h ∙ sym (settled_changed m f w silo node here version range piece has state.Recovering [] (sym waits) h);
+        settled = λ h. was.settled h ∙ sym (settled_changed m w silo node it version range piece has state.Recovering [] (sym waits) h);
         table = λ grain its found is.
             on_bool (λ b. holds range (m.hash grain) ≡ b → w.table silo grain ≡ activation_in (entry_at grain its.entries))
             (holds range (m.hash grain))
             (λ t held.
-            let changed = sym (changed_has m f w silo node here version range piece has state.Recovering [] (m.hash grain) (grain_below m f w silo node here grain) held) ∙ found in
+            let changed = sym (changed_has m w silo node it version range piece has state.Recovering [] (m.hash grain) (grain_below m f w silo node here grain) held) ∙ found in
             let its_state : state.Recovering ≡ its.state = ap (state_or state.Recovering) changed in
             absurd (cc (its_state ∙ is)))
-            (λ no apart. was.table grain its (sym (others_have m f w silo node here version range piece has state.Recovering []
+            (λ no apart. was.table grain its (sym (others_have m w silo node it version range piece has state.Recovering []
             (m.hash grain) apart) ∙ found) is) refl;
         served = was.served;
       }
@@ -52,7 +54,8 @@ module _ (m : Setting) (f : World) (w : protocol.World) (silo : Silo) (node : No
   pub turns : (letter : Letter) (range : Range) (piece : Piece) → HasPiece node letter.version range piece
       → piece.state ≡ state.Awaiting letter.from → Moves m w silo (querying range (turned_to_recovery node range))
   turns letter range piece has awaits =
-      let was = node_shown m f w silo node here in
+      let it = stands m f w silo node here in
+      let was = it.shown in
       let its = turned_to_recovery node range in
       stays m w silo (querying range its) (record {
         seen = was.seen;
@@ -65,5 +68,5 @@ module _ (m : Setting) (f : World) (w : protocol.World) (silo : Silo) (node : No
         recoveries =
             all_put nat_cmp exact_unsigned (λ (e : ℕ × Recovery). IsShownRecovery m w.reports e.1) range.start
             (new_recovery node.view range) node.recoveries was.recoveries
-            (recovery_begins m f w silo node here range);
+            (recovery_begins m w silo node it range);
       }) (All-map (IsShownLetter m.hash w) (query_to its range) (recovery_of its range).awaiting (λ k d below. tt))

@@ -15,9 +15,10 @@ use Rattle.directory_rules.specs.declared.act.Act.TheVariants as act
 use Rattle.directory_rules.specs.declared.act.Request.{Request}
 use Rattle.directory_rules.specs.declared.reply.Reply.{Reply}
 use Rattle.directory_rules.specs.declared.reply.Reply.TheVariants as reply
-use Rattle.directory_rules.specs.State.{Snapshot, Page, Gathering, Whole, Report, Recovery, Letter, Body, Request_letter, Reply_letter, Ask_letter, Page_letter, Missing_letter, Done_letter, Query_letter, Report_letter, Behind_letter, Ahead_letter, Offer_letter, Node}
+use Rattle.directory_rules.specs.State.{Snapshot, Page, Gathering, Whole, Report, Recovery, Letter, Body, Request_letter, Reply_letter, Ask_letter, Page_letter, Missing_letter, Done_letter, Query_letter, Report_letter, Survey_letter, Empty_letter, Behind_letter, Ahead_letter, Offer_letter, Node}
+use Rattle.directory_rules.specs.Transfer.{nothing_in}
 use Rattle.directory_headline.specs.SiloState.{SiloState}
-use Rattle.directory_headline.specs.Shown.{HasSealed, IsShownSnapshot, IsShownPage, IsShownWhole, IsShownGathering, IsShownReport, HasTold, IsShownRecovery, IsShownRequest, IsShownReply, IsShownBody, IsShownLetter, IsShownNode}
+use Rattle.directory_headline.specs.Shown.{HasSealed, IsShownSnapshot, IsShownPage, IsShownWhole, IsShownGathering, IsShownReport, IsShownEmpty, HasTold, IsShownRecovery, IsShownRequest, IsShownReply, IsShownBody, IsShownLetter, IsShownNode}
 use Rattle.directory_headline.proofs.Actors.{Grows}
 
 module _ (hash : Grain → ℕ) (sent more : List letters.Snapshot) (grows : (x : letters.Snapshot) → Sent x sent → Sent x more) where
@@ -96,6 +97,12 @@ module _ (m : Setting) (w later : World) (grows : Grows w later) where
   reply_still letter number reply.Nothing x = tt
   reply_still letter number (reply.Retry why) x = tt
 
+  pub empties_still : (letter : Letter) (ranges : List Range) → All (IsShownEmpty m.hash w.reports letter) ranges
+      → All (IsShownEmpty m.hash later.reports letter) ranges
+  empties_still letter ranges all =
+      All-weaker (IsShownEmpty m.hash w.reports letter) (IsShownEmpty m.hash later.reports letter)
+      (λ range is. report_still m w.reports later.reports grows.reports (nothing_in letter range) is) ranges all
+
   body_still : (letter : Letter) (body : Body) → IsShownBody m.hash w letter body → IsShownBody m.hash later letter body
   body_still letter (Request_letter request) x = request_still request request.act x
   body_still letter (Reply_letter number answer) x = reply_still letter number answer x
@@ -105,6 +112,8 @@ module _ (m : Setting) (w later : World) (grows : Grows w later) where
   body_still letter (Done_letter range) x = tt
   body_still letter (Query_letter range after) x = tt
   body_still letter (Report_letter report) x = report_still m w.reports later.reports grows.reports report x
+  body_still letter (Survey_letter ranges) x = tt
+  body_still letter (Empty_letter ranges) x = empties_still letter ranges x
   body_still letter (Behind_letter range) x = tt
   body_still letter (Ahead_letter range) x = tt
   body_still letter (Offer_letter entry) x = grows.offers _ x

@@ -1,5 +1,5 @@
 -- Recoveries that begin: each member of the view is awaited, and nothing is gathered.
-use Rattle.std.proofs.Common.{◌≡◌, sym, ap, subst, ◌∙◌}
+use Rattle.std.proofs.Common.{◌≡◌, sym, ap, ◌∙◌}
 use Rattle.std.specs.Prelude.{◌||◌, not, true, false}
 use Rattle.silo_address.specs.Silo.{Silo}
 use Rattle.membership_view.specs.View.{ViewValue, IsByAddress}
@@ -7,11 +7,10 @@ use Rattle.ring_range.specs.Range.{Range}
 use Rattle.directory_protocol.specs.Setting.{Setting}
 use Rattle.directory_protocol.specs.World as protocol
 use Rattle.directory_rules.specs.Recovery.{new_recovery}
-use Rattle.directory_rules.specs.State.{Node, World}
+use Rattle.directory_rules.specs.State.{Node}
 use Rattle.directory_headline.specs.Setting.{is_member_in}
 use Rattle.directory_headline.specs.Shown.{IsShownRecovery}
-use Rattle.directory_headline.proofs.Settings.{view_by_address}
-use Rattle.directory_headline.proofs.Frame.{Here, node_facts, member_is}
+use Rattle.directory_headline.proofs.Stands.{Stands}
 use Rattle.directory_headline.proofs.Members.{members_are}
 
 -- a recovery that begins, at a view of the setting
@@ -28,9 +27,6 @@ new_recovery_shown m w view range by_address members = record {
 }
 
 -- at the view that a silo has seen
-pub recovery_begins : (m : Setting) (f : World) (w : protocol.World) (silo : Silo) (node : Node) → Here m f w silo node → (range : Range)
+pub recovery_begins : (m : Setting) (w : protocol.World) (silo : Silo) (node : Node) → Stands m w silo node → (range : Range)
     → IsShownRecovery m w.reports (new_recovery node.view range)
-recovery_begins m f w silo node here range =
-    new_recovery_shown m w node.view range
-    (subst IsByAddress (sym (node_facts m f w silo node here).sees.view_is)
-    (view_by_address f.views node.view.version here.facts.peopled.whole)) (member_is m f w silo node here)
+recovery_begins m w silo node stands range = new_recovery_shown m w node.view range stands.by_address stands.members

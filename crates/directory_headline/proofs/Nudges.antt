@@ -22,9 +22,10 @@ use Rattle.directory_rules.specs.declared.piece_state.PieceState.{PieceState}
 use Rattle.directory_rules.specs.declared.piece_state.PieceState.TheVariants as state
 use Rattle.directory_rules.specs.State.{Host, Piece, Letter, Node, World}
 use Rattle.directory_rules.specs.Host.{grain_of, held_acts, find_acts, act_in, entry_of, outstanding, new_number, renewed, requests_about, new_number_about, renewed_about}
-use Rattle.directory_rules.specs.Sent.{request_of, request_letters, all_requests, requests_of_grain, recovery_of, wants_by, all_wants, query_to}
+use Rattle.directory_rules.specs.Sent.{request_of, request_letters, all_requests, requests_of_grain, recovery_of, wants_by, all_wants, new_wants, query_to}
 use Rattle.directory_rules.specs.Step.{having_nudged, having_nudged_grain, nudge_ranges}
 use Rattle.directory_facts.proofs.Entries.{all_put}
+use Rattle.directory_facts.proofs.Surveys.{all_new_wants}
 use Rattle.directory_headline.specs.Shown.{IsShownLetter, IsShownRequest}
 use Rattle.directory_headline.proofs.Actors.{leaves_run}
 use Rattle.directory_headline.proofs.Frame.{Here, Moves, stays, alive, node_facts, node_shown, host_is, seen_is, no_letters, one_letter}
@@ -121,6 +122,9 @@ module _ (m : Setting) (later : protocol.World) (node : Node) where
 
   pub all_wants_shown : All (IsShownLetter m.hash later) (all_wants node)
   all_wants_shown = pieces_shown node.holding.pieces
+
+  pub new_wants_shown : All (IsShownLetter m.hash later) (new_wants node)
+  new_wants_shown = all_new_wants (IsShownLetter m.hash later) node (λ from range. tt) (λ range silo. tt) (λ silo ranges. tt)
 
 module _ (m : Setting) (f : World) (w : protocol.World) (silo : Silo) (node : Node) (here : Here m f w silo node) where
   -- these requests are sent anew, and there are these letters

@@ -1,6 +1,6 @@
 -- What a silo's step is to the plain machine: of the activations that the silo holds, at most one changes.
 use Rattle.std.proofs.Common.{◌≡◌, ◌≢◌, ℕ, ◌+◌, List, [], ◌∷◌, refl, sym, ap, subst, ◌∙◌}
-use Rattle.std.specs.Prelude.{Bool, true, false, cond, is_some, map, if◌then◌else◌, Option, Some, None, Result, Ok, Err, not, nat_lt, length}
+use Rattle.std.specs.Prelude.{Bool, true, false, cond, is_some, map, fold, if◌then◌else◌, Option, Some, None, Result, Ok, Err, not, nat_lt, length}
 use Rattle.std.specs.Option.{option_map}
 use Rattle.std.specs.Map.{lookup}
 use Rattle.std.specs.BTreeMap.{is_at}
@@ -20,6 +20,7 @@ use Rattle.directory_rules.specs.Host.{has_numbers, outstanding, held_of, is_ask
 use Rattle.directory_rules.specs.Sight.{is_next}
 use Rattle.directory_rules.specs.Step.{Stepped, sight}
 use Rattle.directory_rules.specs.Receive.{reply_effect, replying}
+use Rattle.directory_rules.specs.Transfer.{told_nothing}
 use Rattle.directory_rules.specs.Answer.{answered}
 use Rattle.directory_rules.specs.Input.{Input, Sees, step}
 use Rattle.directory_rules.specs.PlainMachine.{Life, Is_asking, Is_firm, Is_closing, life_by, life_of, life_on, PlainStep, Change_view, Begin, Make_firm, Yield, Begin_closing, Give_up, End, Nothing_changes, step_of_effect}
@@ -27,6 +28,7 @@ use Rattle.directory_rules.proofs.Cases.{on_bool}
 use Rattle.directory_facts.specs.Own.{HoldsOnce}
 use Rattle.directory_facts.proofs.Ways.{Ways, MayClose}
 use Rattle.directory_facts.proofs.EachStep.{by_way}
+use Rattle.directory_facts.proofs.Emptied.{leaves_else}
 use Rattle.directory_facts.proofs.Lookups.{found_set, found_beside_set, found_beside_removed, find_looked, found_at_end, found_beside_end, once_removed}
 
 -- no activation changes, and no count is used
@@ -250,6 +252,7 @@ module _ (node : Node) (once : HoldsOnce node.host) where
     lags = λ letter range. same;
     passed = λ letter range. same;
     reports = λ letter range after body seen. same;
+    surveys = λ letter first others body seen. same;
     gathers = λ letter page gathering taken is. host_same _ refl refl;
     installs = λ letter page entries taken is. host_same _ refl refl;
     drops = λ letter page gathering taken is. host_same _ refl refl;
@@ -257,6 +260,11 @@ module _ (node : Node) (once : HoldsOnce node.host) where
     continues = λ letter report recovery taken is. host_same _ refl refl;
     collects = λ letter report recovery taken is. host_same _ refl refl;
     completes = λ letter report table taken is. host_same _ refl refl;
+    empties = λ letter ranges its body plain.
+        let made = fold (told_nothing letter) node ranges in
+        let host = (leaves_else letter node ranges).host in
+        subst (λ kind. IsNodeStep node kind made) (sym plain)
+        (host_same made (ap (λ (h : Host). h.held) host) (ap (λ (h : Host). h.next_count) host));
     takes_over = λ letter entry body seen may. begins entry.grain (Some entry.activation) may.free;
   }
 

@@ -29,7 +29,8 @@ use Rattle.directory_headline.specs.Shown.{IsShownBody, IsShownReport, IsShownRe
 use Rattle.directory_headline.proofs.TableEntries.{found_own, found_holds}
 use Rattle.directory_headline.proofs.Unions.{union_stays, union_came, union_has}
 use Rattle.directory_headline.proofs.NewRecoveries.{recovery_begins}
-use Rattle.directory_headline.proofs.Frame.{Here, Comes, node_shown, hash_is}
+use Rattle.directory_headline.proofs.Stands.{Stands}
+use Rattle.directory_headline.proofs.Frame.{Comes}
 
 -- what the report's letter is known to be, in the words of the setting
 pub record IsSound (hash : Grain → ℕ) (report : Report) : Type 0 where
@@ -173,24 +174,26 @@ module _ (m : Setting) (sent : List letters.Report) (recovery : Recovery) (repor
       }
 
 -- ---- the step
-module _ (m : Setting) (f : World) (w : protocol.World) (silo : Silo) (node : Node) (here : Here m f w silo node) (letter : Letter)
-    (report : Report) (taken : IsReportTaken node letter report) (comes : Comes m f w silo letter) where
+-- a report that comes is shown
+pub report_shown :
+    (m : Setting) (f : World) (w : protocol.World) (silo : Silo) (node : Node) (letter : Letter) (report : Report)
+    → IsReportTaken node letter report → Comes m f w silo letter → IsShownReport m.hash w.reports report
+report_shown m f w silo node letter report taken comes = subst (IsShownBody m.hash w letter) taken.body comes.shown
+
+module _ (m : Setting) (w : protocol.World) (silo : Silo) (node : Node) (stands : Stands m w silo node) (letter : Letter) (report : Report)
+    (taken : IsReportTaken node letter report) where
   pub recovery_shown : IsShownRecovery m w.reports (recovery_of node report.range)
   recovery_shown =
       found_or (IsShownRecovery m w.reports) (is_at (nat_cmp report.range.start)) (new_recovery node.view report.range) node.recoveries
-      (node_shown m f w silo node here).recoveries
-      (recovery_begins m f w silo node here report.range)
-
-  pub report_shown : IsShownReport m.hash w.reports report
-  report_shown = subst (IsShownBody m.hash w letter) taken.body comes.shown
+      stands.shown.recoveries (recovery_begins m w silo node stands report.range)
 
   pub report_sound : IsSound m.hash report
   report_sound = record {
-    rises = ap (λ hash. rise_behind hash (report.range ∷ []) report.after report.entries) (hash_is m f w silo node here) ∙ taken.rise;
+    rises = ap (λ hash. rise_behind hash (report.range ∷ []) report.after report.entries) stands.hash ∙ taken.rise;
     lies = λ grain e found.
         let all = All-map (λ (x : Grain × Entry). holds report.range (hash_grain node.settings.hashing x.1.grain) ≡ true) keyed report.entries
         (all_from (λ (x : Entry). holds report.range (hash_grain node.settings.hashing x.grain)) report.entries taken.lie) in
-        ap (λ hash. holds report.range (hash grain)) (hash_is m f w silo node here)
+        ap (λ hash. holds report.range (hash grain)) stands.hash
         ∙ ap (λ g. holds report.range (hash_grain node.settings.hashing g))
         (sym (found_own grain (table_of report.entries) e (own_keys report.entries) found))
         ∙ found_holds (λ x. holds report.range (hash_grain node.settings.hashing x.1.grain) ≡ true) grain (table_of report.entries) e

@@ -1,6 +1,6 @@
 -- A piece that wasn't settled is settled: what an installation and a recovery have in common.
-use Rattle.std.proofs.Common.{arith, ◌≡◌, ℕ, ◌<◌, ◌≤◌, refl, sym, ap, subst, ◌∙◌}
-use Rattle.std.specs.Prelude.{◌&&◌, nat_lt, Bool, true, false, cond, Option, Some, count_by}
+use Rattle.std.proofs.Common.{arith, ◌≡◌, ℕ, ◌<◌, refl, sym, ap, subst, ◌∙◌}
+use Rattle.std.specs.Prelude.{◌&&◌, nat_lt, Bool, true, false, cond, Option, Some}
 use Rattle.std.specs.Ordering.{nat_cmp}
 use Rattle.std.specs.BTreeMap.{is_at}
 use Rattle.silo_address.specs.Silo.{Silo}
@@ -8,7 +8,6 @@ use Rattle.silo_address.specs.Grain.{Grain}
 use Rattle.silo_address.specs.declared.ActivationId.{ActivationId}
 use Rattle.texts.proofs.Decided.{both}
 use Rattle.ring_range.specs.Range.{circle, Range, holds}
-use Rattle.range_moves.specs.Arcs.{owner_silo}
 use Rattle.directory_protocol.specs.Setting.{Setting}
 use Rattle.directory_protocol.specs.World as protocol
 use Rattle.directory_protocol.specs.Actions.{Settling, MaySettle}
@@ -19,19 +18,17 @@ use Rattle.directory_rules.specs.declared.piece_state.PieceState.TheVariants as 
 use Rattle.directory_rules.specs.State.{Table, Piece, Gathering, Recovery, Node, World}
 use Rattle.directory_rules.specs.Table.{entry_at}
 use Rattle.directory_rules.specs.Answer.{piece_with}
-use Rattle.directory_rules.specs.Sight.{is_settled, is_owner}
+use Rattle.directory_rules.specs.Sight.{is_settled}
 use Rattle.directory_rules.specs.Transfer.{with_state, with_settled}
 use Rattle.directory_rules.proofs.Cases.{on_bool}
 use Rattle.directory_facts.proofs.Entries.{all_removed}
 use Rattle.directory_facts.proofs.Hashes.{grains_have_hashes}
 use Rattle.directory_facts.proofs.Ways.{HasPiece}
-use Rattle.directory_facts.proofs.Throughout.{some_counted}
 use Rattle.directory_headline.specs.SiloState.{state_of}
 use Rattle.directory_headline.specs.Shown.{IsShownNode, IsShownHolding, IsShownGathering, IsShownRecovery, is_settled_piece, has_settled, activation_in}
-use Rattle.directory_facts.proofs.OwnPieces.{owner_silo_is}
 use Rattle.directory_headline.proofs.PieceSet.{looked_counted, looked_found, set_found, set_elsewhere}
-use Rattle.directory_headline.proofs.Frame.{Here, node_shown, node_facts, host_is, hash_is, seen_is, owner_is, alive}
-use Rattle.directory_headline.proofs.HighHashes.{held_once}
+use Rattle.directory_headline.proofs.Stands.{Stands, stands}
+use Rattle.directory_headline.proofs.Frame.{Here}
 
 pub lt_true : (a b : ℕ) → nat_lt a b ≡ true → a < b
 lt_true a b is = grind arith
@@ -43,21 +40,15 @@ lt_from a b less = grind arith
 abbrev pub part_of_range : Range → (hash : ℕ) → Bool
 part_of_range range h = holds range h && nat_lt h circle
 
-module _ (m : Setting) (f : World) (w : protocol.World) (silo : Silo) (node : Node) (here : Here m f w silo node) where
-  -- each hash is in one piece at most
-  in_one_piece : (h : ℕ) → count_by (λ e. holds e.1.range h) node.holding.pieces ≤ 1
-  in_one_piece =
-      let facts = node_facts m f w silo node here in
-      held_once node.ring.points node.host.silo node.holding.pieces facts.once (λ k d below. (facts.pieces.each k d below).range)
-
-  pub grain_below : (grain : Grain) → m.hash grain < circle
-  grain_below grain =
-      subst (λ hash. hash grain < circle) (sym (hash_is m f w silo node here)) (grains_have_hashes node.settings.hashing grain)
+module _ (m : Setting) (w : protocol.World) (silo : Silo) (node : Node) (stands : Stands m w silo node) where
+  -- the hash of a grain is a hash
+  hash_below : (grain : Grain) → m.hash grain < circle
+  hash_below grain = subst (λ hash. hash grain < circle) (sym stands.hash) (grains_have_hashes node.settings.hashing grain)
 
   pub part_grain : (range : Range) (grain : Grain) → part_of_range range (m.hash grain) ≡ holds range (m.hash grain)
   part_grain range grain =
       on_bool (λ b. (b && nat_lt (m.hash grain) circle) ≡ b) (holds range (m.hash grain))
-      (λ t. lt_from (m.hash grain) circle (grain_below grain)) (λ f. refl)
+      (λ t. lt_from (m.hash grain) circle (hash_below grain)) (λ f. refl)
 
   module _ (version : ℕ) (range : Range) (piece : Piece) (has : HasPiece node version range piece) where
     held_by_piece : (h : ℕ) → holds range h ≡ true → holds piece.range h ≡ true
@@ -67,13 +58,10 @@ module _ (m : Setting) (f : World) (w : protocol.World) (silo : Silo) (node : No
     owns_piece : (h : ℕ) → h < circle → holds range h ≡ true → m.owner (w.seen silo) h ≡ Some silo
     owns_piece h below held =
         let counted = looked_counted range.start h node.holding.pieces piece has.found (held_by_piece h held) in
-        let owner = some_counted (is_owner node.host.silo (owner_silo node.ring.points h)) _ ((node_facts m f w silo node here).once h below) counted in
-        ap (λ v. m.owner v h) (seen_is m f w silo node here) ∙ owner_is m f w silo node here h
-        ∙ owner_silo_is node.host.silo (owner_silo node.ring.points h) owner
-        ∙ ap Some (host_is m f w silo node here)
+        ap (λ v. m.owner v h) stands.shown.seen ∙ stands.owns h below counted
 
     piece_has : (h : ℕ) → h < circle → holds range h ≡ true → piece_with h node.holding.pieces ≡ Some piece
-    piece_has h below held = looked_found range.start h node.holding.pieces piece has.found (held_by_piece h held) (in_one_piece h)
+    piece_has h below held = looked_found range.start h node.holding.pieces piece has.found (held_by_piece h held) (stands.in_one h)
 
     -- the piece with another state and table
     abbrev changed : PieceState → Table → Piece
@@ -83,7 +71,7 @@ module _ (m : Setting) (f : World) (w : protocol.World) (silo : Silo) (node : No
         → piece_with h (with_state node range its table).holding.pieces ≡ Some (changed its table)
     changed_has its table h below held =
         set_found range.start h node.holding.pieces piece (changed its table) has.found (sym has.same) (held_by_piece h held)
-        (in_one_piece h)
+        (stands.in_one h)
 
     pub others_have : (its : PieceState) (table : Table) (h : ℕ) → holds range h ≡ false
         → piece_with h (with_state node range its table).holding.pieces ≡ piece_with h node.holding.pieces
@@ -141,11 +129,11 @@ module _ (m : Setting) (f : World) (w : protocol.World) (silo : Silo) (node : No
 
       pub may_settle : MaySettle m w settling
       may_settle = record {
-        alive = alive m f w silo node here;
+        alive = stands.lives;
         owned = λ h is. let so = both (holds range h) (nat_lt h circle) is in owns_piece h (lt_true h circle so.1) so.0;
         unsettled = λ h is.
             let so = both (holds range h) (nat_lt h circle) is in
-            (node_shown m f w silo node here).holding.settled h
+            stands.shown.holding.settled h
             ∙ ap (λ p. is_settled_piece p && nat_lt h circle) (piece_has h (lt_true h circle so.1) so.0)
             ∙ ap (λ b. b && nat_lt h circle) waits;
       }
@@ -155,7 +143,7 @@ module _ (m : Setting) (f : World) (w : protocol.World) (silo : Silo) (node : No
 
       holding_settled : IsShownHolding m.hash (with_settled node range table).holding (state_of settled_world silo)
       holding_settled =
-          let was = (node_shown m f w silo node here).holding in
+          let was = stands.shown.holding in
           record {
             settled = λ h.
                 ap (λ s. s h) (put_same silo (λ k. cond (part_of_range range k) true (w.settled silo k)) w.settled)
@@ -166,7 +154,7 @@ module _ (m : Setting) (f : World) (w : protocol.World) (silo : Silo) (node : No
                 ∙ on_bool (λ b. holds range (m.hash grain) ≡ b
                 → cond b (entries grain) (w.table silo grain) ≡ activation_in (entry_at grain its.entries)) (holds range (m.hash grain))
                 (λ t held.
-                let one : Some (changed state.Settled table) ≡ Some its = sym (changed_has state.Settled table (m.hash grain) (grain_below grain) held) ∙ found in
+                let one : Some (changed state.Settled table) ≡ Some its = sym (changed_has state.Settled table (m.hash grain) (hash_below grain) held) ∙ found in
                 let same : changed state.Settled table ≡ its = cc (one) in
                 says grain held ∙ ap (λ (p : Piece). activation_in (entry_at grain p.entries)) same)
                 (λ f apart. was.table grain its (sym (others_have state.Settled table (m.hash grain) apart) ∙ found) is) refl;
@@ -176,7 +164,7 @@ module _ (m : Setting) (f : World) (w : protocol.World) (silo : Silo) (node : No
       -- the node with the piece settled
       pub node_settled : IsShownNode m settled_world (with_settled node range table) (state_of settled_world silo)
       node_settled =
-          let was = node_shown m f w silo node here in
+          let was = stands.shown in
           record {
             seen = was.seen;
             host = record { held = was.host.held; next_number = was.host.next_number; next_count = was.host.next_count };
@@ -189,3 +177,8 @@ module _ (m : Setting) (f : World) (w : protocol.World) (silo : Silo) (node : No
                 all_removed (λ (e : ℕ × Recovery). IsShownRecovery m w.reports e.1) (is_at (nat_cmp range.start)) node.recoveries
                 was.recoveries;
           }
+
+pub grain_below :
+    (m : Setting) (f : World) (w : protocol.World) (silo : Silo) (node : Node) → Here m f w silo node → (grain : Grain)
+    → m.hash grain < circle
+grain_below m f w silo node here = hash_below m w silo node (stands m f w silo node here)

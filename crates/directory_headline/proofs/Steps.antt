@@ -16,13 +16,16 @@ use Rattle.directory_headline.proofs.Finds.{finds}
 use Rattle.directory_headline.proofs.Beginnings.{wakes, takes_over}
 use Rattle.directory_headline.proofs.Closes.{closes, cancels, offers}
 use Rattle.directory_headline.proofs.Replies.{confirms, yields, removes, misses}
-use Rattle.directory_headline.proofs.Queries.{reports}
+use Rattle.directory_headline.proofs.Queries.{reports, surveys}
 use Rattle.directory_headline.proofs.Requests.{answers}
 use Rattle.directory_headline.proofs.Pages.{hands, gathers, drops}
 use Rattle.directory_headline.proofs.LastPage.{installs}
 use Rattle.directory_headline.proofs.MissingSnapshot.{turns}
 use Rattle.directory_headline.proofs.Tellings.{continues, collects}
+use Rattle.directory_headline.proofs.Stands.{stands}
+use Rattle.directory_headline.proofs.Reports.{report_shown}
 use Rattle.directory_headline.proofs.LastReport.{completes}
+use Rattle.directory_headline.proofs.Empties.{empties}
 use Rattle.directory_headline.proofs.Nudges.{nudges, nudges_grain, nudges_ranges}
 use Rattle.directory_headline.proofs.SightSteps.{sees}
 
@@ -60,13 +63,21 @@ ways m f w silo node here = record {
   lags = λ letter range brings. answers_so m f w silo node here letter (Behind_letter range) effect.Behind tt;
   passed = λ letter range brings. answers_so m f w silo node here letter (Ahead_letter range) effect.Ahead tt;
   reports = λ letter range after body seen brings. reports m f w silo node here letter range after;
+  surveys = λ letter first others body seen brings. surveys m f w silo node here letter first others seen;
   gathers = λ letter page gathering taken is brings. gathers m f w silo node here letter page taken brings gathering is;
   installs = λ letter page entries taken is brings. installs m f w silo node here letter page taken brings entries is;
   drops = λ letter page gathering taken is brings. drops m f w silo node here letter page taken brings gathering is;
   turns = λ letter range piece body has awaits brings. turns m f w silo node here letter range piece has awaits;
-  continues = λ letter report recovery taken is brings. continues m f w silo node here letter report taken brings recovery is;
-  collects = λ letter report recovery taken is brings. collects m f w silo node here letter report taken brings recovery is;
-  completes = λ letter report table taken is brings. completes m f w silo node here letter report taken brings table is;
+  continues =
+      λ letter report recovery taken is brings. continues m w silo node (stands m f w silo node here) letter report taken
+      (report_shown m f w silo node letter report taken brings) recovery is;
+  collects =
+      λ letter report recovery taken is brings. collects m w silo node (stands m f w silo node here) letter report taken
+      (report_shown m f w silo node letter report taken brings) recovery is;
+  completes =
+      λ letter report table taken is brings. completes m w silo node (stands m f w silo node here) letter report taken
+      (report_shown m f w silo node letter report taken brings) table is;
+  empties = λ letter ranges its body plain brings. empties m f w silo node here letter ranges its body brings;
   takes_over = λ letter entry body seen may brings. takes_over m f w silo node here letter entry body seen may brings;
 }
 

@@ -18,7 +18,7 @@ use Rattle.directory_protocol.specs.World as protocol
 use Rattle.directory_protocol.proofs.Changes.{silo_cases}
 use Rattle.directory_rules.specs.declared.effect.Effect.TheVariants as effect
 use Rattle.directory_rules.specs.Table.{table_of}
-use Rattle.directory_rules.specs.State.{Report, Recovery, Letter, Node, World}
+use Rattle.directory_rules.specs.State.{Report, Recovery, Letter, Node}
 use Rattle.directory_rules.specs.Standing.{stands_behind, last_grain}
 use Rattle.directory_rules.specs.Recovery.{Has_more, Awaits_more, is_among, told_by, told_to, with_more, with_last, recovered}
 use Rattle.directory_rules.specs.Sent.{query_to, recovery_of}
@@ -35,8 +35,9 @@ use Rattle.directory_headline.specs.SiloState.{state_of}
 use Rattle.directory_headline.specs.Shown.{IsShownLetter, IsShownNode, IsShownReport, IsShownRecovery, has_told, tells_of}
 use Rattle.directory_headline.proofs.Awaited.{among_rest, not_gone, others_as_before}
 use Rattle.directory_headline.proofs.TableEntries.{found_holds}
-use Rattle.directory_headline.proofs.Reports.{IsSound, rises, told_then, GoesOn, next_shown, recovery_shown, report_shown, report_sound}
-use Rattle.directory_headline.proofs.Frame.{Here, Comes, Moves, stays, node_shown, no_letters, one_letter}
+use Rattle.directory_headline.proofs.Reports.{IsSound, rises, told_then, GoesOn, next_shown, recovery_shown, report_sound}
+use Rattle.directory_headline.proofs.Stands.{Stands}
+use Rattle.directory_headline.proofs.Frame.{Moves, stays, no_letters, one_letter}
 
 -- where nothing was the last, nothing was in front
 last_none : (after : Option Grain) (es : List Entry) → last_grain after es ≡ None → after ≡ None
@@ -183,26 +184,26 @@ module _ (m : Setting) (sent : List letters.Report) (recovery : Recovery) (repor
       (told_to report.silo last recovery.told) more_goes_on
 
 -- ---- the steps
-module _ (m : Setting) (f : World) (w : protocol.World) (silo : Silo) (node : Node) (here : Here m f w silo node) (letter : Letter)
-    (report : Report) (taken : IsReportTaken node letter report) (comes : Comes m f w silo letter) where
+module _ (m : Setting) (w : protocol.World) (silo : Silo) (node : Node) (stands : Stands m w silo node) (letter : Letter) (report : Report)
+    (taken : IsReportTaken node letter report) (is_shown : IsShownReport m.hash w.reports report) where
   abbrev before : Recovery
   before = recovery_of node report.range
 
   pub last_shown : IsTaken before report → report.last ≡ true → IsShownRecovery m w.reports (with_last before report)
   last_shown is last =
-      with_last_shown m w.reports before report (recovery_shown m f w silo node here letter report taken comes) is
-      (report_sound m f w silo node here letter report taken comes) (report_shown m f w silo node here letter report taken comes) last
+      with_last_shown m w.reports before report (recovery_shown m w silo node stands letter report taken) is
+      (report_sound m w silo node stands letter report taken) is_shown last
 
   pub more_shown : IsTaken before report → IsShownRecovery m w.reports (with_more before report)
   more_shown is =
-      with_more_shown m w.reports before report (recovery_shown m f w silo node here letter report taken comes) is
-      (report_sound m f w silo node here letter report taken comes) (report_shown m f w silo node here letter report taken comes)
+      with_more_shown m w.reports before report (recovery_shown m w silo node stands letter report taken) is
+      (report_sound m w silo node stands letter report taken) is_shown
 
   -- the node goes on with what is reported then
   goes_on : (recovery : Recovery) → IsShownRecovery m w.reports recovery → (stepped : Stepped) → stepped.node ≡ with_recovery node recovery
       → All (IsShownLetter m.hash w) stepped.letters → Moves m w silo stepped
   goes_on recovery shown stepped made letters =
-      let was = node_shown m f w silo node here in
+      let was = stands.shown in
       stays m w silo stepped (subst (λ n. IsShownNode m w n (state_of w silo)) (sym made) (record {
         seen = was.seen;
         host = was.host;

@@ -23,13 +23,14 @@ use Rattle.directory_rules.specs.declared.reply.Reply.TheVariants as reply
 use Rattle.directory_rules.specs.declared.piece_state.PieceState.TheVariants.{Settled}
 use Rattle.directory_rules.specs.Settings.{page_size}
 use Rattle.directory_rules.specs.Table.{entry_at, table_of, rise_by_grain}
-use Rattle.directory_rules.specs.State.{Piece, Holding, Snapshot, Page, Gathering, Whole, Report, Recovery, Host, Letter, Body, Request_letter, Reply_letter, Ask_letter, Page_letter, Missing_letter, Done_letter, Query_letter, Report_letter, Behind_letter, Ahead_letter, Offer_letter, Node, World}
+use Rattle.directory_rules.specs.State.{Piece, Holding, Snapshot, Page, Gathering, Whole, Report, Recovery, Host, Letter, Body, Request_letter, Reply_letter, Ask_letter, Page_letter, Missing_letter, Done_letter, Query_letter, Report_letter, Survey_letter, Empty_letter, Behind_letter, Ahead_letter, Offer_letter, Node, World}
 use Rattle.directory_rules.specs.Snapshot.{page_count, page_entries, digest_of}
 use Rattle.directory_rules.specs.Standing.{stands_behind, last_grain}
 use Rattle.directory_rules.specs.Recovery.{is_among, told_by}
 use Rattle.directory_rules.specs.Host.{held_of}
 use Rattle.directory_rules.specs.Answer.{piece_with, last_served}
 use Rattle.directory_rules.specs.Sight.{is_settled}
+use Rattle.directory_rules.specs.Transfer.{nothing_in}
 use Rattle.directory_rules.specs.Happens.{node_of}
 use Rattle.directory_headline.specs.SiloState.{SiloState, state_of, first_state}
 
@@ -141,6 +142,10 @@ pub record IsShownReport (hash : Grain → ℕ) (sent : List letters.Report) (re
       → told.firm grain ≡ option_map (λ e. e.activation.count) (entry_at grain (table_of report.entries))
   pub more : report.last ≡ false → HasMore hash told report
 
+-- what a letter of empty ranges says of one of them: as if it reported nothing there
+abbrev pub IsShownEmpty : (hash : Grain → ℕ) → List letters.Report → Letter → Range → Type 0
+IsShownEmpty hash sent letter range = IsShownReport hash sent (nothing_in letter range)
+
 -- whether the silo has told of the grain: it is awaited no more, or the grain doesn't stand behind the one up to which it has told
 abbrev pub has_told : (hash : Grain → ℕ) → Recovery → Silo → Grain → Bool
 has_told hash recovery silo grain =
@@ -212,6 +217,8 @@ IsShownBody hash w letter (Missing_letter range) = ⊤
 IsShownBody hash w letter (Done_letter range) = ⊤
 IsShownBody hash w letter (Query_letter range after) = ⊤
 IsShownBody hash w letter (Report_letter report) = IsShownReport hash w.reports report
+IsShownBody hash w letter (Survey_letter ranges) = ⊤
+IsShownBody hash w letter (Empty_letter ranges) = All (IsShownEmpty hash w.reports letter) ranges
 IsShownBody hash w letter (Behind_letter range) = ⊤
 IsShownBody hash w letter (Ahead_letter range) = ⊤
 IsShownBody hash w letter (Offer_letter entry) = Sent (offer_as letter entry) w.offers

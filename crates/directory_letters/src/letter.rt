@@ -39,6 +39,10 @@ pub enum Body {
     },
     /// The first of what a silo has firm there.
     Report(Report),
+    /// The new owner of ranges to any silo, for what that has firm in each of them, from its start on.
+    Survey(Vec<RingRange>),
+    /// Those of the ranges in which a silo has nothing firm.
+    Empty(Vec<RingRange>),
     /// The asked silo has not seen the version yet.
     Behind(RingRange),
     /// The asked silo has passed the version.
@@ -70,6 +74,8 @@ impl Body {
                 after: *after,
             }),
             Body::Report(report) => Ok(Body::Report(report.copy()?)),
+            Body::Survey(ranges) => Ok(Body::Survey(ranges.clone()?)),
+            Body::Empty(ranges) => Ok(Body::Empty(ranges.clone()?)),
             Body::Behind(range) => Ok(Body::Behind(*range)),
             Body::Ahead(range) => Ok(Body::Ahead(*range)),
             Body::Offer(entry) => Ok(Body::Offer(*entry)),
@@ -107,6 +113,8 @@ impl Body {
                 },
             ) => { range.same(its) && same_grain(*after, *other) }
             (Body::Report(report), Body::Report(its)) => report.same(its),
+            (Body::Survey(ranges), Body::Survey(its)) => same_ranges(ranges, its),
+            (Body::Empty(ranges), Body::Empty(its)) => same_ranges(ranges, its),
             (Body::Behind(range), Body::Behind(its)) => range.same(its),
             (Body::Ahead(range), Body::Ahead(its)) => range.same(its),
             (Body::Offer(entry), Body::Offer(its)) => entry.same(its),
@@ -189,6 +197,8 @@ impl Letter {
             Body::Done(_) => LetterKind::Done,
             Body::Query { .. } => LetterKind::Query,
             Body::Report(_) => LetterKind::Report,
+            Body::Survey(_) => LetterKind::Survey,
+            Body::Empty(_) => LetterKind::Empty,
             Body::Behind(_) => LetterKind::Behind,
             Body::Ahead(_) => LetterKind::Ahead,
             Body::Offer(_) => LetterKind::Offer,
@@ -217,6 +227,13 @@ impl Letter {
             && self.version == other.version
             && self.body.same(&other.body)
     }
+}
+
+// Whether both are the same ranges, in the same order.
+fn same_ranges(one: &[RingRange], other: &[RingRange]) -> bool
+    ensures { IsTrue result ↔ (one.now ≡ other.now) }
+{
+    *one == *other
 }
 
 // The kind of a request's letter.

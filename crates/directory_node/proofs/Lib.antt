@@ -3,3 +3,4 @@ pub mod SightBy
 mod StatedPlaces
 mod ListedSilos
 mod ListedRows
+mod ManyRanges

@@ -1,5 +1,6 @@
 pub mod NodeModel
 pub mod Memory
+pub mod Emptied
 pub mod SightBy
 pub mod MembershipModel
 pub use Rattle.node_plans.specs.Follows

@@ -73,6 +73,14 @@ impl Node {
             }
             Change::Recovers(recovery) => self.recover(recovery),
             Change::Counts(report) => self.count(&report),
+            Change::Empties {
+                from,
+                version,
+                ranges,
+            } => {
+                self.count_empty(from, version, &ranges);
+                Ok(())
+            }
         }
     }
 

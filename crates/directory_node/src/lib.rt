@@ -21,6 +21,7 @@ mod sight;
 mod sight_change;
 mod stated;
 mod step;
+mod surveys;
 mod transfer_changes;
 mod transfers;
 

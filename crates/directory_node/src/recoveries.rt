@@ -73,7 +73,7 @@ impl Node {
     }
 
     // What is firm here in a range, behind a grain: as much as a report tells.
-    fn report_of(
+    pub(crate) fn report_of(
         &self,
         alloc: Global,
         range: RingRange,
@@ -132,7 +132,7 @@ impl Node {
     }
 
     // What would come of a report that counts.
-    fn progress_with(&self, report: &Report) -> Result<RecoveryProgress, RecoveryError>
+    pub(crate) fn progress_with(&self, report: &Report) -> Result<RecoveryProgress, RecoveryError>
         requires recovers { has_range is_recovering report.now.range (piece_at self.now report.now.range) ≡ true }
         ensures judged { IfOk result (λ progress. progress_of (recovered (recovery_of self.now report.now.range) report.now) ≡ Ok progress) }
         ensures refused { IfErr result (Refuses (recovery_of self.now report.now.range) report.now) }
@@ -184,7 +184,7 @@ impl Node {
     }
 
     // All have reported: the piece has what was gathered.
-    fn settle_recovered(&mut self, range: RingRange)
+    pub(crate) fn settle_recovered(&mut self, range: RingRange)
         requires recovers { IsTrue (has_range is_recovering range (piece_at self.old range)) }
         ensures { (recovery : RecoveryValue) → lookup (is_at (nat_cmp range.start)) self.old.recoveries ≡ Some recovery → self.new ≡ with_settled self.old range recovery.gathered }
     {
@@ -214,7 +214,7 @@ impl Node {
     }
 
     // Whether a piece of just that range recovers, at that version.
-    fn recovers(&self, version: u64, range: RingRange) -> bool
+    pub(crate) fn recovers(&self, version: u64, range: RingRange) -> bool
         ensures { result ≡ recovers self.now version range }
     {
         if version != self.view.version() {

@@ -75,18 +75,22 @@ impl Node {
             Body::Done(range) => Ok(self.plan_done(alloc, letter, *range)),
             Body::Query { range, after } => self.plan_query(alloc, letter, *range, *after),
             Body::Report(report) => self.plan_report(alloc, letter, report),
+            Body::Survey(ranges) => self.plan_survey(alloc, letter, ranges),
+            Body::Empty(ranges) => self.plan_empty(alloc, letter, ranges),
             Body::Behind(_) | Body::Ahead(_) => Ok(Plan::idle(alloc, Effect::Noted)),
             Body::Offer(entry) => self.plan_offered(alloc, letter, entry),
         }
     }
 
     /// How many letters the node sends by this letter, where it may run out of memory: by a report none, or one where its silo is
-    /// asked on, and where a snapshot is missing all silos are asked.
+    /// asked on; by a survey what it tells; by what is empty none; and where a snapshot is missing all silos are asked.
     pub fn answer_count(&self, letter: &Letter) -> usize
         ensures { result ≡ answer_count self.now letter.now letter.now.body }
     {
         match letter.body() {
             Body::Report(report) => self.report_answers(letter, report),
+            Body::Survey(ranges) => self.survey_answers(letter, ranges),
+            Body::Empty(_) => 0,
             Body::Missing(_) => member_count(&self.view),
             Body::Request(_)
             | Body::Reply { .. }

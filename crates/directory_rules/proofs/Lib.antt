@@ -11,6 +11,7 @@ pub mod Sights
 pub mod PlacesRun
 pub mod Ranges
 pub mod ReportCounts
+pub mod Emptied
 pub mod Standings
 pub mod Owned
 pub mod Reached

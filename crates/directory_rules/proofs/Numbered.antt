@@ -1,6 +1,6 @@
 -- Every step keeps the numbers of a host's requests distinct, and below the host's next number.
 use Rattle.std.proofs.Common.{arith, ◌≡◌, ◌≢◌, sym, ap, subst, ◌∙◌, ℕ, List, [], ◌∷◌, ◌+◌, ◌≤◌, ◌<◌, length, map, length-append}
-use Rattle.std.specs.Prelude.{All, AllPairs, nat_lt, ◌||◌, Bool, true, false, cond, not, ◌==◌, ◌&&◌, is_some, Option, Some, None, Result, Ok, Err, IfOk}
+use Rattle.std.specs.Prelude.{All, AllPairs, nat_lt, fold, ◌||◌, Bool, true, false, cond, not, ◌==◌, ◌&&◌, is_some, Option, Some, None, Result, Ok, Err, IfOk}
 use Rattle.std.specs.Ordering.{nat_cmp}
 use Rattle.std.specs.Map.{keys_of}
 use Rattle.std.specs.BTreeMap.{is_at}
@@ -26,7 +26,7 @@ use Rattle.directory_rules.specs.Snapshot.{ShelfAnswer, Hands_page, Has_none, Is
 use Rattle.directory_rules.specs.Gatherings.{Gathered, Wants_page, Has_all, Refuses, gathered}
 use Rattle.directory_rules.specs.Recovery.{Recovered, Has_more, Awaits_more, Has_union, Rejects, recovered}
 use Rattle.directory_rules.specs.Answer.{answered}
-use Rattle.directory_rules.specs.State.{Report, Body, Request_letter, Reply_letter, Ask_letter, Page_letter, Missing_letter, Done_letter, Query_letter, Report_letter, Behind_letter, Ahead_letter, Offer_letter, Letter, Node, Host}
+use Rattle.directory_rules.specs.State.{Report, Body, Request_letter, Reply_letter, Ask_letter, Page_letter, Missing_letter, Done_letter, Query_letter, Report_letter, Survey_letter, Empty_letter, Behind_letter, Ahead_letter, Offer_letter, Letter, Node, Host}
 use Rattle.directory_rules.specs.Step as at
 use Rattle.directory_rules.specs.Reply as re
 use Rattle.directory_rules.specs.Transfer as tr
@@ -243,6 +243,23 @@ queried true b x y z k l m = k
 queried false true x y z k l m = l
 queried false false x y z k l m = m
 
+reported : (node : Node) (letter : Letter) (report : Report) → Numbered node.host → Kept (tr.reported node letter report)
+reported node letter report is =
+    either (tr.is_report_awaited node letter report) _ _
+    (recovered_by (recovered (recovery_of node report.range) report) report node is) is
+
+surveyed : (ranges : List Range) (node : Node) (letter : Letter) → Numbered node.host → Kept (tr.surveyed node letter ranges)
+surveyed [] node letter is = is
+surveyed (first ∷ others) node letter is =
+    queried (nat_lt node.view.version letter.version) (nat_lt letter.version node.view.version)
+    (tr.answering letter node (Behind_letter first) effect.Behind) (tr.answering letter node (Ahead_letter first) effect.Ahead)
+    (record { node = node; letters = tr.tellings letter node (first ∷ others); effect = effect.Report }) is is is
+
+emptied : (letter : Letter) (ranges : List Range) (node : Node) → Numbered node.host → Numbered (fold (tr.told_nothing letter) node ranges).host
+emptied letter [] node is = is
+emptied letter (range ∷ ranges) node is =
+    emptied letter ranges (tr.told_nothing letter node range) (reported node letter (tr.nothing_in letter range) is)
+
 received : (body : Body) (node : Node) (letter : Letter) → Numbered node.host → Kept (rc.received_body body node letter)
 received (Request_letter request) node letter is =
     either (silo_eq request.sender letter.from && (request.version == letter.version))
@@ -261,9 +278,9 @@ received (Query_letter range after) node letter is =
     queried (nat_lt node.view.version letter.version) (nat_lt letter.version node.view.version)
     (tr.answering letter node (Behind_letter range) effect.Behind) (tr.answering letter node (Ahead_letter range) effect.Ahead)
     (tr.answering letter node (Report_letter (tr.report_of node range after)) effect.Report) is is is
-received (Report_letter report) node letter is =
-    either (tr.is_report_awaited node letter report) _ _
-    (recovered_by (recovered (recovery_of node report.range) report) report node is) is
+received (Report_letter report) node letter is = reported node letter report is
+received (Survey_letter ranges) node letter is = surveyed ranges node letter is
+received (Empty_letter ranges) node letter is = emptied letter ranges node is
 received (Behind_letter range) node letter is = is
 received (Ahead_letter range) node letter is = is
 received (Offer_letter entry) node letter is =

@@ -1,6 +1,6 @@
 -- Every step leaves a node's pieces what its silo owns by its ring, each hash in one of them.
-use Rattle.std.proofs.Common.{◌≡◌, refl, sym, ap, subst, ◌∙◌, ℕ, ◌<◌, List, []}
-use Rattle.std.specs.Prelude.{length, nat_lt, ◌||◌, Bool, true, false, cond, not, ◌==◌, ◌&&◌, ◌++◌, is_some, filter, All, Option, Some, None, Result, Ok, Err, IfOk}
+use Rattle.std.proofs.Common.{◌≡◌, refl, sym, ap, subst, ◌∙◌, ℕ, ◌<◌, List, [], ◌∷◌}
+use Rattle.std.specs.Prelude.{length, nat_lt, ◌||◌, Bool, true, false, cond, not, ◌==◌, ◌&&◌, ◌++◌, is_some, filter, fold, All, Option, Some, None, Result, Ok, Err, IfOk}
 use Rattle.std.specs.Ordering.{nat_cmp}
 use Rattle.std.specs.Map.{lookup}
 use Rattle.std.specs.BTreeMap.{is_at}
@@ -33,7 +33,7 @@ use Rattle.directory_rules.specs.declared.reply.Why.TheVariants.{View, OldNumber
 use Rattle.directory_rules.specs.declared.effect.Effect.TheVariants.{Ignored}
 use Rattle.directory_rules.specs.declared.effect.Effect.TheVariants as effect
 use Rattle.directory_rules.specs.Sight.{is_next, is_owner}
-use Rattle.directory_rules.specs.State.{Piece, Holding, Table, Page, Report, Body, Request_letter, Reply_letter, Ask_letter, Page_letter, Missing_letter, Done_letter, Query_letter, Report_letter, Behind_letter, Ahead_letter, Offer_letter, Letter, Node}
+use Rattle.directory_rules.specs.State.{Piece, Holding, Table, Page, Report, Body, Request_letter, Reply_letter, Ask_letter, Page_letter, Missing_letter, Done_letter, Query_letter, Report_letter, Survey_letter, Empty_letter, Behind_letter, Ahead_letter, Offer_letter, Letter, Node}
 use Rattle.directory_rules.specs.Table.{rise_by_grain, lie_in}
 use Rattle.directory_rules.specs.Snapshot.{ShelfAnswer, Hands_page, Has_none, Is_behind, has_snapshot, shelf_without}
 use Rattle.directory_rules.specs.Gatherings.{Gathered, Wants_page, Has_all, Refuses, gathered}
@@ -266,6 +266,18 @@ queried true b x y z k l m = k
 queried false true x y z k l m = l
 queried false false x y z k l m = m
 
+surveyed : (ranges : List Range) (node : Node) (letter : Letter) → Owned node → Kept (tr.surveyed node letter ranges)
+surveyed [] node letter is = is
+surveyed (first ∷ others) node letter is =
+    queried (nat_lt node.view.version letter.version) (nat_lt letter.version node.view.version)
+    (tr.answering letter node (Behind_letter first) effect.Behind) (tr.answering letter node (Ahead_letter first) effect.Ahead)
+    (record { node = node; letters = tr.tellings letter node (first ∷ others); effect = effect.Report }) is is is
+
+emptied : (letter : Letter) (ranges : List Range) (node : Node) → Owned node → Owned (fold (tr.told_nothing letter) node ranges)
+emptied letter [] node is = is
+emptied letter (range ∷ ranges) node is =
+    emptied letter ranges (tr.told_nothing letter node range) (reported node letter (tr.nothing_in letter range) is)
+
 received : (body : Body) (node : Node) (letter : Letter) → Owned node → Kept (rc.received_body body node letter)
 received (Request_letter request) node letter is = requested node letter request is
 received (Reply_letter number answer) node letter is = replied node letter.version number answer is
@@ -281,6 +293,8 @@ received (Query_letter range after) node letter is =
     (tr.answering letter node (Behind_letter range) effect.Behind) (tr.answering letter node (Ahead_letter range) effect.Ahead)
     (tr.answering letter node (Report_letter (tr.report_of node range after)) effect.Report) is is is
 received (Report_letter report) node letter is = reported node letter report is
+received (Survey_letter ranges) node letter is = surveyed ranges node letter is
+received (Empty_letter ranges) node letter is = emptied letter ranges node is
 received (Behind_letter range) node letter is = is
 received (Ahead_letter range) node letter is = is
 received (Offer_letter entry) node letter is = either (rc.takes_offer node letter entry) _ _ is is

@@ -1,6 +1,6 @@
 -- Every step leaves a node's ring and holding at the version that the node has seen.
 use Rattle.std.proofs.Common.{◌≡◌, refl, subst, ◌∙◌, ℕ}
-use Rattle.std.specs.Prelude.{length, nat_lt, ◌||◌, Bool, true, false, cond, not, ◌==◌, ◌&&◌, is_some, Option, Some, None, Result, Ok, Err, IfOk}
+use Rattle.std.specs.Prelude.{length, nat_lt, ◌||◌, List, [], ◌∷◌, fold, Bool, true, false, cond, not, ◌==◌, ◌&&◌, is_some, Option, Some, None, Result, Ok, Err, IfOk}
 use Rattle.silo_address.specs.Silo.{Silo, silo_eq}
 use Rattle.silo_address.specs.Grain.{Grain}
 use Rattle.silo_address.specs.declared.ActivationId.{ActivationId}
@@ -17,7 +17,7 @@ use Rattle.directory_rules.specs.declared.reply.Why.{Why}
 use Rattle.directory_rules.specs.declared.effect.Effect.TheVariants.{Ignored}
 use Rattle.directory_rules.specs.declared.effect.Effect.TheVariants as effect
 use Rattle.directory_rules.specs.Sight.{is_next}
-use Rattle.directory_rules.specs.State.{Piece, Holding, Report, Body, Request_letter, Reply_letter, Ask_letter, Page_letter, Missing_letter, Done_letter, Query_letter, Report_letter, Behind_letter, Ahead_letter, Offer_letter, Letter, Node}
+use Rattle.directory_rules.specs.State.{Piece, Holding, Report, Body, Request_letter, Reply_letter, Ask_letter, Page_letter, Missing_letter, Done_letter, Query_letter, Report_letter, Survey_letter, Empty_letter, Behind_letter, Ahead_letter, Offer_letter, Letter, Node}
 use Rattle.directory_rules.specs.Snapshot.{ShelfAnswer, Hands_page, Has_none, Is_behind, has_snapshot, shelf_without}
 use Rattle.directory_rules.specs.Gatherings.{Gathered, Wants_page, Has_all, Refuses, gathered}
 use Rattle.directory_rules.specs.Recovery.{Recovered, Has_more, Awaits_more, Has_union, Rejects, recovered}
@@ -157,6 +157,23 @@ queried true b x y z k l m = k
 queried false true x y z k l m = l
 queried false false x y z k l m = m
 
+reported : (node : Node) (letter : Letter) (report : Report) → IsOfOneVersion node → Kept (tr.reported node letter report)
+reported node letter report is =
+    either (tr.is_report_awaited node letter report) _ _
+    (recovered_by (recovered (recovery_of node report.range) report) report node is) is
+
+surveyed : (ranges : List Range) (node : Node) (letter : Letter) → IsOfOneVersion node → Kept (tr.surveyed node letter ranges)
+surveyed [] node letter is = is
+surveyed (first ∷ others) node letter is =
+    queried (nat_lt node.view.version letter.version) (nat_lt letter.version node.view.version)
+    (tr.answering letter node (Behind_letter first) effect.Behind) (tr.answering letter node (Ahead_letter first) effect.Ahead)
+    (record { node = node; letters = tr.tellings letter node (first ∷ others); effect = effect.Report }) is is is
+
+emptied : (letter : Letter) (ranges : List Range) (node : Node) → IsOfOneVersion node → IsOfOneVersion (fold (tr.told_nothing letter) node ranges)
+emptied letter [] node is = is
+emptied letter (range ∷ ranges) node is =
+    emptied letter ranges (tr.told_nothing letter node range) (reported node letter (tr.nothing_in letter range) is)
+
 received : (body : Body) (node : Node) (letter : Letter) → IsOfOneVersion node → Kept (rc.received_body body node letter)
 received (Request_letter request) node letter is = requested node letter request is
 received (Reply_letter number answer) node letter is = replied node letter.version number answer is
@@ -174,9 +191,9 @@ received (Query_letter range after) node letter is =
     queried (nat_lt node.view.version letter.version) (nat_lt letter.version node.view.version)
     (tr.answering letter node (Behind_letter range) effect.Behind) (tr.answering letter node (Ahead_letter range) effect.Ahead)
     (tr.answering letter node (Report_letter (tr.report_of node range after)) effect.Report) is is is
-received (Report_letter report) node letter is =
-    either (tr.is_report_awaited node letter report) _ _
-    (recovered_by (recovered (recovery_of node report.range) report) report node is) is
+received (Report_letter report) node letter is = reported node letter report is
+received (Survey_letter ranges) node letter is = surveyed ranges node letter is
+received (Empty_letter ranges) node letter is = emptied letter ranges node is
 received (Behind_letter range) node letter is = is
 received (Ahead_letter range) node letter is = is
 received (Offer_letter entry) node letter is =

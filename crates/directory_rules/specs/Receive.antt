@@ -10,11 +10,11 @@ use Rattle.directory_rules.specs.declared.effect.Effect.{Effect}
 use Rattle.directory_rules.specs.declared.effect.Effect.TheVariants as effect
 use Rattle.directory_rules.specs.Answer.{Answered, answered}
 use Rattle.directory_rules.specs.Host.{held_of, has_numbers, has_count, is_full_of_activations}
-use Rattle.directory_rules.specs.State.{Body, Request_letter, Reply_letter, Ask_letter, Page_letter, Missing_letter, Done_letter, Query_letter, Report_letter, Behind_letter, Ahead_letter, Offer_letter, Letter, Node}
+use Rattle.directory_rules.specs.State.{Body, Request_letter, Reply_letter, Ask_letter, Page_letter, Missing_letter, Done_letter, Query_letter, Report_letter, Survey_letter, Empty_letter, Behind_letter, Ahead_letter, Offer_letter, Letter, Node}
 use Rattle.directory_rules.specs.Sent.{letter_to}
 use Rattle.directory_rules.specs.Step.{Stepped, silently, started}
 use Rattle.directory_rules.specs.Reply.{replied}
-use Rattle.directory_rules.specs.Transfer.{asked, done, paged, missing, queried, reported}
+use Rattle.directory_rules.specs.Transfer.{asked, done, paged, missing, queried, reported, surveyed, emptied}
 
 -- the effect of a request that is answered so
 abbrev pub reply_effect : Reply → Effect
@@ -63,6 +63,8 @@ received_body (Missing_letter range) node letter = missing node letter range
 received_body (Done_letter range) node letter = done node letter range
 received_body (Query_letter range after) node letter = queried node letter range after
 received_body (Report_letter report) node letter = reported node letter report
+received_body (Survey_letter ranges) node letter = surveyed node letter ranges
+received_body (Empty_letter ranges) node letter = emptied node letter ranges
 received_body (Behind_letter range) node letter = silently node effect.Noted
 received_body (Ahead_letter range) node letter = silently node effect.Noted
 received_body (Offer_letter entry) node letter = offered_to node letter entry

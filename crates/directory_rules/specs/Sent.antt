@@ -1,5 +1,5 @@
 -- What a node sends: requests to owners, and what its unsettled pieces want of other silos.
-use Rattle.std.specs.Prelude.{ℕ, List, [], ◌∷◌, Option, Some, None, map, flat_map}
+use Rattle.std.specs.Prelude.{ℕ, ◌++◌, nat_le, if◌then◌else◌, List, [], ◌∷◌, Option, Some, None, length, map, flat_map}
 use Rattle.std.specs.Option.{unwrap_or}
 use Rattle.std.specs.Ordering.{nat_cmp}
 use Rattle.std.specs.Map.{lookup}
@@ -13,8 +13,9 @@ use Rattle.directory_rules.specs.declared.act.Act.{Act}
 use Rattle.directory_rules.specs.declared.act.Request.{Request}
 use Rattle.directory_rules.specs.declared.piece_state.PieceState.{PieceState}
 use Rattle.directory_rules.specs.declared.piece_state.PieceState.TheVariants.{Settled, Awaiting, Recovering}
-use Rattle.directory_rules.specs.State.{Gathering, Recovery, Body, Request_letter, Ask_letter, Query_letter, Letter, Node}
+use Rattle.directory_rules.specs.State.{Gathering, Recovery, Piece, Body, Request_letter, Ask_letter, Query_letter, Survey_letter, Letter, Node}
 use Rattle.directory_rules.specs.Gatherings.{new_gathering}
+use Rattle.directory_rules.specs.Members.{members_of}
 use Rattle.directory_rules.specs.Recovery.{new_recovery, told_by}
 use Rattle.directory_rules.specs.Host.{outstanding, requests_about, grain_of}
 
@@ -88,3 +89,35 @@ wants_by Recovering node range = query_letters node range
 -- what the unsettled pieces want, piece by piece
 abbrev pub all_wants : Node → List Letter
 all_wants node = flat_map (λ e. wants_by e.1.state node e.1.range) node.holding.pieces
+
+-- What new pieces want, of which nobody has told anything yet: one survey of the ranges that recover, in place of a query for each.
+
+-- the asks, piece by piece
+abbrev pub asks_by : PieceState → Node → Range → List Letter
+asks_by Settled node range = []
+asks_by (Awaiting from) node range = ask_letters node range from
+asks_by Recovering node range = []
+
+-- the ranges that recover, piece by piece
+abbrev pub recovering_by : PieceState → Range → List Range
+recovering_by Settled range = []
+recovering_by (Awaiting from) range = []
+recovering_by Recovering range = range ∷ []
+
+abbrev pub recovering_ranges : List (ℕ × Piece) → List Range
+recovering_ranges pieces = flat_map (λ e. recovering_by e.1.state e.1.range) pieces
+
+-- up to so many ranges are asked for one by one
+abbrev pub most_queried : ℕ
+most_queried = 2
+
+-- each silo of the view is asked for ranges: for few by a query each, else by one letter for all
+abbrev pub survey_letters : Node → List Range → List Letter
+survey_letters node ranges =
+    if nat_le (length ranges) most_queried then flat_map (query_letters node) ranges
+    else map (λ silo. letter_to silo node (Survey_letter ranges)) (members_of node.view)
+
+-- the asks, and then the surveys
+abbrev pub new_wants : Node → List Letter
+new_wants node =
+    flat_map (λ e. asks_by e.1.state node e.1.range) node.holding.pieces ++ survey_letters node (recovering_ranges node.holding.pieces)

@@ -139,6 +139,10 @@ pub data Body : Type 0 where
   -- an owner to any silo, for what it has firm behind a grain, or from the start of the range on; and the answer
   Query_letter : Range → (after : Option Grain) → Body
   Report_letter : Report → Body
+  -- an owner to any silo, for what it has firm in each of these ranges, from their starts on; and the answer: those of them in which it has
+  -- nothing, beside a report on each other one
+  Survey_letter : List Range → Body
+  Empty_letter : List Range → Body
   -- the asked silo has not seen the version yet, or has passed it
   Behind_letter : Range → Body
   Ahead_letter : Range → Body

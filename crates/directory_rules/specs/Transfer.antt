@@ -1,7 +1,7 @@
 -- What silos do with the letters of transfers and recoveries.
-use Rattle.std.specs.Prelude.{ℕ, ◌==◌, ◌&&◌, ◌||◌, nat_lt, nat_le, Bool, true, false, if◌then◌else◌, List, [], ◌∷◌, ◌++◌, length, take, Option, Some, None}
+use Rattle.std.specs.Prelude.{ℕ, ◌==◌, ◌&&◌, ◌||◌, nat_lt, nat_le, Bool, true, false, if◌then◌else◌, not, List, [], ◌∷◌, ◌++◌, length, take, map, filter, fold, Option, Some, None}
 use Rattle.std.specs.Ordering.{nat_cmp}
-use Rattle.std.specs.List.{list_all}
+use Rattle.std.specs.List.{list_all, list_any}
 use Rattle.std.specs.Map.{lookup, remove_entry}
 use Rattle.std.specs.BTreeMap.{is_at, insert_entry}
 use Rattle.silo_address.specs.Silo.{Silo, silo_eq}
@@ -13,7 +13,7 @@ use Rattle.directory_rules.specs.declared.piece_state.PieceState.{PieceState}
 use Rattle.directory_rules.specs.declared.piece_state.PieceState.TheVariants as state
 use Rattle.directory_rules.specs.declared.effect.Effect.{Effect}
 use Rattle.directory_rules.specs.declared.effect.Effect.TheVariants as effect
-use Rattle.directory_rules.specs.State.{Table, Piece, Page, Gathering, Report, Recovery, Body, Page_letter, Missing_letter, Done_letter, Report_letter, Behind_letter, Ahead_letter, Letter, Node}
+use Rattle.directory_rules.specs.State.{Table, Piece, Page, Gathering, Report, Recovery, Body, Page_letter, Missing_letter, Done_letter, Report_letter, Empty_letter, Behind_letter, Ahead_letter, Letter, Node}
 use Rattle.directory_rules.specs.Table.{table_of, rise_by_grain, lie_in}
 use Rattle.directory_rules.specs.Snapshot.{ShelfAnswer, Hands_page, Has_none, Is_behind, shelf_answer, has_snapshot, shelf_without}
 use Rattle.directory_rules.specs.Gatherings.{Gathered, Wants_page, Has_all, Refuses, gathered}
@@ -196,3 +196,65 @@ abbrev pub reported : Node → Letter → Report → Stepped
 reported node letter report =
     if is_report_awaited node letter report then recovered_by (recovered (recovery_of node report.range) report) report node
     else silently node effect.Ignored
+
+-- Several ranges at once.
+
+-- whether the silo has nothing firm in the range
+abbrev pub has_nothing : Node → Range → Bool
+has_nothing node range = length (firm_behind node.settings.hashing node.host range None) == 0
+
+-- one letter of all ranges in which it has nothing, if there are any
+abbrev pub empty_letters : Letter → Node → List Range → List Letter
+empty_letters letter node [] = []
+empty_letters letter node (range ∷ ranges) = answer_to letter node (Empty_letter (range ∷ ranges)) ∷ []
+
+-- and a report on each other one, from its start on
+abbrev pub tellings : Letter → Node → List Range → List Letter
+tellings letter node ranges =
+    empty_letters letter node (filter (has_nothing node) ranges)
+    ++ map (λ range. answer_to letter node (Report_letter (report_of node range None))) (filter (λ range. not (has_nothing node range)) ranges)
+
+-- a survey is answered so where the node has seen just its version
+abbrev pub surveyed : Node → Letter → List Range → Stepped
+surveyed node letter [] = silently node effect.Ignored
+surveyed node letter (first ∷ others) =
+    if nat_lt node.view.version letter.version then answering letter node (Behind_letter first) effect.Behind
+    else (if nat_lt letter.version node.view.version then answering letter node (Ahead_letter first) effect.Ahead
+    else record { node = node; letters = tellings letter node (first ∷ others); effect = effect.Report })
+
+-- the letter's sender reports that it has nothing in a range
+abbrev pub nothing_in : Letter → Range → Report
+nothing_in letter range =
+    record { version = letter.version; range = range; silo = letter.from; after = None; entries = []; last = true }
+
+-- the node with that report
+abbrev pub told_nothing : Letter → Node → Range → Node
+told_nothing letter node range = (reported node letter (nothing_in letter range)).node
+
+-- whether that report is taken, and whether with it all silos have told all
+abbrev pub is_taken : Recovered → Bool
+is_taken (Has_more recovery) = true
+is_taken (Awaits_more recovery) = true
+is_taken (Has_union table) = true
+is_taken (Rejects number) = false
+
+abbrev pub is_whole : Recovered → Bool
+is_whole (Has_more recovery) = false
+is_whole (Awaits_more recovery) = false
+is_whole (Has_union table) = true
+is_whole (Rejects number) = false
+
+-- whether so much comes of the report that it has nothing in the range, if the node recovers that
+abbrev pub nothing_makes : (Recovered → Bool) → Letter → Node → Range → Bool
+nothing_makes test letter node range =
+    recovers node letter.version range && test (recovered (recovery_of node range) (nothing_in letter range))
+
+-- the effect: a range settles by it, or one counts
+abbrev pub empty_effect : Letter → Node → List Range → Effect
+empty_effect letter node ranges =
+    if list_any (nothing_makes is_whole letter node) ranges then effect.Complete
+    else (if list_any (nothing_makes is_taken letter node) ranges then effect.More else effect.Ignored)
+
+-- a silo has nothing in these ranges: as if it reported so of each
+abbrev pub emptied : Node → Letter → List Range → Stepped
+emptied node letter ranges = silently (fold (told_nothing letter) node ranges) (empty_effect letter node ranges)

@@ -19,6 +19,8 @@ pub enum LetterKind {
     Done,
     Query,
     Report,
+    Survey,
+    Empty,
     Behind,
     Ahead,
     Offer,

@@ -33,4 +33,6 @@ mod spent;
 #[cfg(test)]
 mod steps;
 #[cfg(test)]
+mod surveys;
+#[cfg(test)]
 mod worlds;

@@ -42,3 +42,4 @@ pub mod Circles
 pub mod Listed
 pub mod FirstByHash
 pub mod Stretches
+pub mod AnyFirm

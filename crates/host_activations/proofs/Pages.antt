@@ -196,7 +196,7 @@ module _ (asked : PageAsked) where
       listed = map (entry_listed silo) sorted
 
       -- where they are all
-      whole : asked.range.size ≤ first.bound → listed ≡ told_behind silo asked es
+      pub whole : asked.range.size ≤ first.bound → map (entry_listed silo) sorted ≡ told_behind silo asked es
       whole all =
           listed_as_they_stand asked silo first.rows first.once firm sorted first.listed moved is es apart (behind asked.after)
           (λ q. first.found q

@@ -7,6 +7,8 @@ use Rattle.std.specs.Ordering.{is_lt, nat_cmp, ordering_then}
 use Rattle.silo_address.specs.Silo.{Silo}
 use Rattle.silo_address.specs.Grain.{Grain, grain_cmp, grain_eq}
 use Rattle.silo_address.specs.declared.Entry.{Entry}
+use Rattle.ring_range.specs.Range.{Range}
+use Rattle.hash_ring.specs.declared.Hashing.{Hashing}
 use Rattle.hash_ring.specs.Hash.{hash_grain}
 use Rattle.directory_rules.specs.declared.Held.{Held}
 use Rattle.directory_rules.specs.Standing.{stands_behind, steps_to}
@@ -69,6 +71,15 @@ pub record AreFirst (asked : PageAsked) (es : List (Grain × Held)) (firm : List
   pub once : IsDistinct grain_eq (keys_of rows)
   pub found : (grain : Grain) → lookup (is_at (grain_cmp grain)) rows ≡ passing (is_first asked bound) grain (lookup (is_at (grain_cmp grain)) es)
   pub enough : (asked.most < length firm) ⊎ (asked.range.size ≤ bound)
+
+-- ---- Whether there is any of it.
+-- all that is firm and hashed into a range is asked for, and none of it to be told
+abbrev pub all_in : Hashing → Range → PageAsked
+all_in hashing range = record { hashing = hashing; range = range; after = None; most = 0 }
+
+-- whether there is any among the first of it
+abbrev pub HasAny : PageAsked → List (Grain × Held) → Bool → Type 0
+HasAny asked es has = (firm : List (ℕ × Grain × ℕ)) × (AreFirst asked es firm × (has ≡ nat_lt 0 (length firm)))
 
 -- ---- Stretch by stretch, in the order of hashes.
 -- no hash is below one before it

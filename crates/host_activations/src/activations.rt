@@ -12,6 +12,7 @@ ghost use Rattle.hash_ring.specs.Hash.{hash_grain};
 ghost use Rattle.host_activations.specs.ByHash.{AreByHash, hashed_count_cmp, hashes_of, key_of};
 ghost use Rattle.host_activations.specs.UnderWay.{in_phase, one_if_some};
 
+mod any_firm;
 mod order;
 mod page;
 mod same;

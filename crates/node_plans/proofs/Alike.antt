@@ -1,5 +1,5 @@
--- Nodes that differ only in what their letters don't depend on send the same; and so do pieces without their entries.
-use Rattle.std.proofs.Common.{◌≡◌, refl, sym, ap, ◌∙◌, ℕ, List, [], ◌∷◌, ◌++◌}
+-- Nodes that differ only in what their letters don't depend on send the same.
+use Rattle.std.proofs.Common.{◌≡◌, refl, sym, ◌∙◌, ℕ, List}
 use Rattle.std.specs.Prelude.{Option, Some, None, flat_map}
 use Rattle.silo_address.specs.Silo.{Silo}
 use Rattle.silo_address.specs.Grain.{Grain}
@@ -10,7 +10,6 @@ use Rattle.directory_rules.specs.declared.PieceState.TheVariants.{Settled, Await
 use Rattle.directory_rules.specs.State.{Cache, Request_letter, Node, Piece, Holding, Snapshot}
 use Rattle.directory_rules.specs.Host.{outstanding, renewed, renewed_about}
 use Rattle.directory_rules.specs.Sent.{all_requests, hash_of, letter_if_owned, owner_by, request_letters, request_of, wants_by}
-use Rattle.grain_partition.specs.Seen.{emptied}
 use Rattle.node_plans.specs.Sender.{bare, wants_of}
 
 module _ (node : Node) (holding : Holding) (shelf : List Snapshot) (cache : Cache) where
@@ -54,11 +53,6 @@ module _ (node : Node) (grain : Grain) where
   pub same_about : (requests : List (ℕ × Act)) → flat_map (λ e. request_letters node e.0 e.1) requests ≡ flat_map
       (λ e. request_letters renewed_node e.0 e.1) requests
   same_about requests = λ i. flat_map (λ e. owned_about (owner_by node (hash_of node e.1)) e.0 e.1 i) requests
-
--- entries are nothing to it
-pub emptied_want : (node : Node) (pieces : List (ℕ × Piece)) → wants_of node (emptied pieces) ≡ wants_of node pieces
-emptied_want node [] = refl
-emptied_want node (e ∷ es) = ap (λ l. wants_by e.1.state node e.1.range ++ l) (emptied_want node es)
 
 -- a node sends what it sends without its pieces, snapshots and hints
 pub bare_request : (node : Node) (number : ℕ) (act : Act) → request_letters (bare node) number act ≡ request_letters node number act

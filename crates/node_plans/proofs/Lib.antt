@@ -11,4 +11,5 @@ pub mod Results
 mod Tabled
 mod Begun
 pub mod Alike
+pub mod NewWants
 pub mod AfterSight

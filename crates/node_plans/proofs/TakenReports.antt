@@ -1,6 +1,6 @@
 -- A report taken among the recoveries of a node.
 use Rattle.std.proofs.Common.{◌≡◌, ◌↔◌, refl, sym, ap, ◌∙◌, ℕ, List, [], ◌∷◌}
-use Rattle.std.specs.Prelude.{Bool, true, false, cond, Result, Ok, Err, is_ok}
+use Rattle.std.specs.Prelude.{Bool, true, false, cond, Option, Some, None, Result, Ok, Err, IsSomeAnd, is_ok}
 use Rattle.std.specs.Ordering.{nat_cmp}
 use Rattle.std.specs.Map.{set_value}
 use Rattle.std.specs.BTreeMap.{is_at}
@@ -9,9 +9,11 @@ use Rattle.silo_address.specs.Silo.{Silo}
 use Rattle.directory_rules.specs.State.{Recovery, Report}
 use Rattle.directory_rules.proofs.Cases.{on_bool}
 use Rattle.directory_rules.specs.Recovery.{Recovered, Has_more, Awaits_more, Has_union, Rejects, awaits_still, recovered, with_last, with_more, with_report}
+use Rattle.range_recovery.specs.declared.RecoveryError.{RecoveryError}
 use Rattle.range_recovery.specs.declared.RecoveryProgress.{RecoveryProgress}
 use Rattle.range_recovery.specs.declared.RecoveryProgress.TheVariants.{Complete}
-use Rattle.range_recovery.specs.Progress.{progress_of}
+use Rattle.range_recovery.specs.Numbers.{recovery_error_number}
+use Rattle.range_recovery.specs.Progress.{Refuses, progress_of}
 
 -- the recovery of the report's range has the report, and nothing else changed
 abbrev pub with_taken : Recovery → Report → List (ℕ × Recovery) → List (ℕ × Recovery)
@@ -95,3 +97,16 @@ pub refused_is : (recovery its : Recovery) (report : Report) (old new : List (�
 refused_is recovery its report old new number is same unchanged =
     by_refusal (progress_of (recovered recovery report)) (with_taken recovery report old) old new number
     (ap progress_of (ap (λ (r : Recovery). recovered r report) same ∙ is)) unchanged
+
+-- whichever number refuses it
+pub refused_by : (recovery its : Recovery) (report : Report) (old new : List (ℕ × Recovery)) (fault : RecoveryError)
+    → Refuses its report fault → recovery ≡ its → new ≡ old
+    → ((false ≡ true) ↔ (progress_of (recovered recovery report) ≡ Ok Complete)) ×
+    (new ≡ cond (is_ok (progress_of (recovered recovery report))) (with_taken recovery report old) old)
+refused_by recovery its report old new fault refused same unchanged = by (recovery_error_number fault) refused
+  where
+    by : (number : Option ℕ) → IsSomeAnd number (λ n. recovered its report ≡ Rejects n)
+        → ((false ≡ true) ↔ (progress_of (recovered recovery report) ≡ Ok Complete)) ×
+        (new ≡ cond (is_ok (progress_of (recovered recovery report))) (with_taken recovery report old) old)
+    by None none = absurd none
+    by (Some n) is = refused_is recovery its report old new n is same unchanged

@@ -1,16 +1,17 @@
 -- A step in two parts: a plan, which says what is sent and done, and the change that it makes of the node.
-use Rattle.std.specs.Prelude.{◌≡◌, ℕ, ◌^◌, ◌<◌, ◌≤◌, ◌++◌, List, true, IsOkAnd, IsSome, length, [], Option, Some, None, Result, Ok}
+use Rattle.std.specs.Prelude.{◌≡◌, ℕ, ◌^◌, ◌<◌, ◌≤◌, ◌++◌, List, true, IsOkAnd, IsSome, fold, length, [], Option, Some, None, Result, Ok}
 use Rattle.std.specs.Map.{remove_entry}
 use Rattle.std.specs.BTreeMap.{is_at}
 use Rattle.std.specs.Ordering.{nat_cmp}
 use Rattle.silo_address.specs.Grain.{Grain}
+use Rattle.silo_address.specs.Silo.{Silo}
 use Rattle.directory_rules.specs.declared.Held.{Held}
 use Rattle.directory_rules.specs.Answer.{answered}
 use Rattle.directory_rules.specs.declared.PieceState.TheVariants.{Recovering}
 use Rattle.directory_rules.specs.Cache.{cache_seeing, learnt, without_pair}
 use Rattle.directory_rules.specs.Gatherings.{gathered, new_gathering, with_page}
 use Rattle.directory_rules.specs.Host.{asking_under, closing_under, has_numbers, held_of, outstanding, renewed, renewed_about, requests_about, with_find, with_started, without_find, without_held}
-use Rattle.directory_rules.specs.State.{Body, Request_letter, Reply_letter, Ask_letter, Page_letter, Missing_letter, Done_letter, Query_letter, Report_letter, Behind_letter, Ahead_letter, Offer_letter, Letter, Node, Recovery, Piece, Page}
+use Rattle.directory_rules.specs.State.{Body, Request_letter, Reply_letter, Ask_letter, Page_letter, Missing_letter, Done_letter, Query_letter, Report_letter, Survey_letter, Empty_letter, Behind_letter, Ahead_letter, Offer_letter, Letter, Node, Recovery, Piece, Page}
 use Rattle.directory_rules.specs.Members.{members_of}
 use Rattle.directory_rules.specs.Recovery.{recovered}
 use Rattle.directory_rules.specs.Reply.{confirmed_by, yielded_by}
@@ -19,7 +20,7 @@ use Rattle.directory_rules.specs.Sight.{pieces_after, sealed, shelf_after}
 use Rattle.directory_rules.specs.Snapshot.{shelf_without}
 use Rattle.directory_rules.specs.Step.{Stepped, new_gatherings, new_recoveries, with_one_closing}
 use Rattle.directory_rules.specs.Table.{rise_by_grain}
-use Rattle.directory_rules.specs.Transfer.{has_range, is_recovering, piece_at, recovered_by, reported, with_gathering, with_recovery, with_settled, with_state}
+use Rattle.directory_rules.specs.Transfer.{has_range, is_recovering, piece_at, recovered_by, reported, surveyed, told_nothing, with_gathering, with_recovery, with_settled, with_state}
 use Rattle.grain_partition.specs.Holdings.{HasPiece}
 use Rattle.grain_partition.specs.Sight.{AreOfRings}
 use Rattle.host_activations.specs.Renewal.{renewal_of}
@@ -31,7 +32,7 @@ use Rattle.seal_snapshot.specs.declared.progress.GatheringProgress.TheVariants.{
 use Rattle.node_plans.specs.declared.plan.Plan.{Plan}
 use Rattle.node_plans.specs.declared.plan.Sight.{Sight}
 use Rattle.node_plans.specs.declared.plan.Change.{Change}
-use Rattle.node_plans.specs.declared.plan.Change.TheVariants.{Nothing, Sees, Renews, RenewsAbout, Starts, Closes, Asks, Serves, Confirms, Yields, Ends, EndsFind, Learns, UsesHint, Forgets, Discards, Digests, Gathers, GathersAnew, Installs, Recovers, Counts}
+use Rattle.node_plans.specs.declared.plan.Change.TheVariants.{Nothing, Sees, Renews, RenewsAbout, Starts, Closes, Asks, Serves, Confirms, Yields, Ends, EndsFind, Learns, UsesHint, Forgets, Discards, Digests, Gathers, GathersAnew, Installs, Recovers, Counts, Empties}
 
 -- without the activation, if there is one
 abbrev pub without : Option (Grain × Held) → Node → Node
@@ -66,6 +67,10 @@ seen_by sight node = record node {
   cache = cache_seeing sight.view node.cache;
 }
 
+-- a letter of that sender and version, by which it tells that it has nothing: in which ranges is told apart from it
+abbrev pub empty_from : Silo → (version : ℕ) → Letter
+empty_from from version = record { from = from; to = from; version = version; body = Empty_letter [] }
+
 -- what a change makes of a node
 abbrev pub changed : Change → Node → Node
 changed Nothing node = node
@@ -90,6 +95,7 @@ changed (GathersAnew range) node = with_gathering node (new_gathering (gathering
 changed (Installs range entries) node = with_settled node range entries.entries
 changed (Recovers recovery) node = recovering_by node recovery
 changed (Counts report) node = (recovered_by (recovered (recovery_of node report.range) report) report node).node
+changed (Empties from version ranges) node = fold (told_nothing (empty_from from version)) node ranges.items
 
 -- an activation may begin: there is none of the grain, and a number and a count are left
 pub record MayStart (node : Node) (grain : Grain) : Type 0 where
@@ -146,13 +152,14 @@ Fits (GathersAnew range) node = Unit {0}
 Fits (Installs range entries) node = HasPiece range node.holding.pieces
 Fits (Recovers recovery) node = HasPiece recovery.range node.holding.pieces
 Fits (Counts report) node = has_range is_recovering report.range (piece_at node report.range) ≡ true
+Fits (Empties from version ranges) node = Unit {0}
 
 -- the node's step by the plan
 abbrev pub step_by : Node → Plan → Stepped
 step_by node plan = record { node = changed plan.change node; letters = plan.letters.items; effect = plan.effect }
 
--- how many letters a node sends by a letter for which it needs memory: by a report none, or one where its silo is asked on, and where a
--- snapshot is missing all silos are asked
+-- how many letters a node sends by a letter for which it needs memory: by a report none, or one where its silo is asked on; by a survey
+-- what it tells; by what is empty none; and where a snapshot is missing all silos are asked
 abbrev pub answer_count : Node → Letter → Body → ℕ
 answer_count node letter (Request_letter request) = 1
 answer_count node letter (Reply_letter number reply) = 1
@@ -162,6 +169,8 @@ answer_count node letter (Missing_letter range) = length (members_of node.view)
 answer_count node letter (Done_letter range) = 1
 answer_count node letter (Query_letter range after) = 1
 answer_count node letter (Report_letter report) = length (reported node letter report).letters
+answer_count node letter (Survey_letter ranges) = length (surveyed node letter ranges).letters
+answer_count node letter (Empty_letter ranges) = 0
 answer_count node letter (Behind_letter range) = 1
 answer_count node letter (Ahead_letter range) = 1
 answer_count node letter (Offer_letter entry) = 1

@@ -1,4 +1,4 @@
-//! Parts of a node once more, two at a time.
+//! Parts of a node once more, two at a time, and the ranges of a letter.
 ghost use Rattle.std.specs.Arc.{arc_value};
 ghost use Rattle.std.specs.Prelude.{◌≡◌, IfOk};
 
@@ -10,8 +10,9 @@ use host_activations::Host;
 use lookup_cache::Cache;
 use membership_view::View;
 use range_recovery::Recovery;
+use ring_range::RingRange;
 use seal_snapshot::{Gathering, Shelf};
-use std::alloc::AllocError;
+use std::alloc::{AllocError, Global};
 use std::collections::BTreeMap;
 use std::sync;
 
@@ -69,4 +70,11 @@ pub fn copied_seen(view: &View, transition: &Transition) -> Result<(View, Transi
     let view = view.copy()?;
     let transition = transition.copy()?;
     Ok((view, transition))
+}
+
+/// The same ranges, in the same order. Fails only when memory runs out.
+pub fn copied_ranges(alloc: Global, ranges: &[RingRange]) -> Result<Vec<RingRange>, AllocError>
+    ensures { IfOk result (λ copied. copied.items ≡ ranges.now) }
+{
+    ranges.to_vec(alloc)
 }

@@ -10,6 +10,7 @@ mod effects;
 mod gathered;
 mod input;
 mod members;
+mod new_wants;
 mod order;
 mod plan;
 mod recoveries;
@@ -22,14 +23,16 @@ mod transition;
 
 pub use beginnings::new_waits;
 pub use cache::{forget, hint_in, learn, new_cache, same_caches, see_in_cache, use_hint};
-pub use copies::{copied_own, copied_seen, copied_sight, copied_tables, copied_waits};
+pub use copies::{
+    copied_own, copied_ranges, copied_seen, copied_sight, copied_tables, copied_waits,
+};
 pub use effects::{offer_effect, reply_effect, seen_effect};
 pub use gathered::{gather_among, gather_anew_among, same_gatherings};
 pub use input::Input;
 pub use members::member_count;
 pub use order::{are_all_of, go_on, lie_in, rise_behind, rise_by_grain, table_of};
 pub use plan::{Change, Plan, Sight, list_of};
-pub use recoveries::{same_recoveries, take_report};
+pub use recoveries::{same_recoveries, take_nothing, take_report};
 pub use refusal::StepRefusal;
 pub use rings::{advanced, ring_of};
 pub use senders::Sender;

@@ -98,6 +98,12 @@ pub enum Change {
     Recovers(Recovery),
     /// A report is counted for the piece that recovers.
     Counts(Report),
+    /// A silo that has seen the version has nothing in these ranges: that is counted for each of them that recovers.
+    Empties {
+        from: SiloAddress,
+        version: u64,
+        ranges: Vec<RingRange>,
+    },
 }
 
 /// A sight, as far as it is made before its node changes: the view, and what the node has of it.

@@ -6,9 +6,11 @@ ghost use Rattle.std.specs.Ordering.{nat_cmp};
 ghost use Rattle.std.specs.Prelude.{◌≡◌, ◌↔◌, if◌then◌else◌, false, is_ok, IsTrue, IfOk, OnErr, OnOk, None, Ok, Some};
 ghost use Rattle.directory_rules.specs.State.{Recovery as RecoveryValue};
 ghost use Rattle.directory_rules.specs.Recovery.{recovered, with_report};
-ghost use Rattle.range_recovery.specs.Progress.{progress_of};
+ghost use Rattle.range_recovery.specs.Progress.{nothing_of, progress_of};
 
 use range_recovery::{Recovery, RecoveryError, RecoveryProgress, Report};
+use ring_range::RingRange;
+use silo_address::SiloAddress;
 use std::alloc::AllocError;
 use std::collections::BTreeMap;
 
@@ -43,6 +45,37 @@ pub fn take_report(
         Err(RecoveryError::Twice) => Ok(false),
         Err(RecoveryError::OutOfTurn) => Ok(false),
         Err(RecoveryError::OutOfMemory) => Err(AllocError),
+    }
+}
+
+/// The report of a silo that has seen the version and has nothing in the range goes to the recovery of that range, if there is one: whether
+/// all have told all now. It takes no memory.
+pub fn take_nothing(
+    recoveries: &mut BTreeMap<u32, Recovery>,
+    version: u64,
+    range: RingRange,
+    silo: SiloAddress,
+) -> bool
+    ensures complete { (recovery : RecoveryValue) → lookup (is_at (nat_cmp range.start)) recoveries.old.entries ≡ Some recovery →
+        IsTrue result ↔ (progress_of (recovered recovery (nothing_of version range silo)) ≡ Ok RecoveryProgress.Complete) }
+
+    // It is taken unless it is refused.
+    ensures taken { (recovery : RecoveryValue) → lookup (is_at (nat_cmp range.start)) recoveries.old.entries ≡ Some recovery →
+        recoveries.new.entries ≡ (if is_ok (progress_of (recovered recovery (nothing_of version range silo))) then set_value (is_at (nat_cmp range.start)) recoveries.old.entries (with_report recovery (nothing_of version range silo)) else recoveries.old.entries) }
+
+    // Where there is no recovery, nothing comes of it.
+    ensures absent { lookup (is_at (nat_cmp range.start)) recoveries.old.entries ≡ None → result ≡ false }
+    ensures left { lookup (is_at (nat_cmp range.start)) recoveries.old.entries ≡ None → recoveries.new.entries ≡ recoveries.old.entries }
+    ensures in_order { IsStrictlySortedBy nat_cmp (keys_of recoveries.old.entries) }
+{
+    let Some(recovery) = recoveries.get_mut(&range.start()) else {
+        return false;
+    };
+    match recovery.take_nothing(version, range, silo) {
+        Ok(RecoveryProgress::Complete) => true,
+        Ok(RecoveryProgress::Continues) => false,
+        Ok(RecoveryProgress::More) => false,
+        Err(_) => false,
     }
 }
 

@@ -5,8 +5,9 @@ ghost use Rattle.directory_rules.specs.Recovery.{told_by};
 ghost use Rattle.directory_rules.specs.Sent.{ask_letters, gathering_of, letter_to, owner_by, query_letters, request_letters, request_of, wants_by};
 ghost use Rattle.directory_letters.specs.LetterModel.{body_of};
 ghost use Rattle.directory_rules.specs.State.{Query_letter, Piece as PieceValue};
-ghost use Rattle.node_plans.specs.Sender.{queries_of, sending, wants_of};
+ghost use Rattle.node_plans.specs.Sender.{new_wants_of, queries_of, sending, wants_of};
 
+use crate::new_wants::recovering_ranges;
 use crate::plan::list_of;
 use directory_letters::{Body, Letter};
 use directory_rules::{Act, PieceState, Settings};
@@ -57,7 +58,8 @@ impl Sender<'_> {
         }
     }
 
-    /// The letters of a sight: what these pieces want, piece by piece, and then the requests, each under its number. Fails only when
+    /// The letters of a sight: what these pieces want, which are new, and then the requests, each under its number. Pieces that await
+    /// snapshots ask for them, piece by piece; then one survey of all that recover goes to each silo of the view. Fails only when
     /// memory runs out.
     pub fn sight_letters(
         &self,
@@ -65,10 +67,12 @@ impl Sender<'_> {
         pieces: &BTreeMap<u32, Piece>,
         requests: &[(u64, Act)],
     ) -> Result<Vec<Letter>, AllocError>
-        ensures { IfOk result (λ letters. letters.items ≡ wants_of (sending self.now) pieces.now.entries ++ flat_map (λ e. request_letters (sending self.now) e.0 e.1) requests.now) }
+        ensures { IfOk result (λ letters. letters.items ≡ new_wants_of (sending self.now) pieces.now.entries ++ flat_map (λ e. request_letters (sending self.now) e.0 e.1) requests.now) }
     {
+        let ranges = recovering_ranges(alloc, pieces)?;
         let mut letters = Vec::new(alloc);
-        self.send_wants(alloc, &mut letters, pieces.iter())?;
+        self.send_asks(&mut letters, pieces)?;
+        self.send_surveys(alloc, &mut letters, &ranges)?;
         self.send_requests(&mut letters, requests)?;
         Ok(letters)
     }
@@ -211,7 +215,7 @@ impl Sender<'_> {
     }
 
     // A letter of the silo, of the version seen.
-    fn letter_to(&self, silo: SiloAddress, body: Body) -> Letter
+    pub(crate) fn letter_to(&self, silo: SiloAddress, body: Body) -> Letter
         ensures { result ≡ letter_to silo (sending self.now) (body_of body) }
     {
         Letter::new(self.host.silo(), silo, self.view.version(), body)
@@ -254,7 +258,7 @@ impl Sender<'_> {
     }
 
     // The ask for the next page of a snapshot.
-    fn send_ask(
+    pub(crate) fn send_ask(
         &self,
         letters: &mut Vec<Letter>,
         from: SiloAddress,
@@ -278,7 +282,7 @@ impl Sender<'_> {
     }
 
     // A query to each silo that is awaited for the piece.
-    fn send_queries(
+    pub(crate) fn send_queries(
         &self,
         alloc: Global,
         letters: &mut Vec<Letter>,

@@ -327,6 +327,7 @@ fn check_report(
     let range = RingRange::new(start, size).expect(rt, "a range");
     let told = reports(rt, alloc, host, &range, grains);
     assert!(rt; told || reports(rt, alloc, host, &range, grains));
+    assert!(rt; host.has_none_firm(Hashing::Stated, range) == grains.is_empty());
 }
 
 #[test]

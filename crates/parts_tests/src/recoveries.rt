@@ -121,6 +121,17 @@ fn reports_are_taken(rt: HostRuntime) {
     assert!(rt; has_each(&recovery.into_entries(), &entries, 17));
 }
 
+// A silo that has nothing in the range is awaited no more, once, and the last one completes the recovery.
+#[test]
+fn silos_have_nothing(rt: HostRuntime) {
+    let mut recovery = recovery(&rt, rt.alloc());
+    let (a, b, place) = (silo(&rt, A), silo(&rt, B), range(&rt, RANGE));
+    assert!(rt; recovery.take_nothing(2, place, a) == Ok(RecoveryProgress::More));
+    assert!(rt; recovery.take_nothing(2, place, a) == Err(RecoveryError::Twice));
+    assert!(rt; recovery.take_nothing(3, place, b) == Err(RecoveryError::WrongVersion));
+    assert!(rt; recovery.take_nothing(2, place, b) == Ok(RecoveryProgress::Complete));
+}
+
 // Whether a report of such a silo is refused by this number.
 fn is_refused(recovery: &Recovery, report: &Report, number: u16) -> bool {
     match recovery.progress_with(report) {

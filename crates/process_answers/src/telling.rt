@@ -83,6 +83,8 @@ impl Telling {
             | Body::Done(_)
             | Body::Query { .. }
             | Body::Report(_)
+            | Body::Survey(_)
+            | Body::Empty(_)
             | Body::Behind(_)
             | Body::Ahead(_) => Telling::Delivered,
         }

@@ -22,7 +22,7 @@ use Rattle.directory_rules.specs.declared.policy.Policy.{Policy}
 use Rattle.directory_rules.specs.declared.reply.Reply.{Reply}
 use Rattle.directory_rules.specs.declared.reply.Reply.TheVariants as reply
 use Rattle.directory_rules.specs.declared.outcome.Happening.TheVariants.{Saw, Did}
-use Rattle.directory_rules.specs.State.{Host, Letter, Body, Request_letter, Reply_letter, Ask_letter, Page_letter, Missing_letter, Done_letter, Query_letter, Report_letter, Behind_letter, Ahead_letter, Offer_letter, Piece}
+use Rattle.directory_rules.specs.State.{Host, Letter, Body, Request_letter, Reply_letter, Ask_letter, Page_letter, Missing_letter, Done_letter, Query_letter, Report_letter, Survey_letter, Empty_letter, Behind_letter, Ahead_letter, Offer_letter, Piece}
 use Rattle.directory_rules.specs.Placement.{silo_for}
 use Rattle.silo_rules.specs.declared.news.News.{News}
 use Rattle.silo_rules.specs.declared.news.News.TheVariants.{Known, Made, Replaced}
@@ -245,6 +245,8 @@ module _ (hashing : Hashing) where
   body_unknown (Done_letter range) host seen letter made = refl
   body_unknown (Query_letter range after) host seen letter made = refl
   body_unknown (Report_letter report) host seen letter made = refl
+  body_unknown (Survey_letter ranges) host seen letter made = refl
+  body_unknown (Empty_letter ranges) host seen letter made = refl
   body_unknown (Behind_letter range) host seen letter made = refl
   body_unknown (Ahead_letter range) host seen letter made = refl
   body_unknown (Offer_letter entry) host seen letter made = did_unknown host.silo made

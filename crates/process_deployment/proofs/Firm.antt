@@ -19,7 +19,7 @@ use Rattle.directory_rules.specs.Happens.{node_of}
 use Rattle.directory_rules.specs.Host.{asking_under}
 use Rattle.directory_rules.specs.declared.own_step.OwnStep.{OwnStep}
 use Rattle.directory_rules.specs.Input.{Input, Does, Receives, step, sight_of}
-use Rattle.directory_rules.specs.State.{Letter, Body, Request_letter, Reply_letter, Ask_letter, Page_letter, Missing_letter, Done_letter, Query_letter, Report_letter, Behind_letter, Ahead_letter, Offer_letter, Node, World}
+use Rattle.directory_rules.specs.State.{Letter, Body, Request_letter, Reply_letter, Ask_letter, Page_letter, Missing_letter, Done_letter, Query_letter, Report_letter, Survey_letter, Empty_letter, Behind_letter, Ahead_letter, Offer_letter, Node, World}
 use Rattle.directory_rules.specs.PlainMachine.{Life, Is_asking, Is_firm, life_on, step_of_effect}
 use Rattle.directory_rules.specs.Receive.{received, received_body}
 use Rattle.directory_rules.specs.Reply.{at_seen, confirmed_by}
@@ -274,6 +274,8 @@ module _ (s : SiloValue) (once : HoldsOnce s.node.host) (own : IsSilo s.node.hos
       outcome (Done_letter range) same = delivered _ same (λ number entry is. cc is) refl
       outcome (Query_letter range after) same = delivered _ same (λ number entry is. cc is) refl
       outcome (Report_letter report) same = delivered _ same (λ number entry is. cc is) refl
+      outcome (Survey_letter ranges) same = delivered _ same (λ number entry is. cc is) refl
+      outcome (Empty_letter ranges) same = delivered _ same (λ number entry is. cc is) refl
       outcome (Behind_letter range) same = delivered _ same (λ number entry is. cc is) refl
       outcome (Ahead_letter range) same = delivered _ same (λ number entry is. cc is) refl
       outcome (Offer_letter entry) same =

@@ -115,6 +115,7 @@ module _ (node : Node) where
     lags = λ letter range. other _ _ refl;
     passed = λ letter range. other _ _ refl;
     reports = λ letter range after body seen. other _ _ refl;
+    surveys = λ letter first others body seen. other _ _ refl;
     gathers = λ letter page gathering taken is. other _ _ refl;
     installs = λ letter page entries taken is. other _ _ refl;
     drops = λ letter page gathering taken is. other _ _ refl;
@@ -122,6 +123,7 @@ module _ (node : Node) where
     continues = λ letter report recovery taken is. other _ _ refl;
     collects = λ letter report recovery taken is. other _ _ refl;
     completes = λ letter report table taken is. other _ _ refl;
+    empties = λ letter ranges its body plain. other _ _ (ap is_quiet plain);
     takes_over = λ letter entry body seen may. other _ _ refl;
   }
 

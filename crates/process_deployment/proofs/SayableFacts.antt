@@ -1,6 +1,6 @@
 -- What is carried of letters besides what they name and say of their own: from whom and to whom they are, what requests and replies name,
--- and behind which grain queries and reports begin. And what a node has to make such letters.
-use Rattle.std.proofs.Common.{ℕ, List}
+-- behind which grain queries and reports begin, and that letters of ranges have some. And what a node has to make such letters.
+use Rattle.std.proofs.Common.{◌≢◌, ℕ, List, []}
 use Rattle.std.specs.Prelude.{⊤, All, IfSome, Option, Some, None}
 use Rattle.silo_address.specs.Silo.{IsSilo}
 use Rattle.silo_address.specs.Grain.{Grain, IsGrain}
@@ -15,7 +15,7 @@ use Rattle.directory_rules.specs.declared.reply.Why.TheVariants as why
 use Rattle.directory_rules.specs.declared.reply.Reply.{Reply}
 use Rattle.directory_rules.specs.declared.reply.Reply.TheVariants as reply
 use Rattle.directory_rules.specs.Event.{IsEvent}
-use Rattle.directory_rules.specs.State.{Host, Letter, Body, Request_letter, Reply_letter, Ask_letter, Page_letter, Missing_letter, Done_letter, Query_letter, Report_letter, Behind_letter, Ahead_letter, Offer_letter, Recovery}
+use Rattle.directory_rules.specs.State.{Host, Letter, Body, Request_letter, Reply_letter, Ask_letter, Page_letter, Missing_letter, Done_letter, Query_letter, Report_letter, Survey_letter, Empty_letter, Behind_letter, Ahead_letter, Offer_letter, Recovery}
 use Rattle.directory_rules.specs.Settings.{Settings}
 use Rattle.directory_facts.specs.Named.{IsNamed}
 use Rattle.directory_facts.specs.Own.{IsOwnLetter, SaysOwn}
@@ -51,6 +51,8 @@ Tells (Missing_letter range) = ⊤
 Tells (Done_letter range) = ⊤
 Tells (Query_letter range after) = IfSome after IsGrain
 Tells (Report_letter report) = IfSome report.after IsGrain
+Tells (Survey_letter ranges) = ranges ≢ []
+Tells (Empty_letter ranges) = ranges ≢ []
 Tells (Behind_letter range) = ⊤
 Tells (Ahead_letter range) = ⊤
 Tells (Offer_letter entry) = ⊤
@@ -136,6 +138,8 @@ is_body hashing letter (Done_letter range) own named tells = tt
 is_body hashing letter (Query_letter range after) own named tells = (tt, tells)
 is_body hashing letter (Report_letter report) own named tells =
     record { version = own.version; range = tt; silo = own.silo; after = tells; entries = are_entries report.entries named }
+is_body hashing letter (Survey_letter ranges) own named tells = record { some = tells; lie = λ k d below. tt }
+is_body hashing letter (Empty_letter ranges) own named tells = record { some = tells; lie = λ k d below. tt }
 is_body hashing letter (Behind_letter range) own named tells = tt
 is_body hashing letter (Ahead_letter range) own named tells = tt
 is_body hashing letter (Offer_letter entry) own named tells = is_entry entry named

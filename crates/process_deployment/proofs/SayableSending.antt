@@ -1,6 +1,6 @@
 -- What a node sends goes from a silo to silos.
 use Rattle.std.proofs.Common.{◌≡◌, ℕ, List, [], ◌∷◌, refl, sym, ap, subst}
-use Rattle.std.specs.Prelude.{Bool, true, false, cond, nat_le, not, All, IfSome, Option, Some, None, filter, flat_map, fold}
+use Rattle.std.specs.Prelude.{Bool, true, false, cond, nat_le, not, All, IfSome, Option, Some, None, filter, flat_map, fold, length, map}
 use Rattle.std.specs.List.{filter_map, cons_option}
 use Rattle.std.specs.Map.{keys_of}
 use Rattle.std.specs.Option.{option_map}
@@ -25,10 +25,10 @@ use Rattle.directory_rules.specs.declared.held.Phase.TheVariants.{Asking, Firm, 
 use Rattle.directory_rules.specs.declared.piece_state.PieceState.{PieceState}
 use Rattle.directory_rules.specs.declared.piece_state.PieceState.TheVariants as state
 use Rattle.directory_rules.specs.Members.{is_dead_status, members_of}
-use Rattle.directory_rules.specs.State.{Piece, Recovery, Host, Letter, Body, Request_letter, Query_letter, Node}
+use Rattle.directory_rules.specs.State.{Piece, Recovery, Host, Letter, Body, Request_letter, Query_letter, Survey_letter, Node}
 use Rattle.directory_rules.specs.Recovery.{new_recovery, told_by}
 use Rattle.directory_rules.specs.Host.{grain_of, entry_of, act_in, held_acts, find_acts, outstanding, requests_about}
-use Rattle.directory_rules.specs.Sent.{letter_to, letter_if_owned, owner_by, hash_of, request_of, request_letters, all_requests, requests_of_grain, recovery_of, query_to, query_letters, wants_by, all_wants}
+use Rattle.directory_rules.specs.Sent.{letter_to, letter_if_owned, owner_by, hash_of, request_of, request_letters, all_requests, requests_of_grain, recovery_of, query_to, query_letters, wants_by, all_wants, asks_by, recovering_ranges, most_queried, survey_letters, new_wants}
 use Rattle.directory_rules.specs.Settings.{Settings}
 use Rattle.directory_rules.proofs.Cases.{on_bool}
 use Rattle.directory_facts.specs.Named.{IsNamed, AwaitsSilo}
@@ -37,7 +37,7 @@ use Rattle.directory_facts.proofs.Collected.{found_or}
 use Rattle.directory_facts.proofs.Entries.{all_put, found_so}
 use Rattle.directory_facts.proofs.Names.{NamesOf, SharedNames, OfSilos, place_silo, ring_silos, owner_named}
 use Rattle.directory_facts.proofs.SeenRings.{AreViews}
-use Rattle.process_deployment.proofs.SayableFacts.{Asks, AsksOn, Tells, Goes, Replaces, Looks, Sends}
+use Rattle.process_deployment.proofs.SayableFacts.{Asks, AsksOn, Tells, Goes, Replaces, Looks, Waits, Sends}
 
 -- ---- who is in a view is a silo
 kept_keys : (test : Silo × Status → Bool) (rows : List (Silo × Status)) → All IsSilo (keys_of rows)
@@ -162,6 +162,12 @@ told_grain silo recovery asks = by (told_by silo recovery) refl
     by None none = tt
     by (Some grain) found = (found_so (λ (e : Silo × Grain). IsGrain e.1) (is_at (silo_cmp silo)) grain recovery.told asks.grains found).2
 
+-- what has been reported for a piece
+pub awaited_asks : (node : Node) → All IsSilo (members_of node.view) → All Waits node.recoveries → (range : Range)
+    → AsksOn (recovery_of node range)
+awaited_asks node members waits range =
+    found_or AsksOn (is_at (nat_cmp range.start)) (new_recovery node.view range) node.recoveries waits (new_asks node.view range members)
+
 -- ---- all of it
 module _ (node : Node) (its : Knows node) (sends : Sends node.host node.recoveries) where
   pub requests_go : All Goes (all_requests node)
@@ -173,11 +179,8 @@ module _ (node : Node) (its : Knows node) (sends : Sends node.host node.recoveri
       (All-filter (λ (e : ℕ × Act). grain_eq (grain_of e.1) grain) (λ (e : ℕ × Act). Asks e.1) (outstanding node.host)
       (outstanding_ask node.host its.held sends.replaced sends.looked_for))
 
-  -- what has been reported for a piece
   pub asks_on : (range : Range) → AsksOn (recovery_of node range)
-  asks_on range =
-      found_or AsksOn (is_at (nat_cmp range.start)) (new_recovery node.view range) node.recoveries sends.awaited
-      (new_asks node.view range its.members)
+  asks_on = awaited_asks node its.members sends.awaited
 
   pub query_goes : (range : Range) (silo : Silo) → IsSilo silo → Goes (query_to node range silo)
   query_goes range silo is =
@@ -205,3 +208,42 @@ module _ (node : Node) (its : Knows node) (sends : Sends node.host node.recoveri
 
   pub wants_go : All Goes (all_wants node)
   wants_go = pieces_go node.holding.pieces its.awaited
+
+  -- ---- what new pieces want
+  ask_goes : (its_state : PieceState) (range : Range) → AwaitsSilo its_state → All Goes (asks_by its_state node range)
+  ask_goes state.Settled range awaits = none_goes
+  ask_goes (state.Awaiting from) range awaits = one_goes _ (sent node its from _ awaits tt)
+  ask_goes state.Recovering range awaits = none_goes
+
+  asks_go : (pieces : List (ℕ × Piece)) → All (λ e. AwaitsSilo e.1.state) pieces
+      → All Goes (flat_map (λ e. asks_by e.1.state node e.1.range) pieces)
+  asks_go [] all = none_goes
+  asks_go (e ∷ es) all =
+      All-append Goes (asks_by e.1.state node e.1.range) (flat_map (λ x. asks_by x.1.state node x.1.range) es)
+      (ask_goes e.1.state e.1.range (All-head (λ (x : ℕ × Piece). AwaitsSilo x.1.state) e es all))
+      (asks_go es (All-tail (λ (x : ℕ × Piece). AwaitsSilo x.1.state) e es all))
+
+  all_queries_go : (ranges : List Range) → All Goes (flat_map (query_letters node) ranges)
+  all_queries_go [] = none_goes
+  all_queries_go (range ∷ ranges) =
+      All-append Goes (query_letters node range) (flat_map (query_letters node) ranges) (queries_go range) (all_queries_go ranges)
+
+  survey_goes : (ranges : List Range) → nat_le (length ranges) most_queried ≡ false → (silo : Silo) → IsSilo silo
+      → Goes (letter_to silo node (Survey_letter ranges))
+  survey_goes [] many silo is = absurd (cc many)
+  survey_goes (range ∷ ranges) many silo is = sent node its silo (Survey_letter (range ∷ ranges)) is (λ none. cc none)
+
+  surveys_go : (ranges : List Range) → All Goes (survey_letters node ranges)
+  surveys_go ranges =
+      on_bool (λ b. All Goes (cond b (flat_map (query_letters node) ranges)
+      (map (λ silo. letter_to silo node (Survey_letter ranges)) (members_of node.view)))) (nat_le (length ranges) most_queried)
+      (λ few. all_queries_go ranges)
+      (λ many. All-map Goes (λ silo. letter_to silo node (Survey_letter ranges)) (members_of node.view)
+      (All-weaker IsSilo (λ silo. Goes (letter_to silo node (Survey_letter ranges))) (survey_goes ranges many) (members_of node.view)
+      its.members))
+
+  pub new_wants_go : All Goes (new_wants node)
+  new_wants_go =
+      All-append Goes (flat_map (λ e. asks_by e.1.state node e.1.range) node.holding.pieces)
+      (survey_letters node (recovering_ranges node.holding.pieces)) (asks_go node.holding.pieces its.awaited)
+      (surveys_go (recovering_ranges node.holding.pieces))

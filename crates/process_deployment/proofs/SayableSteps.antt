@@ -1,6 +1,6 @@
 -- Every step leaves a node that sends such letters, and sends such letters.
 use Rattle.std.proofs.Common.{◌≡◌, ℕ, List, [], ◌∷◌, refl, sym, subst}
-use Rattle.std.specs.Prelude.{Bool, not, map, filter, All, IfSome, Option, Some, None}
+use Rattle.std.specs.Prelude.{Bool, not, map, filter, fold, All, IfSome, Option, Some, None}
 use Rattle.std.specs.List.{cons_option}
 use Rattle.std.specs.Map.{remove_entry}
 use Rattle.std.specs.Ordering.{nat_cmp}
@@ -26,12 +26,12 @@ use Rattle.directory_rules.specs.Members.{members_of}
 use Rattle.directory_rules.specs.Settings.{Settings}
 use Rattle.directory_rules.specs.Sight.{is_next}
 use Rattle.directory_rules.specs.Table.{table_of}
-use Rattle.directory_rules.specs.State.{Piece, Report, Recovery, Host, Letter, Body, Request_letter, Reply_letter, Page_letter, Missing_letter, Done_letter, Report_letter, Behind_letter, Ahead_letter, Offer_letter, Node}
+use Rattle.directory_rules.specs.State.{Piece, Report, Recovery, Host, Letter, Body, Request_letter, Reply_letter, Page_letter, Missing_letter, Done_letter, Report_letter, Empty_letter, Behind_letter, Ahead_letter, Offer_letter, Node}
 use Rattle.directory_rules.specs.Receive.{replying}
 use Rattle.directory_rules.specs.Recovery.{new_recovery, recovered}
 use Rattle.directory_rules.specs.Host.{entry_of, held_of, next_held, with_started, next_closing, with_closing, with_find, without_find, without_held, confirmed, renewed, renewed_phase, new_number, renewed_about, held_renewed_about, new_number_about}
 use Rattle.directory_rules.specs.Node.{new_node}
-use Rattle.directory_rules.specs.Sent.{recovery_of, all_requests, all_wants}
+use Rattle.directory_rules.specs.Sent.{recovery_of, all_requests, all_wants, new_wants}
 use Rattle.directory_rules.specs.Step as at
 use Rattle.directory_rules.specs.Transfer as tr
 use Rattle.directory_rules.specs.Input.{Input}
@@ -42,10 +42,11 @@ use Rattle.directory_facts.proofs.NamedTables.{NamesAct}
 use Rattle.directory_facts.proofs.Names.{NamesBody}
 use Rattle.directory_facts.proofs.NamesKept.{all_names, names_keep}
 use Rattle.directory_facts.proofs.EachStep.{by_way}
+use Rattle.directory_facts.proofs.Emptied.{by_nothing, by_each_beside}
 use Rattle.directory_facts.proofs.Ways.{Ways}
 use Rattle.process_deployment.proofs.SayableAnswers.{answers, handed_digest, StillAsks, recovered_asks}
 use Rattle.process_deployment.proofs.SayableFacts.{AsksOn, Tells, IsOnSilo, Goes, Replaces, Looks, Waits, Sends, sent_facts}
-use Rattle.process_deployment.proofs.SayableSending.{Knows, knows, view_silos, one_goes, none_goes, sent, request_goes, requests_go, requests_of_grain_go, new_asks, asks_on, query_goes, queries_go, wants_go}
+use Rattle.process_deployment.proofs.SayableSending.{Knows, knows, view_silos, one_goes, none_goes, sent, request_goes, requests_go, requests_of_grain_go, new_asks, awaited_asks, asks_on, query_goes, queries_go, wants_go, new_wants_go}
 
 -- ---- recoveries that begin anew
 anew : (view : ViewValue) → All IsSilo (members_of view) → (pieces : List (ℕ × Piece)) → All Waits (at.new_recoveries view pieces)
@@ -58,6 +59,31 @@ anew view members (e ∷ es) = by e.1.state (anew view members es)
     by (state.Awaiting from) later = later
     by state.Recovering later =
         All-cons Waits (e.1.range.start, new_recovery view e.1.range) (at.new_recoveries view es) (new_asks view e.1.range members) later
+
+-- recoveries alone change
+module _ (node : Node) (sends : Sends node.host node.recoveries) where
+  with_waits : (recoveries : List (ℕ × Recovery)) → All Waits recoveries → Sends node.host recoveries
+  with_waits recoveries waits = record { replaced = sends.replaced; looked_for = sends.looked_for; awaited = waits }
+
+  settled : (range : Range) → Sends node.host (remove_entry (is_at (nat_cmp range.start)) node.recoveries)
+  settled range =
+      with_waits (remove_entry (is_at (nat_cmp range.start)) node.recoveries)
+      (all_removed Waits (is_at (nat_cmp range.start)) node.recoveries sends.awaited)
+
+  collected : (recovery : Recovery) → AsksOn recovery
+      → Sends node.host (insert_entry nat_cmp node.recoveries recovery.range.start recovery)
+  collected recovery waits =
+      with_waits (insert_entry nat_cmp node.recoveries recovery.range.start recovery)
+      (all_put nat_cmp exact_unsigned Waits recovery.range.start recovery node.recoveries sends.awaited waits)
+
+  -- a silo has nothing in a range
+  emptied_one : (letter : Letter) (range : Range) → All IsSilo (members_of node.view)
+      → Sends (tr.told_nothing letter node range).host (tr.told_nothing letter node range).recoveries
+  emptied_one letter range members =
+      by_nothing letter node range (λ (n : Node). Sends n.host n.recoveries) sends
+      (λ recovery taken. collected recovery (subst StillAsks taken.1 (recovered_asks (recovery_of node range)
+      (tr.nothing_in letter range) (awaited_asks node members sends.awaited range) tt (All-nil IsNamed))))
+      (λ table taken. settled range)
 
 -- ---- steps
 module _ (settings : Settings) (views : ViewsValue) (places : PlacesValue) (silo : Silo) (node : Node)
@@ -140,20 +166,14 @@ module _ (settings : Settings) (views : ViewsValue) (places : PlacesValue) (silo
       (All-map Looks (λ (e : ℕ × Grain). (new_number_about grain node.host e.0, e.1)) (filter (λ e. grain_eq e.1 grain) node.host.finds)
       (All-filter (λ (e : ℕ × Grain). grain_eq e.1 grain) Looks node.host.finds sends.looked_for)))
 
-  -- recoveries
-  with_waits : (recoveries : List (ℕ × Recovery)) → All Waits recoveries → Sends node.host recoveries
-  with_waits recoveries waits = record { replaced = sends.replaced; looked_for = sends.looked_for; awaited = waits }
-
-  settled : (range : Range) → Sends node.host (remove_entry (is_at (nat_cmp range.start)) node.recoveries)
-  settled range =
-      with_waits (remove_entry (is_at (nat_cmp range.start)) node.recoveries)
-      (all_removed Waits (is_at (nat_cmp range.start)) node.recoveries sends.awaited)
-
-  collected : (recovery : Recovery) → AsksOn recovery
-      → Sends node.host (insert_entry nat_cmp node.recoveries recovery.range.start recovery)
-  collected recovery waits =
-      with_waits (insert_entry nat_cmp node.recoveries recovery.range.start recovery)
-      (all_put nat_cmp exact_unsigned Waits recovery.range.start recovery node.recoveries sends.awaited waits)
+  -- several ranges in which a silo has nothing
+  emptied : (letter : Letter) (ranges : List Range)
+      → Sends (fold (tr.told_nothing letter) node ranges).host (fold (tr.told_nothing letter) node ranges).recoveries
+  emptied letter ranges =
+      by_each_beside letter node (λ (n : Node). Sends n.host n.recoveries)
+      (λ n range rest so. emptied_one n so letter range
+      (subst (λ (v : ViewValue). All IsSilo (members_of v)) (sym rest.view) its.members))
+      ranges sends
 
   -- after a report
   reported : (letter : Letter) (report : Report) → letter.body ≡ Report_letter report → NamesBody letter.body → Goes letter
@@ -167,7 +187,7 @@ module _ (settings : Settings) (views : ViewsValue) (places : PlacesValue) (silo
       → Kept (tr.querying_on report.range report.silo (tr.with_recovery node recovery))
   asked_on letter report recovery sender asks goes so =
       let made = tr.with_recovery node recovery in
-      let makes : Sends made.host made.recoveries = collected recovery asks in
+      let makes : Sends made.host made.recoveries = collected node sends recovery asks in
       (makes, one_goes _ (query_goes made (after made so) makes report.range report.silo (subst IsSilo (sym sender) goes.from)))
 
   -- letters back
@@ -179,6 +199,19 @@ module _ (settings : Settings) (views : ViewsValue) (places : PlacesValue) (silo
         to = goes.from;
         tells = tells;
       })
+
+  -- a survey's answer
+  empty_goes : (letter : Letter) (ranges : List Range) → Goes letter → All Goes (tr.empty_letters letter node ranges)
+  empty_goes letter [] goes = none_goes
+  empty_goes letter (range ∷ ranges) goes = back letter node (Empty_letter (range ∷ ranges)) refl goes (λ none. cc none)
+
+  tellings_go : (letter : Letter) (ranges : List Range) → Goes letter → All Goes (tr.tellings letter node ranges)
+  tellings_go letter ranges goes =
+      All-append Goes (tr.empty_letters letter node (filter (tr.has_nothing node) ranges)) _
+      (empty_goes letter (filter (tr.has_nothing node) ranges) goes)
+      (All-map Goes (λ range. tr.answer_to letter node (Report_letter (tr.report_of node range None)))
+      (filter (λ range. not (tr.has_nothing node range)) ranges)
+      (λ k d below. record { from = its.silo; to = goes.from; tells = tt }))
 
   replies : (letter : Letter) (request : Request) → letter.body ≡ Request_letter request → request.sender ≡ letter.from
       → NamesBody letter.body → Goes letter → All Goes (replying node request (answered node.holding request)).letters
@@ -196,7 +229,7 @@ module _ (settings : Settings) (views : ViewsValue) (places : PlacesValue) (silo
       let members = subst (λ (v : ViewValue). All IsSilo (members_of v)) (sym sight.is_view) (view_silos settings views places sight.version shared.0.1 shared.1) in
       let makes : Sends made.host made.recoveries = anew_with (at.new_recoveries view made.holding.pieces) (anew view members made.holding.pieces) in (
         makes,
-        All-append Goes (all_wants made) (all_requests made) (wants_go made (after made so) makes)
+        All-append Goes (new_wants made) (all_requests made) (new_wants_go made (after made so) makes)
             (requests_go made (after made so) makes),
       )
 
@@ -221,7 +254,7 @@ module _ (settings : Settings) (views : ViewsValue) (places : PlacesValue) (silo
       → Kept (tr.querying range (tr.turned_to_recovery node range))
   turned range so =
       let made = tr.turned_to_recovery node range in
-      let makes : Sends made.host made.recoveries = collected (new_recovery node.view range) (new_asks node.view range its.members) in
+      let makes : Sends made.host made.recoveries = collected node sends (new_recovery node.view range) (new_asks node.view range its.members) in
       (makes, queries_go made (after made so) makes range)
 
   ways : Ways node Made
@@ -267,11 +300,12 @@ module _ (settings : Settings) (views : ViewsValue) (places : PlacesValue) (silo
     passed = λ letter range brings goes so. (sends, back letter node (Ahead_letter range) refl goes.1 tt);
     reports = λ letter range after body seen brings goes so.
         (sends, back letter node (Report_letter (tr.report_of node range after)) refl goes.1 (subst Tells body goes.1.tells));
+    surveys = λ letter first others body seen brings goes so. (sends, tellings_go letter (first ∷ others) goes.1);
     gathers =
         λ letter page gathering taken is brings goes so. (sends, one_goes _ (record { from = its.silo; to = goes.1.from; tells = tt }));
     installs =
         λ letter page entries taken is brings goes so. (
-          settled page.range,
+          settled node sends page.range,
           back letter (tr.with_settled node page.range (table_of entries))
               (Done_letter page.range) refl goes.1 tt,
         );
@@ -280,8 +314,9 @@ module _ (settings : Settings) (views : ViewsValue) (places : PlacesValue) (silo
     continues = λ letter report recovery taken is brings goes so.
         asked_on letter report recovery taken.sender (subst StillAsks is (reported letter report taken.body brings.1.1 goes.1)) goes.1 so;
     collects = λ letter report recovery taken is brings goes so.
-        (collected recovery (subst StillAsks is (reported letter report taken.body brings.1.1 goes.1)), none_goes);
-    completes = λ letter report table taken is brings goes so. (settled report.range, none_goes);
+        (collected node sends recovery (subst StillAsks is (reported letter report taken.body brings.1.1 goes.1)), none_goes);
+    completes = λ letter report table taken is brings goes so. (settled node sends report.range, none_goes);
+    empties = λ letter ranges its body plain brings goes so. (emptied letter ranges, none_goes);
     takes_over =
         λ letter entry body seen may brings goes so. let offered : IsNamed entry = subst NamesBody body brings.1.1 in
         begun entry.grain (Some entry.activation) offered.silo;

@@ -1,18 +1,16 @@
 -- The entries of a page or a report, read two words at a time.
-use Rattle.std.proofs.Common.{◌≡◌, subst, ap, ◌∙◌, sym, refl, ℕ, Bool, true, false, Option, Result, Ok, Err, List, [], ◌∷◌, ◌++◌, append_assoc}
-use Rattle.std.specs.Prelude.{◌≢◌, IsErrAnd, IsOk}
+use Rattle.std.proofs.Common.{◌≡◌, subst, ap, ◌∙◌, sym, ℕ, Bool, true, false, Option, Result, Ok, Err, List, [], ◌∷◌, ◌++◌}
 use Rattle.std.proofs.lemmas.List.{append-nil}
 use Rattle.silo_address.specs.Grain.{Grain}
 use Rattle.silo_address.specs.declared.Entry.{Entry}
 use Rattle.ring_range.specs.Range.{Range}
 use Rattle.directory_rules.specs.State.{Letter, Page_letter, Report_letter}
 use Rattle.script_rules.specs.Script.{number_word, ◌>>=◌}
-use Rattle.process_rules.specs.Entries.{TellsEntries}
 use Rattle.process_rules.specs.ReadLetter.{Head, letter_of, range_word, digest_word, are_pairs, last_word, entries_in, entry_of_words, report_behind, page_for}
 use Rattle.process_lines.specs.declared.fault.LineError.{LineError}
-use Rattle.process_lines.specs.declared.fault.LineError.TheVariants.{Fault, OutOfMemory}
-use Rattle.process_lines.specs.ReadAs.{Fails, Reads}
-use Rattle.process_lines.specs.Short.{AreEntries, HasEntries}
+use Rattle.process_lines.specs.ReadAs.{Fails}
+use Rattle.process_lines.specs.Short.{AreSome, LetterTellsList}
+use Rattle.process_lines.proofs.Onto.{onto, onto_nil, onto_more, fails_behind, fails_then, brings_then}
 
 -- ---- pairs
 pub pairs_more : (words behind after : List (List ℕ)) (one other : List ℕ) → words ≡ one ∷ behind → behind ≡ other ∷ after
@@ -27,20 +25,7 @@ pairs_end words none = ap are_pairs none
 
 pub ruleset pair_by_pair = (pairs_more, pairs_odd, pairs_end)
 
--- ---- entries: what is read with these in front
-abbrev pub onto : List Entry → Result (List Entry) ℕ → Result (List Entry) ℕ
-onto before (Ok entries) = Ok (before ++ entries)
-onto before (Err fault) = Err fault
-
-onto_nil : (read : Result (List Entry) ℕ) → onto [] read ≡ read
-onto_nil (Ok entries) = refl
-onto_nil (Err fault) = refl
-
-onto_more : (before : List Entry) (entry : Entry) (read : Result (List Entry) ℕ)
-    → onto before (read >>= λ entries. Ok (entry ∷ entries)) ≡ onto (before ++ entry ∷ []) read
-onto_more before entry (Ok entries) = ap Ok (sym (append_assoc before (entry ∷ []) entries))
-onto_more before entry (Err fault) = refl
-
+-- ---- entries
 pub entries_first : (words : List (List ℕ)) → entries_in words ≡ onto [] (entries_in words)
 entries_first words = sym (onto_nil (entries_in words))
 
@@ -67,43 +52,9 @@ entries_odd before words behind grain first second =
 pub entries_end : (before : List Entry) (words : List (List ℕ)) → words ≡ [] → onto before (entries_in words) ≡ Ok before
 entries_end before words none = ap (λ (ws : List (List ℕ)). onto before (entries_in ws)) none ∙ ap Ok (append-nil before)
 
-pub fails_behind : (error : LineError) (before : List Entry) (read : Result (List Entry) ℕ) → Fails error read
-    → Fails error (onto before read)
-fails_behind (Fault fault) before read fails = ap (onto before) fails
-fails_behind OutOfMemory before (Ok entries) fails = fails
-fails_behind OutOfMemory before (Err fault) fails = fails
-
 pub ruleset entry_by_entry = (entries_first, entries_more, entries_fault, entries_odd, entries_end, fails_behind)
 
--- ---- what fails in the entries fails in what is made of them
-fails_then : {B : Type 0} (error : LineError) (read : Result (List Entry) ℕ) (make : List Entry → B) → Fails error read
-    → Fails error (read >>= λ entries. Ok (make entries))
-fails_then (Fault fault) read make fails = ap (λ (r : Result (List Entry) ℕ). r >>= λ entries. Ok (make entries)) fails
-fails_then OutOfMemory (Ok entries) make fails = fails
-fails_then OutOfMemory (Err fault) make fails = fails
-
--- where entries were read, at least one, what is made of them tells one
-brings_then : (read : Result (List Entry) ℕ) (make : List Entry → Letter)
-    → ((entries : List Entry) → entries ≢ [] → TellsEntries (make entries).body) → AreEntries read
-    → HasEntries (read >>= λ entries. Ok (make entries))
-brings_then (Ok entries) make tells some = tells entries some
-brings_then (Err fault) make tells some = absurd some
-
--- where those behind an entry are entries, there are some
-some_behind : (before : List Entry) (entry : Entry) (behind : List Entry) → (before ++ entry ∷ []) ++ behind ≢ []
-some_behind [] entry behind = λ none. cc
-some_behind (first ∷ before) entry behind = λ none. cc
-
-pub has_entries : (before : List Entry) (entry : Entry) (read : Result (List Entry) ℕ) → IsOk read
-    → AreEntries (onto (before ++ entry ∷ []) read)
-has_entries before entry (Ok behind) ok = some_behind before entry behind
-has_entries before entry (Err fault) ok = cc ok
-
-pub handed_on : {A B : Type 0} (view : A → B) (result : Result A LineError) (error : LineError) (read : Result B ℕ)
-    → IsErrAnd result (λ e. e ≡ error) → Fails error read → Reads view result read
-handed_on view (Ok value) error read is fails = absurd is
-handed_on view (Err same) error read is fails = subst (λ (e : LineError). Fails e read) (sym is) fails
-
+-- ---- reports and pages
 abbrev report_made : Head → Range → Option Grain → Bool → List Entry → Letter
 report_made head range after last entries =
     letter_of head (Report_letter (record {
@@ -136,9 +87,9 @@ module _ (read : Result Head ℕ) (first : List ℕ) (behind_read : Result (Opti
       (fails_then error (entries_in words) (report_made head range after last) fails)
 
   pub report_brings : read ≡ Ok head → range_word first ≡ Ok range → behind_read ≡ Ok after → last_word second ≡ Ok last
-      → AreEntries (entries_in words) → HasEntries (report_behind read first behind_read second words)
+      → AreSome (entries_in words) → LetterTellsList (report_behind read first behind_read second words)
   report_brings read_is range_is after_is last_is some =
-      subst HasEntries (sym (report_is read_is range_is after_is last_is))
+      subst LetterTellsList (sym (report_is read_is range_is after_is last_is))
       (brings_then (entries_in words) (report_made head range after last) (λ entries some. some) some)
 
 abbrev page_made : Head → Range → (page pages : ℕ) → (digest : List ℕ) → List Entry → Letter
@@ -180,7 +131,7 @@ module _ (read : Result Head ℕ) (first second third fourth : List ℕ) (behind
 
   pub page_brings : read ≡ Ok head → range_word first ≡ Ok range → number_word second ≡ Ok page → number_word third ≡ Ok pages
       → digest_word fourth ≡ Ok digest
-      → AreEntries (entries_in behind) → HasEntries (page_for true read first second third fourth behind)
+      → AreSome (entries_in behind) → LetterTellsList (page_for true read first second third fourth behind)
   page_brings read_is range_is page_reads pages_is digest_is some =
-      subst HasEntries (sym (page_is read_is range_is page_reads pages_is digest_is))
+      subst LetterTellsList (sym (page_is read_is range_is page_reads pages_is digest_is))
       (brings_then (entries_in behind) (page_made head range page pages digest) (λ entries some. some) some)

@@ -3,7 +3,7 @@ use Rattle.std.proofs.Common.{◌≡◌, ℕ, Bool, true, false, Result, Ok, Err
 use Rattle.hash_ring.specs.declared.hashing.Hashing.{Hashing}
 use Rattle.directory_rules.specs.declared.act.Act.TheVariants as act
 use Rattle.directory_rules.specs.declared.letter_kind.LetterKind.{LetterKind}
-use Rattle.directory_rules.specs.declared.letter_kind.LetterKind.TheVariants.{Page, Report}
+use Rattle.directory_rules.specs.declared.letter_kind.LetterKind.TheVariants.{Page, Report, Survey, Empty}
 use Rattle.script_rules.specs.Script.{grain_word, ◌>>=◌}
 use Rattle.process_rules.specs.ReadLetter.{Head, a_number_and_an_entry, a_page, a_register, a_report, are_pairs, head_of_words, kind_among, kinds, letter_by, page_for, read_letter, report_behind, report_for, request_of}
 use Rattle.script_lines.specs.WordCounts.{only_three_words}
@@ -45,11 +45,13 @@ four_from words (a ∷ b ∷ c ∷ []) one two three four first behind =
     parts same = cc
 four_from words (a ∷ b ∷ c ∷ d ∷ rest) one two three four first behind = cc behind
 
--- all kinds but two are short
-pub short_kind : (kind : LetterKind) → ¬ (kind ≡ Page) → ¬ (kind ≡ Report) → IsShort kind
-short_kind Page other another = absurd (other refl)
-short_kind Report other another = absurd (another refl)
-short_kind short other another = tt
+-- all kinds but four are short
+pub short_kind : (kind : LetterKind) → ¬ (kind ≡ Page) → ¬ (kind ≡ Report) → ¬ (kind ≡ Survey) → ¬ (kind ≡ Empty) → IsShort kind
+short_kind Page page report survey empty = absurd (page refl)
+short_kind Report page report survey empty = absurd (report refl)
+short_kind Survey page report survey empty = absurd (survey refl)
+short_kind Empty page report survey empty = absurd (empty refl)
+short_kind short page report survey empty = tt
 
 pub ruleset by_kind = (short_kind)
 

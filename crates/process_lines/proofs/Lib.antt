@@ -1,5 +1,7 @@
 pub mod Commands
+pub mod Onto
 pub mod EachEntry
+pub mod EachRange
 pub mod Forms
 pub mod Written
 pub mod Names

@@ -13,6 +13,9 @@ OfAnEntry = Head → ℕ → Entry → Letter
 abbrev pub OfARange : Type 0
 OfARange = Range → Body
 
+abbrev pub OfRanges : Type 0
+OfRanges = List Range → Body
+
 -- the grain that the word names, as that behind which a report tells
 abbrev pub after_in : List ℕ → Result (Option Grain) ℕ
 after_in word = do

@@ -4,7 +4,7 @@ ghost use Rattle.std.specs.Prelude.{◌≡◌, IsErrOf};
 ghost use Rattle.texts.specs.Words.{words_in};
 ghost use Rattle.process_rules.specs.ReadLetter as rule;
 ghost use Rattle.process_lines.specs.ReadAs.{Fails, Reads};
-ghost use Rattle.process_lines.specs.Short.{AreEntries};
+ghost use Rattle.process_lines.specs.Short.{AreSome};
 
 use crate::words::entry_of_words;
 use crate::{LineError, LineFault};
@@ -31,7 +31,7 @@ pub(crate) fn are_pairs(words: &[u8]) -> bool
 #[tactic(auto, using(crate::proofs::EachEntry::entry_by_entry))]
 pub(crate) fn entries_in(alloc: Global, words: &[u8]) -> Result<Vec<Entry>, LineError>
     ensures reads { Reads (λ entries. entries.items) result (rule.entries_in (words_in words.now)) }
-    ensures memory { IsErrOf result LineError.OutOfMemory → AreEntries (rule.entries_in (words_in words.now)) }
+    ensures memory { IsErrOf result LineError.OutOfMemory → AreSome (rule.entries_in (words_in words.now)) }
 {
     let mut entries = Vec::new(alloc);
     let mut rest = words;

@@ -108,7 +108,7 @@ pub enum LineError {
     /// The line has a fault.
     #[error("{0}")]
     Fault(LineFault),
-    /// Memory ran out for the entries of a page or a report, for the silos of a view, or for the places of a join.
+    /// Memory ran out for the entries or the ranges of a letter, for the silos of a view, or for the places of a join.
     #[error("out of memory")]
     OutOfMemory,
 }

@@ -58,6 +58,8 @@ fn transfer_kind(word: &[u8]) -> Option<LetterKind>
         b"done" => Some(LetterKind::Done),
         b"query" => Some(LetterKind::Query),
         b"report" => Some(LetterKind::Report),
+        b"survey" => Some(LetterKind::Survey),
+        b"empty" => Some(LetterKind::Empty),
         b"behind" => Some(LetterKind::Behind),
         b"ahead" => Some(LetterKind::Ahead),
         _ => None,

@@ -11,6 +11,7 @@ mod kinds;
 mod known;
 mod listed;
 mod questions;
+mod ranges;
 mod read;
 mod reading;
 mod replies;

@@ -15,8 +15,8 @@ use std::alloc::Global;
 pub const LONGEST_LINE: usize = 16_777_216;
 
 /// Reads a line of a silo's process, given without its end, grains being hashed so: what it asks for, nothing, or its first
-/// fault. Memory may run out only at a join with places, a view with silos, or a page or a report that tells an entry, and that it
-/// does is told only where the line has no fault (`docs/RULES.md#lines-of-a-silos-process`).
+/// fault. Memory may run out only at a join with places, a view with silos, a page or a report that tells an entry, or a letter of any
+/// number of ranges, and that it does is told only where the line has no fault (`docs/RULES.md#lines-of-a-silos-process`).
 #[tactic(auto, unfolding(process_rules::specs::ReadLine::read_silo_line))]
 pub fn read_line<'a>(
     alloc: Global,

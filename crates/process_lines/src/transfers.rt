@@ -6,7 +6,7 @@ ghost use Rattle.texts.specs.Words.{words_in};
 ghost use Rattle.process_rules.specs.ReadLetter as rule;
 ghost use Rattle.process_lines.specs.Made.{OfARange, after_in};
 ghost use Rattle.process_lines.specs.ReadAs.{Reads, head_of, told};
-ghost use Rattle.process_lines.specs.Short.{HasEntries};
+ghost use Rattle.process_lines.specs.Short.{LetterTellsList};
 
 use crate::entries::{are_pairs, entries_in};
 use crate::head::Head;
@@ -123,7 +123,7 @@ pub(crate) fn a_page(
     words: &[u8],
 ) -> Result<Letter, LineError>
     ensures reads { Reads (λ letter. letter) result (rule.a_page (told head_of head) (words_in words.now)) }
-    ensures memory { IsErrOf result LineError.OutOfMemory → HasEntries (rule.a_page (told head_of head) (words_in words.now)) }
+    ensures memory { IsErrOf result LineError.OutOfMemory → LetterTellsList (rule.a_page (told head_of head) (words_in words.now)) }
 {
     let Some(front) = four_words(words) else {
         return Err(LineError::Fault(LineFault::WordCount));
@@ -142,7 +142,7 @@ fn page_of(
 ) -> Result<Letter, LineError>
     ensures reads { Reads (λ letter. letter) result
         (rule.page_for true (told head_of head) front.now.first.now front.now.second.now front.now.third.now front.now.fourth.now (words_in front.now.behind.now)) }
-    ensures memory { IsErrOf result LineError.OutOfMemory → HasEntries
+    ensures memory { IsErrOf result LineError.OutOfMemory → LetterTellsList
         (rule.page_for true (told head_of head) front.now.first.now front.now.second.now front.now.third.now front.now.fourth.now (words_in front.now.behind.now)) }
 {
     let head = head?;
@@ -164,7 +164,7 @@ pub(crate) fn a_report(
     words: &[u8],
 ) -> Result<Letter, LineError>
     ensures reads { Reads (λ letter. letter) result (rule.a_report (told head_of head) (words_in words.now)) }
-    ensures memory { IsErrOf result LineError.OutOfMemory → HasEntries (rule.a_report (told head_of head) (words_in words.now)) }
+    ensures memory { IsErrOf result LineError.OutOfMemory → LetterTellsList (rule.a_report (told head_of head) (words_in words.now)) }
 {
     let Some((range, behind)) = split_word(words) else {
         return Err(LineError::Fault(LineFault::WordCount));
@@ -200,7 +200,7 @@ fn report_of(
 ) -> Result<Letter, LineError>
     ensures reads { Reads (λ letter. letter) result
         (rule.report_behind (told head_of head) range.now (told (λ after. after) after) last.now (words_in entries.now)) }
-    ensures memory { IsErrOf result LineError.OutOfMemory → HasEntries
+    ensures memory { IsErrOf result LineError.OutOfMemory → LetterTellsList
         (rule.report_behind (told head_of head) range.now (told (λ after. after) after) last.now (words_in entries.now)) }
 {
     let head = head?;

@@ -12,7 +12,7 @@ ghost use Rattle.directory_letters.specs.LetterModel.{body_of};
 ghost use Rattle.script_rules.specs.Lines.{kind_word};
 ghost use Rattle.script_lines.specs.Printed.{printed};
 ghost use Rattle.script_lines.specs.Spaced.{spaced, BeginsWith};
-ghost use Rattle.process_rules.specs.LetterText.{act_words, after_words, body_words, end_word, entries_words, entry_words, letter_line, letter_words, previous_words, reply_words, why_words};
+ghost use Rattle.process_rules.specs.LetterText.{act_words, after_words, body_words, end_word, entries_words, entry_words, letter_line, letter_words, previous_words, ranges_words, reply_words, why_words};
 
 use crate::words::digest_text;
 use directory_letters::{Body, Letter};
@@ -78,6 +78,7 @@ fn push_body(out: &mut Vec<u8>, body: &Body) -> Result<(), AllocError>
             push_range(out, range),
         Body::Query { range, after } => push_query(out, range, *after),
         Body::Report(report) => push_report(out, report),
+        Body::Survey(ranges) | Body::Empty(ranges) => push_ranges(out, ranges.as_slice()),
         Body::Offer(entry) => push_placed(out, entry),
     }
 }
@@ -143,6 +144,17 @@ fn push_entries(out: &mut Vec<u8>, entries: &[Entry]) -> Result<(), AllocError>
 {
     for entry in entries {
         push_placed(out, entry)?;
+    }
+    Ok(())
+}
+
+/// Ranges, one behind the other.
+fn push_ranges(out: &mut Vec<u8>, ranges: &[RingRange]) -> Result<(), AllocError>
+    ensures written { OnOk result (out.new.items ≡ out.old.items ++ spaced (ranges_words ranges.now)) }
+    ensures kept { BeginsWith out.old.items out.new.items }
+{
+    for range in ranges {
+        push_range(out, range)?;
     }
     Ok(())
 }

@@ -14,7 +14,7 @@ use Rattle.directory_rules.specs.declared.reply.Why.{Why}
 use Rattle.directory_rules.specs.declared.reply.Why.TheVariants as why
 use Rattle.directory_rules.specs.declared.reply.Reply.{Reply}
 use Rattle.directory_rules.specs.declared.reply.Reply.TheVariants as reply
-use Rattle.directory_rules.specs.State.{Letter, Body, Request_letter, Reply_letter, Ask_letter, Page_letter, Missing_letter, Done_letter, Query_letter, Report_letter, Behind_letter, Ahead_letter, Offer_letter}
+use Rattle.directory_rules.specs.State.{Letter, Body, Request_letter, Reply_letter, Ask_letter, Page_letter, Missing_letter, Done_letter, Query_letter, Report_letter, Survey_letter, Empty_letter, Behind_letter, Ahead_letter, Offer_letter}
 use Rattle.directory_rules.specs.Letter.{kind_of, act_kind, reply_kind}
 use Rattle.script_rules.specs.Script.{grain_word, number_word, ◌>>=◌}
 use Rattle.process_rules.specs.LetterText.{entry_words, entries_words, act_words, why_words, reply_words, body_words}
@@ -22,6 +22,7 @@ use Rattle.process_rules.specs.ReadLetter.{activation_word, range_word, digest_w
 use Rattle.process_rules.specs.Told.{IsNumber, IsEntry, IsAct, IsWhy, IsReply, IsToldBody}
 use Rattle.process_rules.proofs.Chains.{two_again, three_again, four_again, six_again}
 use Rattle.process_rules.proofs.WordsAgain.{number_again, grain_again, activation_again, range_again, digest_again, entry_again, pairs_again, entries_again}
+use Rattle.process_rules.proofs.RangeForms.{ranges_form_again}
 use Rattle.process_rules.proofs.ReportForms.{query_form_again, report_form_again}
 
 -- ---- what each form makes of what it reads
@@ -166,6 +167,8 @@ module _ (hashing : Hashing) (head : Head) (read : Result Head ℕ) (reads : rea
         entries = report.entries;
         last = report.last;
       }))))
+  body_again (Survey_letter ranges) is = ranges_form_again head read reads Survey_letter ranges is
+  body_again (Empty_letter ranges) is = ranges_form_again head read reads Empty_letter ranges is
   body_again (Behind_letter range) is = range_form_again Behind_letter range is
   body_again (Ahead_letter range) is = range_form_again Ahead_letter range is
   body_again (Offer_letter entry) is =

@@ -16,7 +16,7 @@ use Rattle.directory_rules.specs.declared.reply.Reply.{Reply}
 use Rattle.directory_rules.specs.declared.reply.Reply.TheVariants as reply
 use Rattle.directory_rules.specs.declared.letter_kind.LetterKind.{LetterKind}
 use Rattle.directory_rules.specs.declared.letter_kind.LetterKind.TheVariants as kind
-use Rattle.directory_rules.specs.State.{Letter, Body, Missing_letter, Done_letter, Behind_letter, Ahead_letter}
+use Rattle.directory_rules.specs.State.{Letter, Body, Missing_letter, Done_letter, Survey_letter, Empty_letter, Behind_letter, Ahead_letter}
 use Rattle.directory_rules.specs.Letter.{kind_of, reply_kind}
 use Rattle.script_rules.specs.Script.{grain_word, number_word, ◌>>=◌}
 use Rattle.process_rules.specs.LetterText.{entry_words, entries_words, why_words, reply_words, body_words}
@@ -25,6 +25,7 @@ use Rattle.process_rules.specs.Told.{IsNumber, IsEntry, IsWhy, IsReply, IsToldBo
 use Rattle.process_rules.proofs.Chains.{ok_is, two_gave, three_gave, four_gave, six_gave}
 use Rattle.process_rules.proofs.WordsAgain.{number_gave, grain_gave, activation_gave, range_gave, digest_gave, entry_gave, entries_gave}
 use Rattle.process_rules.proofs.Given.{head_in, Gave, moved}
+use Rattle.process_rules.proofs.RangeForms.{ranges_made, ranges_form_gave}
 use Rattle.process_rules.proofs.ReportForms.{query_gave, report_gave}
 use Rattle.process_rules.proofs.WordsTold.{number_told, grain_told, activation_told, range_told, digest_told, entry_told, entries_told}
 use Rattle.process_rules.proofs.FormsAgain.{first_register, next_register, find_made, reply_made, retry_made, ask_made, page_made, range_made, offer_made}
@@ -313,6 +314,12 @@ module _ (hashing : Hashing) (read : Result Head ℕ) (letter : Letter) where
       range_form_gave Done_letter kind.Done (λ h range is. as_told h (range_made Done_letter h range) refl is) words given
   form_gave kind.Query words given = query_gave hashing read letter words given
   form_gave kind.Report words given = report_gave hashing read letter words given
+  form_gave kind.Survey words given =
+      ranges_form_gave hashing read letter Survey_letter kind.Survey
+      (λ h ranges is. as_told h (ranges_made Survey_letter h ranges) refl is) words given
+  form_gave kind.Empty words given =
+      ranges_form_gave hashing read letter Empty_letter kind.Empty
+      (λ h ranges is. as_told h (ranges_made Empty_letter h ranges) refl is) words given
   form_gave kind.Behind words given =
       range_form_gave Behind_letter kind.Behind (λ h range is. as_told h (range_made Behind_letter h range) refl is) words given
   form_gave kind.Ahead words given =

@@ -13,7 +13,7 @@ use Rattle.directory_rules.specs.declared.reply.Why.{Why}
 use Rattle.directory_rules.specs.declared.reply.Why.TheVariants as why
 use Rattle.directory_rules.specs.declared.reply.Reply.{Reply}
 use Rattle.directory_rules.specs.declared.reply.Reply.TheVariants as reply
-use Rattle.directory_rules.specs.State.{Letter, Body, Request_letter, Reply_letter, Ask_letter, Page_letter, Missing_letter, Done_letter, Query_letter, Report_letter, Behind_letter, Ahead_letter, Offer_letter}
+use Rattle.directory_rules.specs.State.{Letter, Body, Request_letter, Reply_letter, Ask_letter, Page_letter, Missing_letter, Done_letter, Query_letter, Report_letter, Survey_letter, Empty_letter, Behind_letter, Ahead_letter, Offer_letter}
 use Rattle.directory_rules.specs.Letter.{kind_of, act_kind, reply_kind}
 use Rattle.script_rules.specs.Script.{grain_word, number_word, ◌>>=◌}
 use Rattle.process_rules.specs.LetterText.{entry_words, entries_words, act_words, why_words, reply_words, body_words}
@@ -23,6 +23,7 @@ use Rattle.process_rules.proofs.Chains.{IsSaid, is_said, one_said, two_said, thr
 use Rattle.process_rules.proofs.WordsAgain.{grain_again, digest_again, pairs_again}
 use Rattle.process_rules.proofs.Numbers.{number_said}
 use Rattle.process_rules.proofs.WordsSaid.{activation_said, range_said, entry_said, entries_said}
+use Rattle.process_rules.proofs.RangeForms.{ranges_form_said}
 use Rattle.process_rules.proofs.ReportForms.{query_form_said, report_form_said}
 use Rattle.process_rules.proofs.FormsAgain.{first_register, next_register, find_made, reply_made, retry_made, ask_made, page_made, range_made, offer_made}
 
@@ -138,6 +139,8 @@ module _ (Fits : ℕ → Type 0) (hashing : Hashing) (head : Head) (read : Resul
         last = report.last;
       })))
       (report_form_said Fits head read reads report.range report.after report.last report.entries is.after is.entries)
+  body_said Lies (Survey_letter ranges) is = ranges_form_said head read reads Lies Survey_letter ranges is
+  body_said Lies (Empty_letter ranges) is = ranges_form_said head read reads Lies Empty_letter ranges is
   body_said Lies (Behind_letter range) is = range_form_said Behind_letter range
   body_said Lies (Ahead_letter range) is = range_form_said Ahead_letter range
   body_said Lies (Offer_letter entry) is =

@@ -5,6 +5,7 @@ mod Numbers
 mod WordsSaid
 pub mod Given
 pub mod ReportForms
+mod RangeForms
 pub mod FormsAgain
 pub mod FormsGave
 pub mod LettersAgain

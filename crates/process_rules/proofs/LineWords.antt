@@ -31,11 +31,11 @@ use Rattle.directory_rules.specs.declared.reply.Reply.{Reply}
 use Rattle.directory_rules.specs.declared.reply.Reply.TheVariants as reply
 use Rattle.directory_rules.specs.declared.letter_kind.LetterKind.{LetterKind}
 use Rattle.directory_rules.specs.declared.letter_kind.LetterKind.TheVariants as kind
-use Rattle.directory_rules.specs.State.{Letter, Body, Request_letter, Reply_letter, Ask_letter, Page_letter, Missing_letter, Done_letter, Query_letter, Report_letter, Behind_letter, Ahead_letter, Offer_letter}
+use Rattle.directory_rules.specs.State.{Letter, Body, Request_letter, Reply_letter, Ask_letter, Page_letter, Missing_letter, Done_letter, Query_letter, Report_letter, Survey_letter, Empty_letter, Behind_letter, Ahead_letter, Offer_letter}
 use Rattle.directory_rules.specs.Letter.{kind_of}
 use Rattle.script_rules.specs.Lines.{kind_word}
 use Rattle.script_rules.specs.Script.{is_text}
-use Rattle.process_rules.specs.LetterText.{entry_words, entries_words, previous_words, after_words, end_word, act_words, why_words, reply_words, body_words, letter_words, letter_line}
+use Rattle.process_rules.specs.LetterText.{entry_words, entries_words, ranges_words, previous_words, after_words, end_word, act_words, why_words, reply_words, body_words, letter_words, letter_line}
 use Rattle.process_rules.specs.Told.{IsActivation, IsEntry, IsDigest, IsAct, IsWhy, IsReply, IsToldBody, IsLetterWith}
 use Rattle.process_rules.proofs.Numbers.{decimal_some, decimal_visible}
 
@@ -104,6 +104,8 @@ kind_whole kind.Missing = refl
 kind_whole kind.Done = refl
 kind_whole kind.Query = refl
 kind_whole kind.Report = refl
+kind_whole kind.Survey = refl
+kind_whole kind.Empty = refl
 kind_whole kind.Behind = refl
 kind_whole kind.Ahead = refl
 kind_whole kind.Offer = refl
@@ -265,6 +267,10 @@ module _ (Fits : ℕ → Type 0) where
   range_alone : (range : Range) → AreWhole (range_text range ∷ [])
   range_alone range = cons (range_text range) [] (range_whole range) none
 
+  ranges_whole : (ranges : List Range) → AreWhole (ranges_words ranges)
+  ranges_whole [] = none
+  ranges_whole (range ∷ ranges) = cons (range_text range) (ranges_words ranges) (range_whole range) (ranges_whole ranges)
+
   module _ (Lies : Range → Type 0) where
     body_whole : (hashing : Hashing) (from : Silo) (version : ℕ) (body : Body) → IsToldBody Fits Lies hashing from version body
         → AreWhole (body_words body)
@@ -291,6 +297,8 @@ module _ (Fits : ℕ → Type 0) where
         cons (range_text report.range) (after_words report.after ++ behind) (range_whole report.range)
         (after_then report.after behind is.after
         (cons (end_word report.last) (entries_words report.entries) (end_whole report.last) (entries_whole report.entries is.entries)))
+    body_whole hashing from version (Survey_letter ranges) is = ranges_whole ranges
+    body_whole hashing from version (Empty_letter ranges) is = ranges_whole ranges
     body_whole hashing from version (Behind_letter range) is = range_alone range
     body_whole hashing from version (Ahead_letter range) is = range_alone range
     body_whole hashing from version (Offer_letter entry) is = entry_whole entry is

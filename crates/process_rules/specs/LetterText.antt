@@ -1,5 +1,5 @@
 -- A letter as a line: `letter FROM TO VERSION KIND`, and what a letter of that kind says.
-use Rattle.std.specs.Prelude.{ℕ, Bool, true, false, List, [], ◌∷◌, ◌++◌, flat_map, codes, Option, Some, None}
+use Rattle.std.specs.Prelude.{ℕ, Bool, true, false, List, [], ◌∷◌, ◌++◌, flat_map, map, codes, Option, Some, None}
 use Rattle.std.specs.Fmt.{decimal}
 use Rattle.hex.specs.Hex.{encode_lower}
 use Rattle.texts.specs.Words.{sentence}
@@ -8,6 +8,7 @@ use Rattle.silo_address.specs.Grain.{Grain, grain_text}
 use Rattle.silo_address.specs.declared.ActivationId.{ActivationId}
 use Rattle.silo_address.specs.declared.Entry.{Entry}
 use Rattle.silo_address.specs.ActivationText.{activation_text}
+use Rattle.ring_range.specs.Range.{Range}
 use Rattle.ring_range.specs.Text.{range_text}
 use Rattle.directory_rules.specs.declared.act.Act.{Act}
 use Rattle.directory_rules.specs.declared.act.Act.TheVariants as act
@@ -15,7 +16,7 @@ use Rattle.directory_rules.specs.declared.reply.Why.{Why}
 use Rattle.directory_rules.specs.declared.reply.Why.TheVariants as why
 use Rattle.directory_rules.specs.declared.reply.Reply.{Reply}
 use Rattle.directory_rules.specs.declared.reply.Reply.TheVariants as reply
-use Rattle.directory_rules.specs.State.{Letter, Body, Request_letter, Reply_letter, Ask_letter, Page_letter, Missing_letter, Done_letter, Query_letter, Report_letter, Behind_letter, Ahead_letter, Offer_letter}
+use Rattle.directory_rules.specs.State.{Letter, Body, Request_letter, Reply_letter, Ask_letter, Page_letter, Missing_letter, Done_letter, Query_letter, Report_letter, Survey_letter, Empty_letter, Behind_letter, Ahead_letter, Offer_letter}
 use Rattle.directory_rules.specs.Letter.{kind_of}
 use Rattle.script_rules.specs.Lines.{kind_word}
 
@@ -26,6 +27,10 @@ entry_words entry = grain_text entry.grain ∷ activation_text entry.activation 
 -- entries, one behind the other
 abbrev pub entries_words : List Entry → List (List ℕ)
 entries_words entries = flat_map entry_words entries
+
+-- ranges, one behind the other
+abbrev pub ranges_words : List Range → List (List ℕ)
+ranges_words ranges = map range_text ranges
 
 -- the activation that a Register may replace, if it names one
 abbrev pub previous_words : Option ActivationId → List (List ℕ)
@@ -77,6 +82,8 @@ body_words (Done_letter range) = range_text range ∷ []
 body_words (Query_letter range after) = range_text range ∷ after_words after
 body_words (Report_letter report) =
     range_text report.range ∷ (after_words report.after ++ (end_word report.last ∷ entries_words report.entries))
+body_words (Survey_letter ranges) = ranges_words ranges
+body_words (Empty_letter ranges) = ranges_words ranges
 body_words (Behind_letter range) = range_text range ∷ []
 body_words (Ahead_letter range) = range_text range ∷ []
 body_words (Offer_letter entry) = entry_words entry

@@ -3,7 +3,7 @@ pub mod ReadLetter
 pub mod Told
 pub mod ReadLine
 pub mod InRange
-pub mod Entries
+pub mod Lists
 pub mod Happened
 pub mod Show
 pub mod Answer

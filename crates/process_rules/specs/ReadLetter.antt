@@ -26,7 +26,7 @@ use Rattle.directory_rules.specs.declared.reply.Reply.TheVariants as reply
 use Rattle.directory_rules.specs.declared.letter_kind.LetterKind.{LetterKind}
 use Rattle.directory_rules.specs.declared.letter_kind.LetterKind.TheVariants as kind
 use Rattle.directory_rules.specs.Host.{grain_of}
-use Rattle.directory_rules.specs.State.{Letter, Body, Request_letter, Reply_letter, Ask_letter, Page_letter, Missing_letter, Done_letter, Query_letter, Report_letter, Behind_letter, Ahead_letter, Offer_letter}
+use Rattle.directory_rules.specs.State.{Letter, Body, Request_letter, Reply_letter, Ask_letter, Page_letter, Missing_letter, Done_letter, Query_letter, Report_letter, Survey_letter, Empty_letter, Behind_letter, Ahead_letter, Offer_letter}
 use Rattle.script_rules.specs.Lines.{kind_word}
 use Rattle.script_rules.specs.Script.{silo_word, grain_word, number_word, ◌>>=◌}
 
@@ -86,6 +86,14 @@ entries_in (grain ∷ activation ∷ words) = do
   entry ← entry_of_words grain activation
   entries ← entries_in words
   Ok (entry ∷ entries)
+
+-- the ranges, up to the first word with a fault
+abbrev pub ranges_in : List (List ℕ) → Result (List Range) ℕ
+ranges_in [] = Ok []
+ranges_in (word ∷ words) = do
+  range ← range_word word
+  ranges ← ranges_in words
+  Ok (range ∷ ranges)
 
 -- ---- What stands in front of the kind.
 pub record Head : Type 0 where
@@ -269,6 +277,14 @@ abbrev pub a_report : Form
 a_report head (range ∷ words) = report_for (are_pairs words) head range words
 a_report head words = Err 922
 
+-- ranges, one at least
+abbrev pub some_ranges : (List Range → Body) → Form
+some_ranges of head (range ∷ ranges) = do
+  head ← head
+  ranges ← ranges_in (range ∷ ranges)
+  Ok (letter_of head (of ranges))
+some_ranges of head words = Err 922
+
 -- a grain and its activation
 abbrev pub an_offer : Form
 an_offer head (grain ∷ activation ∷ []) = do
@@ -301,6 +317,8 @@ form_of hashing kind.Missing = a_range Missing_letter
 form_of hashing kind.Done = a_range Done_letter
 form_of hashing kind.Query = a_query
 form_of hashing kind.Report = a_report
+form_of hashing kind.Survey = some_ranges Survey_letter
+form_of hashing kind.Empty = some_ranges Empty_letter
 form_of hashing kind.Behind = a_range Behind_letter
 form_of hashing kind.Ahead = a_range Ahead_letter
 form_of hashing kind.Offer = an_offer
@@ -313,7 +331,7 @@ abbrev pub reply_kinds : List LetterKind
 reply_kinds = kind.Registered ∷ kind.Taken ∷ kind.Removed ∷ kind.Absent ∷ kind.Found ∷ kind.Nothing ∷ kind.Retry ∷ []
 
 abbrev pub transfer_kinds : List LetterKind
-transfer_kinds = kind.Ask ∷ kind.Page ∷ kind.Missing ∷ kind.Done ∷ kind.Query ∷ kind.Report ∷ kind.Behind ∷ kind.Ahead ∷ []
+transfer_kinds = kind.Ask ∷ kind.Page ∷ kind.Missing ∷ kind.Done ∷ kind.Query ∷ kind.Report ∷ kind.Survey ∷ kind.Empty ∷ kind.Behind ∷ kind.Ahead ∷ []
 
 abbrev pub kinds : List LetterKind
 kinds = request_kinds ++ (reply_kinds ++ transfer_kinds)

@@ -1,6 +1,6 @@
 -- Letters that a line can tell: everything in them is in its range, and what a line says once, or leaves out, is so throughout. Letters
 -- that silos send are like that, but for how large their numbers are, and where their ranges lie.
-use Rattle.std.specs.Prelude.{◌≡◌, ℕ, ◌<◌, ◌^◌, ⊤, List, All, length, IfSome}
+use Rattle.std.specs.Prelude.{◌≡◌, ◌≢◌, ℕ, ◌<◌, ◌^◌, ⊤, List, [], All, length, IfSome}
 use Rattle.hex.specs.Hex.{IsBytes}
 use Rattle.silo_address.specs.Silo.{Silo, IsSilo}
 use Rattle.silo_address.specs.Grain.{IsGrain}
@@ -17,7 +17,7 @@ use Rattle.directory_rules.specs.declared.reply.Why.TheVariants as why
 use Rattle.directory_rules.specs.declared.reply.Reply.{Reply}
 use Rattle.directory_rules.specs.declared.reply.Reply.TheVariants as reply
 use Rattle.directory_rules.specs.Host.{grain_of}
-use Rattle.directory_rules.specs.State.{Page, Report, Letter, Body, Request_letter, Reply_letter, Ask_letter, Page_letter, Missing_letter, Done_letter, Query_letter, Report_letter, Behind_letter, Ahead_letter, Offer_letter}
+use Rattle.directory_rules.specs.State.{Page, Report, Letter, Body, Request_letter, Reply_letter, Ask_letter, Page_letter, Missing_letter, Done_letter, Query_letter, Report_letter, Survey_letter, Empty_letter, Behind_letter, Ahead_letter, Offer_letter}
 
 -- a version, the count of an activation, or the number of a request or a page, where a line is to tell it
 abbrev pub IsNumber : ℕ → Type 0
@@ -27,6 +27,11 @@ IsNumber number = number < 2 ^ 64
 pub record IsDigest (digest : List ℕ) : Type 0 where
   pub long : length digest ≡ 32
   pub bytes : IsBytes digest
+
+-- ranges, one at least; `Lies` says which there may be
+pub record AreSomeRanges (Lies : Range → Type 0) (ranges : List Range) : Type 0 where
+  pub some : ranges ≢ []
+  pub lie : All Lies ranges
 
 -- `Fits` says which numbers there may be
 module _ (Fits : ℕ → Type 0) where
@@ -95,6 +100,8 @@ module _ (Fits : ℕ → Type 0) where
     IsToldBody hashing from version (Done_letter range) = Lies range
     IsToldBody hashing from version (Query_letter range after) = Lies range × IfSome after IsGrain
     IsToldBody hashing from version (Report_letter report) = IsToldReport from version report
+    IsToldBody hashing from version (Survey_letter ranges) = AreSomeRanges Lies ranges
+    IsToldBody hashing from version (Empty_letter ranges) = AreSomeRanges Lies ranges
     IsToldBody hashing from version (Behind_letter range) = Lies range
     IsToldBody hashing from version (Ahead_letter range) = Lies range
     IsToldBody hashing from version (Offer_letter entry) = IsEntry entry

@@ -1,6 +1,6 @@
 -- The delivery of a fresh letter: no more letters go out than what the world stands for falls by.
 use Rattle.std.proofs.Common.{arith, ◌≡◌, refl, ap, subst, ◌∙◌, ℕ, ◌+◌, ◌≤◌, List, [], ◌∷◌, length, inl}
-use Rattle.std.specs.Prelude.{true, false, cond, is_some, Option, Some}
+use Rattle.std.specs.Prelude.{true, false, is_some, Option, Some}
 use Rattle.std.specs.Option.{option_map}
 use Rattle.std.specs.Ordering.{nat_cmp}
 use Rattle.std.specs.List.Sorted.{IsStrictlySortedBy}
@@ -23,7 +23,7 @@ use Rattle.directory_rules.specs.Transfer.{is_page_awaited, is_report_awaited}
 use Rattle.directory_rules.specs.Mail.{letter_of, with_delivered}
 use Rattle.directory_rules.specs.Happens.{node_of, with_node}
 use Rattle.directory_facts.proofs.Reached.{found_node}
-use Rattle.progress_rules.specs.Room.{is_question, is_offer, fresh_with, requests_out, pages_shelved, held_behind}
+use Rattle.progress_rules.specs.Room.{answers_of, offers_of, fresh_with, requests_out, pages_shelved, held_behind}
 use Rattle.progress_rules.specs.Second.{Flies}
 use Rattle.progress_rules.proofs.AreTold.{Base, left_by, LeavesFewer, AreTold}
 use Rattle.progress_rules.proofs.Flying.{fresh_is}
@@ -43,10 +43,10 @@ use Rattle.progress_rules.proofs.PagesShelved.{shelved_so}
 use Rattle.progress_rules.proofs.LetterFalls.{counts_so, letter_falls}
 use Rattle.progress_rules.proofs.Potential.{due_to, potential, need_less, over_stepped, shelved_less}
 
-pub all_sent : (letters : List Letter) → sent_with (λ body. true) letters ≡ length letters
+pub all_sent : (letters : List Letter) → sent_with (λ body. 1) letters ≡ length letters
 all_sent [] = refl
 all_sent (letter ∷ letters) =
-    let rest = all_sent letters in let parts = sum_by-cons (λ (l : Letter). cond {A = ℕ} true 1 0) letter letters in
+    let rest = all_sent letters in let parts = sum_by-cons (λ (l : Letter). 1) letter letters in
     omega (arith, rest, parts)
 
 -- the letter is still to come
@@ -136,14 +136,14 @@ module _ (b : Base) (above : 1 ≤ b.settings.report_size) (world : World) (r : 
       let other = ap (λ (v : ViewValue). need (λ giver range. pages_shelved (node_of world giver) node.host.silo v.version range) (left_by b) stepped.node) falls.view_is in
       let sends = falls.sends in
       let no_offers = falls.no_offers in
-      let asks = fresh_after is_question (with_node base letter.to stepped.node) stepped.letters in
-      let asked = fresh_before is_question world number posted found fresh in
-      let offers = fresh_after is_offer (with_node base letter.to stepped.node) stepped.letters in
-      let offered = fresh_before is_offer world number posted found fresh in
+      let asks = fresh_after answers_of (with_node base letter.to stepped.node) stepped.letters in
+      let asked = fresh_before answers_of world number posted found fresh in
+      let offers = fresh_after offers_of (with_node base letter.to stepped.node) stepped.letters in
+      let offered = fresh_before offers_of world number posted found fresh in
       omega (arith, over, one, other, sends, no_offers, asks, asked, offers, offered)
 
   -- no more requests are outstanding, but for an offer that came
-  pub requests_fall : requests_out delivered_world + fresh_with is_offer delivered_world ≤ requests_out world + fresh_with is_offer world
+  pub requests_fall : requests_out delivered_world + fresh_with offers_of delivered_world ≤ requests_out world + fresh_with offers_of world
   requests_fall =
       let over = over_stepped base letter.to node stepped its (λ (x : Node). length (outstanding x.host)) (λ (x : Node). length (outstanding x.host)) (nodes_sorted world r)
       (λ x. le_same (length (outstanding x.host))) in
@@ -151,14 +151,14 @@ module _ (b : Base) (above : 1 ≤ b.settings.report_size) (world : World) (r : 
       let few = outstanding_few stepped.node.host in
       let begins = falls.begins in
       let no_offers = falls.no_offers in
-      let offers = fresh_after is_offer (with_node base letter.to stepped.node) stepped.letters in
-      let offered = fresh_before is_offer world number posted found fresh in
+      let offers = fresh_after offers_of (with_node base letter.to stepped.node) stepped.letters in
+      let offered = fresh_before offers_of world number posted found fresh in
       omega (arith, over, many, few, begins, no_offers, offers, offered)
 
   -- one fresh letter less, and those that were sent
-  pub fresh_falls : fresh_with (λ body. true) delivered_world + 1 ≡ fresh_with (λ body. true) world + length stepped.letters
+  pub fresh_falls : fresh_with (λ body. 1) delivered_world + 1 ≡ fresh_with (λ body. 1) world + length stepped.letters
   fresh_falls =
-      let sent = fresh_after (λ body. true) (with_node base letter.to stepped.node) stepped.letters in
-      let taken = fresh_before (λ body. true) world number posted found fresh in
+      let sent = fresh_after (λ body. 1) (with_node base letter.to stepped.node) stepped.letters in
+      let taken = fresh_before (λ body. 1) world number posted found fresh in
       let all = all_sent stepped.letters in
       omega (arith, sent, taken, all)

@@ -1,6 +1,6 @@
 -- What a node may send when a letter comes: no more than the letter and the node's pieces stand for.
 use Rattle.std.proofs.Common.{arith, ◌≡◌, ◌≢◌, refl, sym, ap, subst, ℕ, ◌+◌, ◌*◌, ◌-◌, ◌≤◌, List, length}
-use Rattle.std.specs.Prelude.{false, cond, sum_by, Option, Some, None}
+use Rattle.std.specs.Prelude.{sum_by, Option, Some, None}
 use Rattle.std.specs.Option.{unwrap_or}
 use Rattle.std.specs.Ordering.{nat_cmp}
 use Rattle.std.specs.Map.{lookup, set_value, values_of}
@@ -26,7 +26,7 @@ use Rattle.directory_rules.specs.Transfer.{answering, with_settled, turned_to_re
 use Rattle.directory_rules.specs.Laws.{requests_of}
 use Rattle.directory_facts.specs.Pieces.{HasPieces, IsPiece}
 use Rattle.directory_facts.proofs.Lookups.{found_beside_put, found_beside_removed}
-use Rattle.progress_rules.specs.Room.{is_question, is_offer, over_pieces, pages_shelved}
+use Rattle.progress_rules.specs.Room.{answers_of, offers_of, over_pieces, pages_shelved}
 use Rattle.progress_rules.proofs.FreshWith.{sent_with}
 use Rattle.progress_rules.proofs.Sums.{le_same, sum_set}
 
@@ -50,17 +50,14 @@ need_of due left node state.Recovering range = 2 * left_after left range (recove
 abbrev pub need : (Silo → Range → ℕ) → Left → Node → ℕ
 need due left node = over_pieces (need_of due left node) node
 
--- ---- what a letter stands for: itself an answer, an offer a request and its answer
+-- ---- what a letter stands for: its answers, and an offer for a request and its answer
 abbrev pub weight : Body → ℕ
-weight body = cond (is_question body) 1 0 + 2 * cond (is_offer body) 1 0
-
-abbrev pub begun : Body → ℕ
-begun body = cond (is_offer body) 1 0
+weight body = answers_of body + 2 * offers_of body
 
 pub record Falls (due : Silo → Range → ℕ) (left : Left) (node : Node) (body : Body) (stepped : Stepped) : Type 0 where
-  pub sends : length stepped.letters + sent_with is_question stepped.letters + need due left stepped.node ≤ weight body + need due left node
-  pub begins : length (requests_of stepped.node.host) ≤ begun body + length (requests_of node.host)
-  pub no_offers : sent_with is_offer stepped.letters ≡ 0
+  pub sends : length stepped.letters + sent_with answers_of stepped.letters + need due left stepped.node ≤ weight body + need due left node
+  pub begins : length (requests_of stepped.node.host) ≤ offers_of body + length (requests_of node.host)
+  pub no_offers : sent_with offers_of stepped.letters ≡ 0
   pub shelves : (silo : Silo) (version : ℕ) (range : Range)
       → pages_shelved (Some stepped.node) silo version range ≤ pages_shelved (Some node) silo version range
   pub silo_is : stepped.node.host.silo ≡ node.host.silo
@@ -88,12 +85,12 @@ module _ (due : Silo → Range → ℕ) (left : Left) (node : Node) (body : Body
       (λ silo version range. le_same (pages_shelved (Some node) silo version range)) refl refl
 
   -- a question has one answer, which is none
-  pub answers : (letter : Letter) (reply : Body) (its : Effect) → 1 ≤ weight body → is_question reply ≡ false → is_offer reply ≡ false
+  pub answers : (letter : Letter) (reply : Body) (its : Effect) → 1 ≤ weight body → answers_of reply ≡ 0 → offers_of reply ≡ 0
       → Falls due left node body (answering letter node reply its)
   answers letter reply its asks not_asking not_offering = record {
-    sends = let none = ap (λ b. cond {A = ℕ} b 1 0) not_asking in omega (arith, asks, none);
+    sends = omega (arith, asks, not_asking);
     begins = omega arith;
-    no_offers = ap (λ b. 0 + cond {A = ℕ} b 1 0) not_offering;
+    no_offers = ap (λ n. 0 + n) not_offering;
     shelves = λ silo version range. le_same (pages_shelved (Some node) silo version range);
     silo_is = refl;
     view_is = refl;

@@ -1,5 +1,5 @@
 -- No step makes an activation firm but by a reply that registers it: what holds of the grains of all that is firm still does.
-use Rattle.std.proofs.Common.{◌≡◌, refl, subst, ℕ, List, [], ◌∷◌, ◌++◌}
+use Rattle.std.proofs.Common.{◌≡◌, refl, sym, subst, ℕ, List, [], ◌∷◌, ◌++◌}
 use Rattle.std.specs.Prelude.{true, cond, All, map, Option, Some, None, Ok}
 use Rattle.std.specs.Map.{set_value}
 use Rattle.std.specs.BTreeMap.{is_at}
@@ -18,6 +18,7 @@ use Rattle.directory_rules.specs.Input.{Input, Receives, step}
 use Rattle.directory_rules.specs.Step.{Stepped}
 use Rattle.directory_rules.proofs.Cases.{on_bool}
 use Rattle.directory_facts.proofs.EachStep.{by_way}
+use Rattle.directory_facts.proofs.Emptied.{leaves_else}
 use Rattle.directory_facts.proofs.Entries.{same_key, all_removed, all_set}
 use Rattle.directory_facts.proofs.Ways.{IsReply, Ways}
 
@@ -118,6 +119,9 @@ module _ (Q : Grain → Type 0) (node : Node) where
     continues = λ letter report recovery taken is all new. all;
     collects = λ letter report recovery taken is all new. all;
     completes = λ letter report table taken is all new. all;
+    surveys = λ letter first others body now all new. all;
+    empties = λ letter ranges its body plain all new.
+        subst (λ (h : Host). FirmSo Q h.held) (sym (leaves_else letter node ranges).host) all;
     takes_over = λ letter entry body now may all new. started entry.grain (Some entry.activation) all;
   }
 

@@ -1,7 +1,7 @@
 -- What the letters of a transfer say of the node that sends them: a page is on its shelf, who has a snapshot whole awaits it no more, and a
 -- report is of what is firm there.
 use Rattle.std.proofs.Common.{arith, ◌≡◌, refl, sym, ap, subst, ◌∙◌, ℕ, ◌<◌, ◌≤◌, List, [], ◌∷◌, ◌++◌, ◌⊎◌, inl, inr}
-use Rattle.std.specs.Prelude.{⊤, Bool, true, false, cond, not, ◌||◌, nat_lt, find, filter, All, Option, Some, None, Ok}
+use Rattle.std.specs.Prelude.{⊤, Bool, true, false, cond, not, ◌||◌, nat_lt, find, filter, fold, All, Option, Some, None, Ok}
 use Rattle.std.specs.List.{list_any}
 use Rattle.std.proofs.lemmas.Bool.{ltb-false}
 use Rattle.std.proofs.lemmas.List.Elements.{All-nil, All-cons, All-append, All-weaker}
@@ -20,17 +20,19 @@ use Rattle.directory_rules.specs.Table.{table_of}
 use Rattle.directory_rules.specs.Snapshot.{ShelfAnswer, Hands_page, Is_behind, is_snapshot, has_snapshot, shelf_answer, shelf_without}
 use Rattle.directory_rules.specs.Host as host
 use Rattle.directory_rules.specs.Host.{next_held, entry_of}
-use Rattle.directory_rules.specs.Sent.{query_to, request_letters, all_requests, requests_of_grain, all_wants}
+use Rattle.directory_rules.specs.Sent.{query_to, request_letters, all_requests, requests_of_grain, all_wants, new_wants}
 use Rattle.directory_rules.specs.Step.{Stepped, silently, sight, started}
 use Rattle.directory_rules.specs.Sight.{is_next}
 use Rattle.directory_rules.specs.Input.{Input, Does, Receives, step}
-use Rattle.directory_rules.specs.Transfer.{answer_to, report_of, with_settled, with_gathering, with_recovery, turned_to_recovery}
+use Rattle.directory_rules.specs.Transfer.{answer_to, report_of, tellings, told_nothing, with_settled, with_gathering, with_recovery, turned_to_recovery}
 use Rattle.directory_rules.specs.declared.own_step.OwnStep.TheVariants.{Wake, Close, Cancel, Find, Forget, Nudge, NudgeGrain, NudgeRanges, Offer}
 use Rattle.directory_rules.proofs.Cases.{on_bool}
 use Rattle.directory_facts.proofs.Ways.{Ways}
 use Rattle.directory_facts.proofs.EachStep.{by_way}
+use Rattle.directory_facts.proofs.Emptied.{leaves_else}
+use Rattle.directory_facts.proofs.Surveys.{all_new_wants, all_tellings}
 use Rattle.progress_rules.specs.Gathers.{AwaitsFrom}
-use Rattle.progress_rules.specs.Room.{is_question}
+use Rattle.progress_rules.specs.Room.{answers_of}
 use Rattle.progress_rules.proofs.Gathers.{set_awaits}
 use Rattle.progress_rules.proofs.TakesPage.{found_test}
 use Rattle.progress_rules.proofs.Questions.{IsQuestion, sent_question, query_questions, request_questions, grain_questions, want_questions}
@@ -100,10 +102,10 @@ any_left p q (x ∷ xs) there =
     (λ t is. inl refl) (λ g is. any_left p q xs is) there) refl
 
 -- ---- each step
-question_tells : (body : Body) (letter : Letter) (node after : Node) → is_question body ≡ true → Tells body letter node after
-question_tells (Done_letter range) letter node after asks = absurd (cc (asks))
-question_tells (Page_letter page) letter node after asks = absurd (cc (asks))
-question_tells (Report_letter report) letter node after asks = absurd (cc (asks))
+question_tells : (body : Body) (letter : Letter) (node after : Node) → answers_of body ≡ 1 → Tells body letter node after
+question_tells (Done_letter range) letter node after asks = absurd (omega (arith, asks))
+question_tells (Page_letter page) letter node after asks = absurd (omega (arith, asks))
+question_tells (Report_letter report) letter node after asks = absurd (omega (arith, asks))
 question_tells body letter node after asks = tt
 
 module _ (node : Node) where
@@ -206,9 +208,9 @@ module _ (node : Node) where
         let after = (sight (is_next node.view before view node.host.silo) node before view places).node in
         record {
           tells =
-              ask_tell after (all_wants after ++ all_requests after)
-              (All-append IsQuestion (all_wants after) (all_requests after) (want_questions after)
-              (request_questions after));
+              All-append (λ l. Tells l.body l node after) (new_wants after) (all_requests after)
+              (all_new_wants (λ l. Tells l.body l node after) after (λ from range. tt) (λ range silo. tt) (λ silo ranges. tt))
+              (ask_tell after (all_requests after) (request_questions after));
           keeps = λ seen. let same = ap (λ (v : ViewValue). v.version) seen in absurd (omega (arith, same, newer));
           view = inl newer;
         };
@@ -248,6 +250,10 @@ module _ (node : Node) where
     reports = λ letter range after body seen. sends (Receives letter) node _ _ refl refl
         (one_tells node (answer_to letter node (Report_letter (report_of node range after)))
         (record { range = range; behind = after; is = refl }));
+    surveys =
+        λ letter first others body seen. sends (Receives letter) node (tellings letter node (first ∷ others)) effect.Report refl refl
+        (all_tellings (λ l. Tells l.body l node node) letter node (first ∷ others) (λ empties. tt)
+        (λ range. record { range = range; behind = None; is = refl }));
     gathers =
         λ letter page gathering taken is. sends (Receives letter) (with_gathering node gathering) _ _ refl refl
         (one_tells (with_gathering node gathering) _ tt);
@@ -260,6 +266,8 @@ module _ (node : Node) where
         (one_tells (with_recovery node recovery) (query_to (with_recovery node recovery) report.range report.silo) tt);
     collects = λ letter report recovery taken is. silent (Receives letter) _ _ refl refl;
     completes = λ letter report table taken is. silent (Receives letter) _ _ refl refl;
+    empties = λ letter ranges its body plain. let rest = leaves_else letter node ranges in
+        silent (Receives letter) (fold (told_nothing letter) node ranges) its rest.shelf rest.view;
     takes_over = λ letter entry body seen may. begins (Receives letter) entry.grain (Some entry.activation);
   }
 

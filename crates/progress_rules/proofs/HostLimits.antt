@@ -1,5 +1,5 @@
 -- A host keeps to its limits at each step, and takes at most one number for each request that it may have outstanding, and one more.
-use Rattle.std.proofs.Common.{arith, ◌≡◌, refl, ◌∙◌, ℕ, ◌+◌, ◌≤◌, List, [], ◌∷◌, ◌++◌}
+use Rattle.std.proofs.Common.{arith, ◌≡◌, refl, sym, subst, ◌∙◌, ℕ, ◌+◌, ◌≤◌, List, [], ◌∷◌, ◌++◌}
 use Rattle.std.specs.Prelude.{Bool, false, cond, not, map, filter, fold, length, Option, Some, None, Ok}
 use Rattle.std.specs.Ordering.{nat_cmp, match_ordering}
 use Rattle.std.specs.declared.cmp.Ordering.{Ordering}
@@ -24,6 +24,7 @@ use Rattle.directory_rules.specs.Input.{Input, step}
 use Rattle.directory_rules.proofs.Cases.{on_bool}
 use Rattle.directory_facts.proofs.Ways.{Ways}
 use Rattle.directory_facts.proofs.EachStep.{by_way}
+use Rattle.directory_facts.proofs.Emptied.{leaves_else}
 
 -- ---- how long lists get
 pub removed_few : {K X : Type 0} (test : K → Bool) (es : List (K × X)) → length (remove_entry test es) ≤ length es
@@ -210,6 +211,9 @@ module _ (node : Node) (is : IsWithin node.settings node.host) where
     continues = λ letter report recovery taken so. stays;
     collects = λ letter report recovery taken so. stays;
     completes = λ letter report table taken so. stays;
+    surveys = λ letter first others body seen. stays;
+    empties = λ letter ranges its body plain. let rest = leaves_else letter node ranges in
+        (rest.settings, subst (λ (h : Host). GoesOn node.settings node.host h) (sym rest.host) (still node.settings node.host is));
     takes_over = λ letter entry body seen may. (refl, begun node.settings node.host is entry.grain (Some entry.activation) may.room);
   }
 

@@ -1,4 +1,5 @@
--- What a piece that recovers needs once a report is taken: a report fewer of a silo that has more to tell, and none of one that has told all.
+-- What a piece that recovers needs once a report is taken: a report fewer of a silo that has more to tell, and none of one that has told all;
+-- nothing once all have told all.
 use Rattle.std.proofs.Common.{arith, ◌≡◌, ◌≢◌, refl, sym, ap, ◌∙◌, ℕ, ◌+◌, ◌*◌, ◌-◌, ◌≤◌, List, [], ◌∷◌}
 use Rattle.std.specs.Prelude.{true, cond, not, ◌||◌, filter, sum_by, Option}
 use Rattle.std.specs.Ordering.{nat_cmp}
@@ -12,14 +13,14 @@ use Rattle.ring_range.specs.Range.{Range}
 use Rattle.hash_ring.specs.declared.Hashing.{Hashing}
 use Rattle.directory_rules.specs.declared.piece_state.PieceState.{PieceState}
 use Rattle.directory_rules.specs.declared.piece_state.PieceState.TheVariants as state
-use Rattle.directory_rules.specs.State.{Report, Recovery, Node}
+use Rattle.directory_rules.specs.State.{Table, Report, Recovery, Node}
 use Rattle.directory_rules.specs.Recovery.{Has_more, Awaits_more, is_among, told_by, with_more, with_last}
 use Rattle.directory_rules.specs.Sent.{recovery_of}
-use Rattle.directory_rules.specs.Transfer.{with_recovery}
+use Rattle.directory_rules.specs.Transfer.{with_recovery, with_settled}
 use Rattle.directory_rules.proofs.Cases.{on_bool}
 use Rattle.directory_facts.specs.Pieces.{HasPieces}
 use Rattle.directory_facts.proofs.Collected.{TakenSo}
-use Rattle.progress_rules.proofs.Falls.{Left, left_after, need_of, need, need_set}
+use Rattle.progress_rules.proofs.Falls.{Left, left_after, need_of, need, settled_beside, need_set}
 use Rattle.progress_rules.proofs.Told.{last_told, told_on, others_on, others_left, put, beside}
 use Rattle.progress_rules.proofs.Waits.{is_one, HasRecovering}
 
@@ -107,3 +108,10 @@ module _ (due : Silo → Range → ℕ) (left : Left) (some : (silo : Silo) (ran
       left_out (left_of old) (left_of (with_last old report)) report.silo
       (λ x apart. ap (λ o. left x report.range o - 1) (others_left old report x apart)) old.awaiting in
       omega (arith, all, less)
+
+  pub completes_need : (table : Table) → need due left (with_settled node report.range table) ≤ need due left node
+  completes_need table =
+      let set = need_set due left hashing node has (with_settled node report.range table) report.range its.piece
+      (record { range = report.range; state = state.Settled; entries = table }) its.found refl refl
+      (λ other apart. settled_beside node report.range other table apart) in
+      omega (arith, set)

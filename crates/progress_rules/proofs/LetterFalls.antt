@@ -20,8 +20,7 @@ use Rattle.directory_rules.specs.declared.held.Held.{Held}
 use Rattle.directory_rules.specs.declared.effect.Effect.{Effect}
 use Rattle.directory_rules.specs.declared.effect.Effect.TheVariants as effect
 use Rattle.directory_rules.specs.declared.piece_state.PieceState.{PieceState}
-use Rattle.directory_rules.specs.declared.piece_state.PieceState.TheVariants as state
-use Rattle.directory_rules.specs.State.{Table, Piece, Page, Gathering, Report, Host, Cache, Letter, Body, Request_letter, Reply_letter, Ask_letter, Page_letter, Missing_letter, Done_letter, Query_letter, Report_letter, Behind_letter, Ahead_letter, Offer_letter, Node}
+use Rattle.directory_rules.specs.State.{Piece, Page, Gathering, Report, Host, Cache, Letter, Body, Request_letter, Reply_letter, Ask_letter, Page_letter, Missing_letter, Done_letter, Query_letter, Report_letter, Survey_letter, Empty_letter, Behind_letter, Ahead_letter, Offer_letter, Node}
 use Rattle.directory_rules.specs.Standing.{rise_behind, last_grain}
 use Rattle.directory_rules.specs.Table.{lie_in}
 use Rattle.directory_rules.specs.Snapshot.{shelf_answer}
@@ -44,10 +43,11 @@ use Rattle.progress_rules.specs.Room.{pages_shelved}
 use Rattle.progress_rules.proofs.Sums.{le_same, sum_outline}
 use Rattle.progress_rules.proofs.RequestCounts.{confirmed_less, held_less, find_less, started_more}
 use Rattle.progress_rules.proofs.Waits.{HasRecovering, recovering_piece}
-use Rattle.progress_rules.proofs.Falls.{Left, need_of, need, Falls, quietly, nothing, answers, settled_beside, need_set}
-use Rattle.progress_rules.proofs.LeftReports.{continues_need, collects_need}
+use Rattle.progress_rules.proofs.Falls.{Left, need_of, need, Falls, quietly, nothing, answers}
+use Rattle.progress_rules.proofs.LeftReports.{continues_need, collects_need, completes_need}
 use Rattle.progress_rules.proofs.PageFalls.{page_falls, missing_falls}
 use Rattle.progress_rules.proofs.ShelfFalls.{ask_falls, done_falls}
+use Rattle.progress_rules.proofs.SurveyFalls.{survey_falls, empty_falls}
 
 -- what the test of a report says
 pub record CountsSo (node : Node) (letter : Letter) (report : Report) : Type 0 where
@@ -118,14 +118,6 @@ module _ (due : Silo → Range → ℕ) (left : Left) (hashing : Hashing) (node 
       back : Body → Effect → Stepped
       back body its = record { node = node; letters = answer_to letter node body ∷ []; effect = its }
 
-  completes : (report : Report) (table : Table) → HasRecovering node report.range
-      → need due left (with_settled node report.range table) ≤ need due left node
-  completes report table its =
-      let set = need_set due left hashing node has (with_settled node report.range table) report.range its.piece
-      (record { range = report.range; state = state.Settled; entries = table }) its.found refl refl
-      (λ other apart. settled_beside node report.range other table apart) in
-      omega (arith, set)
-
   module _ (some : (silo : Silo) (range : Range) (after : Option Grain) → 1 ≤ left silo range after) where
     by_recovered : (report : Report) (result : Recovered) → TakenSo (recovery_of node report.range) report result
         → HasRecovering node report.range
@@ -144,7 +136,8 @@ module _ (due : Silo → Range → ℕ) (left : Left) (hashing : Hashing) (node 
         quietly due left node (Report_letter report) (with_recovery node recovery) effect.More
         (collects_need due left some hashing node has report its recovery so) (le_same (length (requests_of node.host))) shelf_same refl refl
     by_recovered report (Has_union table) so its fewer =
-        quietly due left node (Report_letter report) (with_settled node report.range table) effect.Complete (completes report table its)
+        quietly due left node (Report_letter report) (with_settled node report.range table) effect.Complete
+        (completes_need due left some hashing node has report its table)
         (le_same (length (requests_of node.host))) shelf_same refl refl
     by_recovered report (Rejects number) so its fewer = nothing due left node (Report_letter report) effect.Ignored
 
@@ -300,6 +293,8 @@ module _ (due : Silo → Range → ℕ) (left : Left) (hashing : Hashing) (node 
   letter_falls (Done_letter range) some told kept fewer = done_falls due left hashing node has letter range
   letter_falls (Query_letter range after) some told kept fewer = query_falls range after
   letter_falls (Report_letter report) some told kept fewer = report_falls some report (fewer report refl)
+  letter_falls (Survey_letter ranges) some told kept fewer = survey_falls due left node letter ranges
+  letter_falls (Empty_letter ranges) some told kept fewer = empty_falls due left some hashing node has letter ranges
   letter_falls (Behind_letter range) some told kept fewer = nothing due left node (Behind_letter range) effect.Noted
   letter_falls (Ahead_letter range) some told kept fewer = nothing due left node (Ahead_letter range) effect.Noted
   letter_falls (Offer_letter entry) some told kept fewer = offer_falls entry

@@ -1,11 +1,11 @@
 -- What a nudge sends: what is outstanding, and what the pieces want.
 use Rattle.std.proofs.Common.{arith, ◌≡◌, refl, ℕ, ◌+◌, ◌≤◌, List, [], ◌∷◌, length}
-use Rattle.std.specs.Prelude.{true, flat_map, sum_by, All, Option, Some, None}
+use Rattle.std.specs.Prelude.{flat_map, sum_by, All, Option, Some, None}
 use Rattle.std.specs.Map.{values_of}
 use Rattle.std.proofs.lemmas.List.{length-append, length-map}
 use Rattle.std.proofs.lemmas.List.Concat.{length-flat_map}
 use Rattle.std.proofs.lemmas.List.Elements.{All-append}
-use Rattle.std.proofs.lemmas.List.Sums.{sum_by-cons, sum_by-le, count_by-le-length}
+use Rattle.std.proofs.lemmas.List.Sums.{sum_by-cons, sum_by-le}
 use Rattle.silo_address.specs.Silo.{Silo}
 use Rattle.ring_range.specs.Range.{Range}
 use Rattle.directory_rules.specs.declared.act.Act.{Act}
@@ -17,7 +17,7 @@ use Rattle.directory_rules.specs.Host.{outstanding}
 use Rattle.directory_rules.specs.Sent.{query_to, letter_if_owned, owner_by, hash_of, request_of, request_letters, recovery_of, wants_by, all_requests, all_wants}
 use Rattle.directory_rules.specs.Step.{Stepped, having_nudged}
 use Rattle.directory_rules.specs.Happens.{node_of, with_node}
-use Rattle.progress_rules.specs.Room.{is_question, is_offer, fresh_with, over_pieces, requests_out, awaits_one, pages_shelved}
+use Rattle.progress_rules.specs.Room.{answers_of, offers_of, fresh_with, over_pieces, requests_out, awaits_one, pages_shelved}
 use Rattle.progress_rules.proofs.AreTold.{Base, left_by}
 use Rattle.progress_rules.proofs.Resting.{IsResting}
 use Rattle.progress_rules.proofs.Flights.{stepped_world}
@@ -26,7 +26,7 @@ use Rattle.progress_rules.proofs.RequestCounts.{renewed_same, outstanding_few}
 use Rattle.progress_rules.proofs.FreshWith.{fresh_after}
 use Rattle.progress_rules.proofs.Sums.{le_same, sum_plus}
 use Rattle.progress_rules.proofs.Falls.{need}
-use Rattle.progress_rules.proofs.Questions.{IsQuestion, questions_offer_none, request_questions, want_questions}
+use Rattle.progress_rules.proofs.Questions.{IsQuestion, asked_once, questions_offer_none, request_questions, want_questions}
 use Rattle.progress_rules.proofs.Potential.{due_to, potential, need_less, over_stepped, shelved_less}
 use Rattle.progress_rules.proofs.DeliveryFalls.{all_sent, nodes_sorted}
 
@@ -109,22 +109,22 @@ module _ (b : Base) (world : World) (r : IsResting world) (silo : Silo) (node : 
       (λ x. need_less (due_to nudged_world x) (due_to world x) (left_by b) x (λ giver range.
       shelved_less world silo node nudged_step its (λ to version range. le_same (pages_shelved (Some node) to version range)) giver
       x.host.silo x.view.version range)) in
-      let asks = fresh_after is_question (with_node world silo renewed) nudged_step.letters in
-      let asked = count_by-le-length (λ (l : Letter). is_question l.body) nudged_step.letters in
-      let offers = fresh_after is_offer (with_node world silo renewed) nudged_step.letters in
+      let asks = fresh_after answers_of (with_node world silo renewed) nudged_step.letters in
+      let asked = asked_once nudged_step.letters questions in
+      let offers = fresh_after offers_of (with_node world silo renewed) nudged_step.letters in
       let none = questions_offer_none nudged_step.letters questions in
       omega (arith, over, asks, asked, offers, none)
 
-  pub requests_stay : requests_out nudged_world + fresh_with is_offer nudged_world ≤ requests_out world + fresh_with is_offer world
+  pub requests_stay : requests_out nudged_world + fresh_with offers_of nudged_world ≤ requests_out world + fresh_with offers_of world
   requests_stay =
       let over = over_stepped world silo node nudged_step its (λ (x : Node). length (outstanding x.host)) (λ (x : Node). length (outstanding x.host)) (nodes_sorted world r)
       (λ x. le_same (length (outstanding x.host))) in
       let few = renewed_few in
-      let offers = fresh_after is_offer (with_node world silo renewed) nudged_step.letters in
+      let offers = fresh_after offers_of (with_node world silo renewed) nudged_step.letters in
       let none = questions_offer_none nudged_step.letters questions in
       omega (arith, over, few, offers, none)
 
-  pub fresh_grows : fresh_with (λ body. true) nudged_world ≡ fresh_with (λ body. true) world + length nudged_step.letters
+  pub fresh_grows : fresh_with (λ body. 1) nudged_world ≡ fresh_with (λ body. 1) world + length nudged_step.letters
   fresh_grows =
-      let sent = fresh_after (λ body. true) (with_node world silo renewed) nudged_step.letters in let all = all_sent nudged_step.letters in
+      let sent = fresh_after (λ body. 1) (with_node world silo renewed) nudged_step.letters in let all = all_sent nudged_step.letters in
       omega (arith, sent, all)

@@ -1,6 +1,6 @@
 -- Requests under numbers, each its own: which of them a list has.
 use Rattle.std.proofs.Common.{arith, ◌≡◌, ◌≢◌, refl, sym, ap, subst, ◌∙◌, ℕ, List, [], ◌∷◌, inl, inr}
-use Rattle.std.specs.Prelude.{true, false, cond, not, ◌==◌, is_some, map, Contains, AllPairs, Option, Some, None}
+use Rattle.std.specs.Prelude.{true, false, cond, ◌==◌, is_some, map, Contains, AllPairs, Option, Some, None}
 use Rattle.std.specs.List.{cons_option}
 use Rattle.std.specs.Ordering.{nat_cmp}
 use Rattle.std.specs.Map.{lookup}

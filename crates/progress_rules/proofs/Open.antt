@@ -1,6 +1,6 @@
 -- Ranges that a silo hasn't settled, and hashes of those of live silos: no step but a sight begins to wait for one.
-use Rattle.std.proofs.Common.{arith, ◌≡◌, refl, sym, ap, subst, ◌∙◌, ℕ, [], ◌⊎◌, inl, inr}
-use Rattle.std.specs.Prelude.{true, false, ◌==◌, Option, Some, Ok}
+use Rattle.std.proofs.Common.{arith, ◌≡◌, refl, sym, ap, subst, ◌∙◌, ℕ, List, [], ◌⊎◌, inl, inr}
+use Rattle.std.specs.Prelude.{true, false, ◌==◌, fold, Option, Some, Ok}
 use Rattle.std.specs.Ordering.{nat_cmp}
 use Rattle.std.specs.Map.{lookup}
 use Rattle.std.specs.BTreeMap.{is_at}
@@ -14,19 +14,21 @@ use Rattle.ring_range.specs.Range.{Range, range_eq, holds}
 use Rattle.ring_range.proofs.Same.{Decides-range}
 use Rattle.hash_ring.specs.declared.Hashing.{Hashing}
 use Rattle.directory_rules.specs.declared.piece_state.PieceState.TheVariants as state
-use Rattle.directory_rules.specs.State.{Table, Piece, Node}
+use Rattle.directory_rules.specs.State.{Table, Piece, Letter, Node}
 use Rattle.directory_rules.specs.Input.{Input, step}
 use Rattle.directory_rules.specs.Sight.{is_settled}
 use Rattle.directory_rules.specs.Step.{Stepped}
-use Rattle.directory_rules.specs.Transfer.{piece_at, has_range, is_awaiting_from, is_recovering, with_settled, turned_to_recovery}
+use Rattle.directory_rules.specs.Transfer.{piece_at, has_range, is_awaiting_from, is_recovering, told_nothing, with_settled, turned_to_recovery}
 use Rattle.directory_rules.proofs.Cases.{on_bool}
 use Rattle.directory_facts.specs.Pieces.{HasPieces}
 use Rattle.directory_facts.proofs.EachStep.{by_way}
+use Rattle.directory_facts.proofs.Emptied.{by_nothing}
 use Rattle.directory_facts.proofs.Lookups.{found_beside_set}
 use Rattle.directory_facts.proofs.Ways.{Ways}
 use Rattle.progress_rules.specs.Waits.{Recovers}
 use Rattle.progress_rules.specs.Gathers.{AwaitsFrom}
 use Rattle.progress_rules.proofs.Asked as asked
+use Rattle.progress_rules.proofs.EmptiedPieces.{by_each_piece}
 use Rattle.progress_rules.proofs.Gathers.{awaiting_piece, settling, turning}
 use Rattle.progress_rules.proofs.Gathers as gathers
 use Rattle.progress_rules.proofs.Two.{both_true}
@@ -60,8 +62,11 @@ pub record IsUnserved (nodes : Silo → Option Node) (hash : ℕ) : Type 0 where
   pub inside : holds range hash ≡ true
 
 -- ---- every step
+abbrev pub AllOpenBefore : (before after : Node) → Type 0
+AllOpenBefore before after = (range : Range) → IsOpen after range → IsOpen before range
+
 abbrev pub OpenBefore : Node → Stepped → Type 0
-OpenBefore node stepped = stepped.node.view ≡ node.view → (range : Range) → IsOpen stepped.node range → IsOpen node range
+OpenBefore node stepped = stepped.node.view ≡ node.view → AllOpenBefore node stepped.node
 
 module _ (hashing : Hashing) (node : Node) (has : HasPieces hashing node) where
   -- a piece is settled
@@ -105,8 +110,14 @@ module _ (hashing : Hashing) (node : Node) (has : HasPieces hashing node) where
       bare : Piece
       bare = record { range = range; state = state.Recovering; entries = [] }
 
-  ways : Ways node (λ input stepped. OpenBefore node stepped)
-  ways = record {
+  -- a silo has nothing in a range
+  one_emptied : (letter : Letter) (range : Range) → AllOpenBefore node (told_nothing letter node range)
+  one_emptied letter range =
+      by_nothing letter node range (AllOpenBefore node) (λ other is. is) (λ recovery so other is. is) (λ table so. settled_open range table)
+
+  ways : ((letter : Letter) (ranges : List Range) → AllOpenBefore node (fold (told_nothing letter) node ranges))
+      → Ways node (λ input stepped. OpenBefore node stepped)
+  ways emptied = record {
     nothing = λ input its plain seen range is. is;
     sees = λ before view places newer numbers seen.
         let version = ap (λ (v : ViewValue). v.version) seen in absurd (omega (arith, version, newer));
@@ -144,8 +155,19 @@ module _ (hashing : Hashing) (node : Node) (has : HasPieces hashing node) where
     continues = λ letter report recovery taken so seen range is. is;
     collects = λ letter report recovery taken so seen range is. is;
     completes = λ letter report table taken so seen range is. settled_open report.range table range is;
+    surveys = λ letter first others body now seen range is. is;
+    empties = λ letter ranges its body plain seen. emptied letter ranges;
     takes_over = λ letter entry body now may seen range is. is;
   }
 
-  pub open_before : (input : Input) (stepped : Stepped) → step node input ≡ Ok stepped → OpenBefore node stepped
-  open_before input stepped is = by_way node (λ input stepped. OpenBefore node stepped) ways input stepped is
+-- or in several ranges
+emptied : (hashing : Hashing) (node : Node) → HasPieces hashing node → (letter : Letter) (ranges : List Range)
+    → AllOpenBefore node (fold (told_nothing letter) node ranges)
+emptied hashing start has letter ranges =
+    by_each_piece hashing letter (AllOpenBefore start)
+    (λ node range pieces so other is. so other (one_emptied hashing node pieces letter range other is)) ranges start has (λ other is. is)
+
+pub open_before : (hashing : Hashing) (node : Node) → HasPieces hashing node → (input : Input) (stepped : Stepped)
+    → step node input ≡ Ok stepped → OpenBefore node stepped
+open_before hashing node has input stepped is =
+    by_way node (λ input stepped. OpenBefore node stepped) (ways hashing node has (emptied hashing node has)) input stepped is

@@ -8,7 +8,7 @@ use Rattle.std.specs.BTreeMap.{is_at, insert_entry}
 use Rattle.std.proofs.lemmas.Bool.{eqb-true, ltb-true}
 use Rattle.std.proofs.lemmas.Cmp.{nat_cmp_total}
 use Rattle.std.proofs.lemmas.List.{length-map}
-use Rattle.std.proofs.lemmas.List.Sums.{sum_by-cons, count_by-le-length}
+use Rattle.std.proofs.lemmas.List.Sums.{sum_by-cons}
 use Rattle.std.proofs.lemmas.Map.Lookups.{exact_unsigned}
 use Rattle.std.proofs.lemmas.Map.Steps.{set_value_same}
 use Rattle.texts.proofs.Decided.{both}
@@ -33,10 +33,10 @@ use Rattle.directory_facts.specs.Pieces.{HasPieces}
 use Rattle.directory_facts.proofs.Collected.{GatheredSo, gathered_so}
 use Rattle.directory_facts.proofs.Lookups.{found_put, found_beside_put}
 use Rattle.progress_rules.specs.Gathers.{AwaitsFrom}
-use Rattle.progress_rules.specs.Room.{is_question, pages_shelved}
+use Rattle.progress_rules.specs.Room.{pages_shelved}
 use Rattle.progress_rules.proofs.Gathers.{HasAwaiting, awaiting_piece}
 use Rattle.progress_rules.proofs.Sums.{le_same}
-use Rattle.progress_rules.proofs.Questions.{IsQuestion, questions_offer_none, query_questions}
+use Rattle.progress_rules.proofs.Questions.{IsQuestion, asked_once, questions_offer_none, query_questions}
 use Rattle.progress_rules.proofs.Falls.{Left, left_instead, left_after, need_of, Falls, nothing, settled_beside, turned_beside, need_set}
 
 -- one of each, and what is left of each, are all
@@ -181,7 +181,7 @@ module _ (due : Silo → Range → ℕ) (left : Left) (hashing : Hashing) (node 
         let before = waited range its in
         let set = need_set due left hashing node has after range its.piece (record { range = range; state = state.Recovering; entries = [] }) its.found refl refl
         (λ other apart. turned_beside node range other apart) in
-        let asks = count_by-le-length (λ (l : Letter). is_question l.body) letters in
+        let asks = asked_once letters all in
         let sent = length-map (recovery_of after range).awaiting (query_to after range) ∙ ap (λ (r : Recovery). length r.awaiting) recovers in
         let told : left_after left range (recovery_of after range) ≡ sum_by (λ silo. left silo range None - 1) (members_of node.view) = ap (left_after left range) recovers in
         let one_each = left_each (λ silo. left silo range None) (members_of node.view) (λ silo. some silo range None) in

@@ -1,6 +1,6 @@
 -- So many letters the plan sends at most.
 use Rattle.std.proofs.Common.{arith, ◌≡◌, ◌≢◌, refl, sym, ap, subst, ◌∙◌, ℕ, ◌+◌, ◌*◌, ◌≤◌, List, [], ◌∷◌, length}
-use Rattle.std.specs.Prelude.{true, sum_by, All, Result, Ok, Err}
+use Rattle.std.specs.Prelude.{sum_by, All, Result, Ok, Err}
 use Rattle.std.specs.List.{slice_index_or}
 use Rattle.std.specs.Map.{values_of}
 use Rattle.std.proofs.lemmas.List.Elements.{All-nil, All-head, All-tail}
@@ -18,7 +18,7 @@ use Rattle.directory_rules.specs.Event.{Event, IsEvent}
 use Rattle.directory_facts.specs.Laws.{world_by}
 use Rattle.progress_rules.specs.Plan.{and_then, synced, round, IsSettledPiece}
 use Rattle.progress_rules.specs.ComeBack.{HaveSeen, AreSettled}
-use Rattle.progress_rules.specs.Room.{is_question, is_offer, fresh_with, over_nodes, over_pieces, requests_out, held_behind, all_held, reports_left, missing_of, reports_missing, instead_of, reports_instead, awaits_one, pages_left, pages_awaited, letters_needed, events_needed, PlanSendsAtMost}
+use Rattle.progress_rules.specs.Room.{answers_of, offers_of, fresh_with, over_nodes, over_pieces, requests_out, held_behind, all_held, reports_left, missing_of, reports_missing, instead_of, reports_instead, awaits_one, pages_left, pages_awaited, letters_needed, events_needed, PlanSendsAtMost}
 use Rattle.progress_rules.proofs.Resting.{IsResting}
 use Rattle.progress_rules.proofs.RoundOfPieces.{starts, pieces_come_back}
 use Rattle.progress_rules.proofs.Synced.{synced_seen}
@@ -68,11 +68,11 @@ abbrev reports_more : World → ℕ
 reports_more world = over_nodes (λ node. over_pieces (more_of world node) node) world
 
 pub world_needs : (world : World)
-    → potential (base_of world) world ≡ fresh_with is_question world + 2 * fresh_with is_offer world +
+    → potential (base_of world) world ≡ fresh_with answers_of world + 2 * fresh_with offers_of world +
     2 * (pages_awaited world + (reports_instead world + reports_more world))
 world_needs world =
     let nodes = values_of world.nodes in
-    ap (λ k. fresh_with is_question world + 2 * fresh_with is_offer world + k)
+    ap (λ k. fresh_with answers_of world + 2 * fresh_with offers_of world + k)
     (sum_times (λ (x : Node). need (due_to world x) (reports_left world) x)
     (λ (x : Node). over_pieces (pages_left world x) x + (over_pieces (instead_of world x) x + over_pieces (more_of world x) x)) 2
     (λ x. node_needs world x) nodes
@@ -133,10 +133,10 @@ first_sends world = world.sent + potential (base_of world) world + 2 * asked_in 
 
 abbrev pub first_events : World → ℕ
 first_events world =
-    world.accepted + fresh_with (λ body. true) world + potential (base_of world) world + length world.nodes + 2 * asked_in world
+    world.accepted + fresh_with (λ body. 1) world + potential (base_of world) world + length world.nodes + 2 * asked_in world
 
 abbrev pub still_asked : World → ℕ
-still_asked world = requests_out world + fresh_with is_offer world
+still_asked world = requests_out world + fresh_with offers_of world
 
 pub before_first : (world : World) → IsResting world
     → Before (base_of world) (first_sends world) (still_asked world) (first_events world) world

@@ -16,7 +16,7 @@ use Rattle.directory_rules.specs.State.{Piece, Node, World}
 use Rattle.directory_rules.specs.Step.{Stepped}
 use Rattle.directory_rules.specs.Happens.{node_of}
 use Rattle.directory_rules.proofs.Cases.{on_bool}
-use Rattle.progress_rules.specs.Room.{is_question, is_offer, fresh_with, over_nodes, pages_shelved}
+use Rattle.progress_rules.specs.Room.{answers_of, offers_of, fresh_with, over_nodes, pages_shelved}
 use Rattle.progress_rules.proofs.Flights.{stepped_world, its_node, other_node}
 use Rattle.progress_rules.proofs.Sums.{le_same}
 use Rattle.progress_rules.proofs.AreTold.{Base, left_by}
@@ -29,7 +29,7 @@ due_to world node giver range = pages_shelved (node_of world giver) node.host.si
 -- what the fresh letters and the pieces of a world stand for, where there are so many silos
 abbrev pub potential : Base → World → ℕ
 potential b world =
-    fresh_with is_question world + 2 * fresh_with is_offer world + over_nodes (λ node. need (due_to world node) (left_by b) node) world
+    fresh_with answers_of world + 2 * fresh_with offers_of world + over_nodes (λ node. need (due_to world node) (left_by b) node) world
 
 -- the fewer are due the less is needed
 pub need_less : (less more : Silo → Range → ℕ) (left : Left) (node : Node)

@@ -1,7 +1,7 @@
--- Questions: requests, asks and queries. They are no offers, and are what a node sends of its own for what it waits for.
-use Rattle.std.proofs.Common.{arith, ◌≡◌, refl, ap, ℕ, List, [], ◌∷◌}
-use Rattle.std.specs.Prelude.{true, false, cond, flat_map, All, Option, Some, None}
-use Rattle.std.proofs.lemmas.List.Elements.{All-nil, All-cons, All-head, All-tail, All-append, All-map}
+-- Questions: requests, asks and queries, each of which has one answer. They are no offers, and are what a nudge sends.
+use Rattle.std.proofs.Common.{arith, ◌≡◌, refl, ℕ, List, [], ◌∷◌, length}
+use Rattle.std.specs.Prelude.{flat_map, All, Option, Some, None}
+use Rattle.std.proofs.lemmas.List.Elements.{All-nil, All-cons, All-head, All-tail, All-append, All-map, All-weaker}
 use Rattle.std.proofs.lemmas.List.Sums.{sum_by-cons}
 use Rattle.silo_address.specs.Silo.{Silo}
 use Rattle.silo_address.specs.Grain.{Grain}
@@ -12,23 +12,28 @@ use Rattle.directory_rules.specs.declared.piece_state.PieceState.TheVariants as 
 use Rattle.directory_rules.specs.State.{Piece, Letter, Body, Request_letter, Ask_letter, Offer_letter, Node}
 use Rattle.directory_rules.specs.Host.{outstanding, requests_about}
 use Rattle.directory_rules.specs.Sent.{letter_to, letter_if_owned, owner_by, hash_of, request_of, request_letters, gathering_of, recovery_of, query_to, query_letters, wants_by, all_requests, requests_of_grain, all_wants}
-use Rattle.progress_rules.specs.Room.{is_question, is_offer}
-use Rattle.progress_rules.proofs.FreshWith.{sent_with}
+use Rattle.progress_rules.specs.Room.{answers_of, offers_of}
+use Rattle.progress_rules.proofs.FreshWith.{sent_with, none_sent}
 
 abbrev pub IsQuestion : Letter → Type 0
-IsQuestion letter = is_question letter.body ≡ true
+IsQuestion letter = answers_of letter.body ≡ 1
 
-not_offer : (body : Body) → is_question body ≡ true → is_offer body ≡ false
-not_offer (Offer_letter entry) is = absurd (cc (is))
+pub asked_once : (letters : List Letter) → All IsQuestion letters → sent_with answers_of letters ≡ length letters
+asked_once [] all = refl
+asked_once (letter ∷ letters) all =
+    let here = All-head IsQuestion letter letters all in
+    let rest = asked_once letters (All-tail IsQuestion letter letters all) in
+    let parts = sum_by-cons (λ (l : Letter). answers_of l.body) letter letters in
+    omega (arith, here, rest, parts)
+
+not_offer : (body : Body) → answers_of body ≡ 1 → offers_of body ≡ 0
+not_offer (Offer_letter entry) is = absurd (omega (arith, is))
 not_offer body is = refl
 
-pub questions_offer_none : (letters : List Letter) → All IsQuestion letters → sent_with is_offer letters ≡ 0
-questions_offer_none [] all = refl
-questions_offer_none (letter ∷ letters) all =
-    let here = ap (λ b. cond {A = ℕ} b 1 0) (not_offer letter.body (All-head IsQuestion letter letters all)) in
-    let rest = questions_offer_none letters (All-tail IsQuestion letter letters all) in
-    let parts = sum_by-cons (λ (l : Letter). cond {A = ℕ} (is_offer l.body) 1 0) letter letters in
-    omega (arith, here, rest, parts)
+pub questions_offer_none : (letters : List Letter) → All IsQuestion letters → sent_with offers_of letters ≡ 0
+questions_offer_none letters all =
+    none_sent offers_of letters
+    (All-weaker IsQuestion (λ (l : Letter). offers_of l.body ≡ 0) (λ l is. not_offer l.body is) letters all)
 
 -- ---- what a node asks
 all_flat : {X : Type 0} (P : Letter → Type 0) (f : X → List Letter) → ((x : X) → All P (f x)) → (xs : List X) → All P (flat_map f xs)

@@ -1,6 +1,6 @@
 -- How many letters a round sends, and the plan.
 use Rattle.std.proofs.Common.{arith, ◌≡◌, ◌≢◌, refl, sym, ap, subst, ◌∙◌, ℕ, suc, ◌+◌, ◌*◌, ◌≤◌, List, [], ◌∷◌, length}
-use Rattle.std.specs.Prelude.{true, sum_by, All, Option, Some, Result, Ok, Err}
+use Rattle.std.specs.Prelude.{sum_by, All, Option, Some, Result, Ok, Err}
 use Rattle.std.specs.Option.{option_map}
 use Rattle.std.specs.List.{slice_index_or}
 use Rattle.std.specs.Map.{lookup, values_of}
@@ -22,7 +22,7 @@ use Rattle.directory_facts.proofs.Lookups.{lookup_first, lookup_later}
 use Rattle.progress_rules.specs.Plan.{and_then, settled, round}
 use Rattle.progress_rules.specs.Plan as plan
 use Rattle.progress_rules.specs.Covered.{AllSeen}
-use Rattle.progress_rules.specs.Room.{is_offer, fresh_with, over_pieces, over_nodes, requests_out, awaits_one, snapshots_awaited}
+use Rattle.progress_rules.specs.Room.{offers_of, fresh_with, over_pieces, over_nodes, requests_out, awaits_one, snapshots_awaited}
 use Rattle.progress_rules.proofs.AreTold.{Base}
 use Rattle.progress_rules.proofs.Flights.{stepped_world, other_node, delivered, nudged}
 use Rattle.progress_rules.proofs.Flying.{least_is}
@@ -44,8 +44,8 @@ pub record Within (b : Base) (sends asks events : ℕ) (world : World) : Type 0 
   pub reporting : Reporting b world
   pub many : length world.nodes ≡ b.silos
   pub sent : world.sent + potential b world ≤ sends
-  pub asked : requests_out world + fresh_with is_offer world ≤ asks
-  pub came : world.accepted + fresh_with (λ body. true) world + potential b world ≤ events
+  pub asked : requests_out world + fresh_with offers_of world ≤ asks
+  pub came : world.accepted + fresh_with (λ body. 1) world + potential b world ≤ events
 
 pub delivered_rests : (world : World) (number : ℕ) (accepted : Accepted) → IsResting world → happens world (Deliver number) ≡ Ok accepted
     → IsResting accepted.world
@@ -102,8 +102,8 @@ pub record NudgingWithin (b : Base) (sends asks events : ℕ) (those : List (Sil
   pub apart : Apart those
   pub there : All (λ e. node_of world e.0 ≡ Some e.1) those
   pub sent : world.sent + potential b world + 2 * asked_by_all those ≤ sends
-  pub asked : requests_out world + fresh_with is_offer world ≤ asks
-  pub came : world.accepted + fresh_with (λ body. true) world + potential b world + length those + 2 * asked_by_all those ≤ events
+  pub asked : requests_out world + fresh_with offers_of world ≤ asks
+  pub came : world.accepted + fresh_with (λ body. 1) world + potential b world + length those + 2 * asked_by_all those ≤ events
 
 pub nudged_rests : (world : World) (silo : Silo) (accepted : Accepted) → IsResting world → IsSilo silo
     → happens world (Do silo Nudge) ≡ Ok accepted → IsResting accepted.world
@@ -187,8 +187,8 @@ pub record Before (b : Base) (sends asks events : ℕ) (world : World) : Type 0 
   pub reporting : Reporting b world
   pub many : length world.nodes ≡ b.silos
   pub sent : world.sent + potential b world + 2 * asked_in world ≤ sends
-  pub asked : requests_out world + fresh_with is_offer world ≤ asks
-  pub came : world.accepted + fresh_with (λ body. true) world + potential b world + b.silos + 2 * asked_in world ≤ events
+  pub asked : requests_out world + fresh_with offers_of world ≤ asks
+  pub came : world.accepted + fresh_with (λ body. 1) world + potential b world + b.silos + 2 * asked_in world ≤ events
 
 pub begins : (b : Base) (sends asks events : ℕ) (world : World) → Before b sends asks events world
     → NudgingWithin b sends asks events world.nodes world

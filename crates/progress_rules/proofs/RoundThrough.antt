@@ -1,6 +1,6 @@
 -- With room for what they need no nudge and no delivery is refused, so a round is through.
 use Rattle.std.proofs.Common.{arith, ◌≡◌, inl, inr, refl, sym, ap, subst, ◌∙◌, ℕ, zero, suc, ◌+◌, ◌≤◌, List, [], ◌∷◌, length}
-use Rattle.std.specs.Prelude.{true, ◌&&◌, map, All, Option, Some, None, Result, Ok, Err}
+use Rattle.std.specs.Prelude.{map, All, Option, Some, None, Result, Ok, Err}
 use Rattle.std.specs.Option.{option_map}
 use Rattle.std.specs.Map.{values_of}
 use Rattle.std.proofs.lemmas.List.Elements.{All-head, All-tail}
@@ -49,10 +49,10 @@ ok_is : (made stepped : Stepped) → ◌≡◌ {A = Result Stepped ℕ} (Ok made
 ok_is made stepped is = cc (is)
 
 module _ (b : Base) (sends asks events : ℕ) (world : World) (w : Within b sends asks events world) (room : HasRoom sends events world.settings) where
-  one_fresh : (number : ℕ) → least_deliverable world ≡ Some number → 1 ≤ fresh_with (λ body. true) world
+  one_fresh : (number : ℕ) → least_deliverable world ≡ Some number → 1 ≤ fresh_with (λ body. 1) world
   one_fresh number next =
       let least = least_is world number (rest_mail world w.rests).rising next in
-      let fewer = fresh_before (λ body. true) world number (fresh_letter least.letter) least.flies.found refl in
+      let fewer = fresh_before (λ body. 1) world number (fresh_letter least.letter) least.flies.found refl in
       omega (arith, fewer)
 
   delivery_happens : (number : ℕ) → least_deliverable world ≡ Some number → Happens world (Deliver number)
@@ -170,16 +170,16 @@ nudges_through b sends asks events (e ∷ es) world silos w room =
 
 -- ---- a round
 -- no more letters are fresh than were sent
-fresh_sent : (world : World) → IsResting world → fresh_with (λ body. true) world ≤ world.sent
+fresh_sent : (world : World) → IsResting world → fresh_with (λ body. 1) world ≤ world.sent
 fresh_sent world r =
-    let few = count_by-le-length (λ (posted : Posted). posted.fresh && true) (values_of world.mail) in
+    let few = count_by-le-length (λ (posted : Posted). posted.fresh) (values_of world.mail) in
     let same = length-values_of world.mail in
     let many = (rest_mail world r).many in
     omega (arith, few, same, many)
 
 -- so many events there are at most once a settle is through
 abbrev steps_of : Base → World → ℕ
-steps_of b world = world.accepted + fresh_with (λ body. true) world + potential b world
+steps_of b world = world.accepted + fresh_with (λ body. 1) world + potential b world
 
 pub round_through : (b : Base) (sends asks events : ℕ) (world : World) → Before b sends asks events world → HasRoom sends events world.settings
     → (after : World) × (round world ≡ Ok after) × (after.settings ≡ world.settings)

@@ -25,7 +25,7 @@ use Rattle.directory_facts.proofs.EachStep.{by_way}
 use Rattle.directory_facts.proofs.Lookups.{found_beside_put}
 use Rattle.directory_facts.proofs.Ways.{IsReportTaken, Ways}
 use Rattle.progress_rules.specs.Waits.{Recovers, Awaits}
-use Rattle.progress_rules.proofs.Asked.{more_so, more_range, others_told, teller_told, collected_awaits}
+use Rattle.progress_rules.proofs.Asked.{more_so, more_range, others_told, teller_told, collected_awaits, emptied_awaits}
 use Rattle.progress_rules.proofs.Told.{put_or_beside}
 use Rattle.progress_rules.proofs.Waits.{is_one, recovering_piece, settled_awaits}
 
@@ -128,6 +128,8 @@ module _ (node : Node) where
     collects = λ letter report recovery taken is seen range silo was waits. inl
         (collected_awaits node letter report recovery taken is range silo waits).1;
     completes = λ letter report table taken is seen range silo was waits. inl (settled_awaits node report.range _ range silo waits).1;
+    surveys = λ letter first others body now seen range silo was waits. inl refl;
+    empties = λ letter ranges its body plain seen range silo was waits. inl (emptied_awaits letter ranges node range silo waits).1;
     takes_over = λ letter entry body now may seen range silo was waits. inl refl;
   }
 

@@ -1,5 +1,5 @@
 -- How many letters the plan needs, counted where each live silo has seen the current view.
-use Rattle.std.specs.Prelude.{◌≡◌, ℕ, ◌+◌, ◌*◌, ◌-◌, ◌/◌, ◌≤◌, ◌==◌, ◌&&◌, if◌then◌else◌, Bool, true, false, List, [], ◌∷◌, All, length, sum_by, count_by, find, Option, Some, None, Ok}
+use Rattle.std.specs.Prelude.{◌≡◌, ℕ, ◌+◌, ◌*◌, ◌-◌, ◌/◌, ◌≤◌, ◌==◌, ◌&&◌, if◌then◌else◌, List, [], ◌∷◌, All, length, sum_by, count_by, find, Option, Some, None, Ok}
 use Rattle.std.specs.Map.{values_of}
 use Rattle.silo_address.specs.Silo.{Silo}
 use Rattle.silo_address.specs.Grain.{Grain}
@@ -10,7 +10,7 @@ use Rattle.directory_rules.specs.declared.held.Held.{Held}
 use Rattle.directory_rules.specs.declared.piece_state.PieceState.{PieceState}
 use Rattle.directory_rules.specs.declared.piece_state.PieceState.TheVariants.{Settled, Awaiting, Recovering}
 use Rattle.directory_rules.specs.Settings.{Settings, AreSettings}
-use Rattle.directory_rules.specs.State.{Snapshot, Body, Request_letter, Reply_letter, Ask_letter, Page_letter, Missing_letter, Done_letter, Query_letter, Report_letter, Behind_letter, Ahead_letter, Offer_letter, Node, World}
+use Rattle.directory_rules.specs.State.{Snapshot, Body, Request_letter, Reply_letter, Ask_letter, Page_letter, Missing_letter, Done_letter, Query_letter, Report_letter, Survey_letter, Empty_letter, Behind_letter, Ahead_letter, Offer_letter, Node, World}
 use Rattle.directory_rules.specs.Snapshot.{page_count, is_snapshot}
 use Rattle.directory_rules.specs.Recovery.{told_by}
 use Rattle.directory_rules.specs.Host.{outstanding}
@@ -24,37 +24,42 @@ use Rattle.progress_rules.specs.Plan.{synced, plan, IsBack, IsBackUnowned}
 use Rattle.progress_rules.specs.Limits.{NumbersSuffice, HasActive}
 
 -- ---- what is still to come
--- whether a letter is answered: a request, an ask or a query
-abbrev pub is_question : Body → Bool
-is_question (Request_letter request) = true
-is_question (Reply_letter number reply) = false
-is_question (Ask_letter range page) = true
-is_question (Page_letter page) = false
-is_question (Missing_letter range) = false
-is_question (Done_letter range) = false
-is_question (Query_letter range after) = true
-is_question (Report_letter report) = false
-is_question (Behind_letter range) = false
-is_question (Ahead_letter range) = false
-is_question (Offer_letter entry) = false
+-- how many answers a letter has at most: a request, an ask or a query has one, and a survey one for each of its ranges, a report on it or
+-- the word that it is among those in which there is nothing
+abbrev pub answers_of : Body → ℕ
+answers_of (Request_letter request) = 1
+answers_of (Reply_letter number reply) = 0
+answers_of (Ask_letter range page) = 1
+answers_of (Page_letter page) = 0
+answers_of (Missing_letter range) = 0
+answers_of (Done_letter range) = 0
+answers_of (Query_letter range after) = 1
+answers_of (Report_letter report) = 0
+answers_of (Survey_letter ranges) = length ranges
+answers_of (Empty_letter ranges) = 0
+answers_of (Behind_letter range) = 0
+answers_of (Ahead_letter range) = 0
+answers_of (Offer_letter entry) = 0
 
--- whether it is an offer, which begins an activation
-abbrev pub is_offer : Body → Bool
-is_offer (Request_letter request) = false
-is_offer (Reply_letter number reply) = false
-is_offer (Ask_letter range page) = false
-is_offer (Page_letter page) = false
-is_offer (Missing_letter range) = false
-is_offer (Done_letter range) = false
-is_offer (Query_letter range after) = false
-is_offer (Report_letter report) = false
-is_offer (Behind_letter range) = false
-is_offer (Ahead_letter range) = false
-is_offer (Offer_letter entry) = true
+-- how many activations it begins at most: an offer one
+abbrev pub offers_of : Body → ℕ
+offers_of (Request_letter request) = 0
+offers_of (Reply_letter number reply) = 0
+offers_of (Ask_letter range page) = 0
+offers_of (Page_letter page) = 0
+offers_of (Missing_letter range) = 0
+offers_of (Done_letter range) = 0
+offers_of (Query_letter range after) = 0
+offers_of (Report_letter report) = 0
+offers_of (Survey_letter ranges) = 0
+offers_of (Empty_letter ranges) = 0
+offers_of (Behind_letter range) = 0
+offers_of (Ahead_letter range) = 0
+offers_of (Offer_letter entry) = 1
 
--- how many fresh letters there are of such a body
-abbrev pub fresh_with : (Body → Bool) → World → ℕ
-fresh_with test world = count_by (λ posted. posted.fresh && test posted.letter.body) (values_of world.mail)
+-- the sum of such numbers over all fresh letters
+abbrev pub fresh_with : (Body → ℕ) → World → ℕ
+fresh_with count world = sum_by (λ posted. if posted.fresh then count posted.letter.body else 0) (values_of world.mail)
 
 -- ---- what is waited for
 -- the sum over all live silos, and over a silo's pieces
@@ -136,17 +141,17 @@ abbrev pub pages_awaited : World → ℕ
 pages_awaited world = over_nodes (λ node. over_pieces (pages_left world node) node) world
 
 -- ---- the bounds
--- So many letters the plan needs at most. Each question that is fresh, or that a nudge sends, is a letter and has an answer; an offer makes
--- a request; a page is asked for and answered, and so is a report; where there is no snapshot, each member is asked for all of its own; and in
--- the second round what is still outstanding is asked once more.
+-- So many letters the plan needs at most. Each letter that is fresh has its answers; each question that a nudge sends is a letter and has
+-- one; an offer makes a request; a page is asked for and answered, and so is a report; where there is no snapshot, each member is asked for
+-- all of its own; and in the second round what is still outstanding is asked once more.
 abbrev pub letters_needed : World → ℕ
 letters_needed world =
-    fresh_with is_question world + 2 * fresh_with is_offer world + 2 * requests_out world + 2 * reports_missing world + 2 * snapshots_awaited world + 2 * pages_awaited world
-    + 2 * reports_instead world + 2 * (requests_out world + fresh_with is_offer world)
+    fresh_with answers_of world + 2 * fresh_with offers_of world + 2 * requests_out world + 2 * reports_missing world + 2 * snapshots_awaited world + 2 * pages_awaited world
+    + 2 * reports_instead world + 2 * (requests_out world + fresh_with offers_of world)
 
 -- and so many events: each live silo is nudged twice, and each letter comes that is fresh or is sent
 abbrev pub events_needed : World → ℕ
-events_needed world = 2 * length world.nodes + fresh_with (λ body. true) world + letters_needed world
+events_needed world = 2 * length world.nodes + fresh_with (λ body. 1) world + letters_needed world
 
 -- once each live silo has seen the current view, the plan sends no more
 abbrev pub PlanSendsAtMost : Type 0

@@ -1,9 +1,10 @@
-//! Worked runs: one that comes back, one that doesn't, for it is nudged too soon, one whose plan sends as many letters as it may, and one
-//! that takes a round more, for its letters come in reverse.
+//! Worked runs: one that comes back, one that doesn't, for it is nudged too soon, some whose plans send as many letters as they may, and
+//! one that takes a round more, for its letters come in reverse.
 ghost use Rattle.progress_rules.specs.Worked.{LimitsCompute, PlanComputes};
 ghost use Rattle.progress_rules.specs.Hasty.{HastyNudgesWait, PartNudgesDoNot};
 ghost use Rattle.progress_rules.specs.RoomWorked.{BoundIsReached};
 ghost use Rattle.progress_rules.specs.Paged.{PagesReachTheBound};
+ghost use Rattle.progress_rules.specs.Surveyed.{SurveyReachesTheBound};
 ghost use Rattle.progress_rules.specs.Reversed.{ReversedNeedsTwo};
 
 /// Two silos, of which one has a range that isn't settled, an activation that asks, and a find that waits, its first letter lost: after
@@ -31,6 +32,12 @@ pub fn bound_is_reached()
 /// the bound lets, three queries and three reports.
 pub fn pages_reach_the_bound()
     ensures { PagesReachTheBound }
+{}
+
+/// A silo that recovers three ranges asks for all in one letter. Where it has nothing in any, one letter settles all; where it has an
+/// activation in two of them, the plan sends just as many letters as the bound lets, of which three answer that letter.
+pub fn survey_reaches_the_bound()
+    ensures { SurveyReachesTheBound }
 {}
 
 /// A silo with two registrations outstanding at one owner, of which the later comes first: after a round one waits still, and after another

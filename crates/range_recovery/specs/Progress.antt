@@ -1,5 +1,7 @@
 -- What comes of a report, as its taker is told.
-use Rattle.std.specs.Prelude.{◌≡◌, ◌==◌, ℕ, length, if◌then◌else◌, Result, Ok, Err, IsSomeAnd, IsOk, MatchOption}
+use Rattle.std.specs.Prelude.{◌≡◌, ◌==◌, ℕ, length, if◌then◌else◌, true, [], None, Result, Ok, Err, IsSomeAnd, IsOk, MatchOption}
+use Rattle.silo_address.specs.Silo.{Silo}
+use Rattle.ring_range.specs.Range.{Range}
 use Rattle.directory_rules.specs.State.{Recovery, Report}
 use Rattle.directory_rules.specs.Recovery.{Recovered, Has_more, Awaits_more, Has_union, Rejects, recovered}
 use Rattle.range_recovery.specs.declared.error.RecoveryError.{RecoveryError}
@@ -13,6 +15,10 @@ progress_of (Has_more recovery) = Ok Continues
 progress_of (Awaits_more recovery) = Ok More
 progress_of (Has_union table) = Ok Complete
 progress_of (Rejects number) = Err number
+
+-- the report of a silo that has seen the version and has nothing in the range
+abbrev pub nothing_of : (version : ℕ) → Range → Silo → Report
+nothing_of version range silo = record { version = version; range = range; silo = silo; after = None; entries = []; last = true }
 
 -- how far the recovery is when one more of the silos that it awaits has told all
 abbrev pub after_one_more : Recovery → RecoveryProgress

@@ -3,7 +3,7 @@ ghost use Rattle.ring_range.specs.Range.{range_eq};
 ghost use Rattle.directory_rules.specs.Recovery.{new_recovery, recovered, told_by, with_last, with_more, with_report};
 ghost use Rattle.range_recovery.specs.Silos.{has_reported, silos_in};
 ghost use Rattle.range_recovery.specs.Kept.{IsRecovery};
-ghost use Rattle.range_recovery.specs.Progress.{Reaches, Refuses, RefusesOrLacksMemory, after_one_more, progress_of};
+ghost use Rattle.range_recovery.specs.Progress.{Reaches, Refuses, RefusesOrLacksMemory, after_one_more, nothing_of, progress_of};
 
 use crate::gather::{gather, take_out};
 use crate::silos::AwaitedSilos;
@@ -170,6 +170,24 @@ impl Recovery {
         }
     }
 
+    /// Takes the report of a silo that has seen the version and has nothing in the range. It takes no memory. Refuses as `take` does.
+    pub fn take_nothing(
+        &mut self,
+        version: u64,
+        range: RingRange,
+        silo: SiloAddress,
+    ) -> Result<RecoveryProgress, RecoveryError>
+        ensures reached { IfOk result (λ progress. Reaches progress self.new (recovered self.old (nothing_of version range silo))) }
+        ensures taken { OnOk result (self.new ≡ with_report self.old (nothing_of version range silo)) }
+        ensures refused { IfErr result (Refuses self.old (nothing_of version range silo)) }
+        ensures unchanged { OnErr result (self.new ≡ self.old) }
+    {
+        let report = Report::of_nothing(self.alloc, version, range, silo);
+        let progress = self.progress_with(&report)?;
+        self.end_telling(&silo);
+        Ok(progress)
+    }
+
     // Takes the last report of a silo that is awaited.
     fn take_last(&mut self, report: &Report) -> Result<(), AllocError>
         requires waits { has_reported (silos_in self.old) report.now.silo ≡ Some false }
@@ -177,10 +195,17 @@ impl Recovery {
         ensures unchanged { OnErr result (self.new ≡ self.old) }
     {
         let _new = gather(self.alloc, &mut self.gathered, report.entries())?;
-        let silo = report.silo();
-        self.silos.mark(&silo);
-        self.told.remove(&silo);
+        self.end_telling(&report.silo());
         Ok(())
+    }
+
+    // A silo that is awaited has told all: as with the report that it has nothing.
+    fn end_telling(&mut self, silo: &SiloAddress)
+        requires waits { has_reported (silos_in self.old) silo.now ≡ Some false }
+        ensures { self.new ≡ with_last self.old (nothing_of self.old.version self.old.range silo.now) }
+    {
+        self.silos.mark(silo);
+        self.told.remove(silo);
     }
 
     // Takes another report: its silo has told up to its last entry. What was gathered is taken out again when memory runs out.

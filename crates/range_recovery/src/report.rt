@@ -1,9 +1,10 @@
 ghost use Rattle.std.specs.Prelude.{◌≡◌, ◌↔◌, IsTrue, IfOk};
 ghost use Rattle.directory_rules.specs.Standing.{last_grain};
+ghost use Rattle.range_recovery.specs.Progress.{nothing_of};
 
 use ring_range::RingRange;
 use silo_address::{Entry, GrainId, SiloAddress};
-use std::alloc::AllocError;
+use std::alloc::{AllocError, Global};
 use std::marker::Model;
 
 /// Some of a silo's firm activations that are hashed into a range, as it tells them when it has seen a version: the first of those
@@ -47,6 +48,13 @@ impl Report {
             entries,
             last,
         }
+    }
+
+    /// The report of a silo that has seen this version and has nothing in the range. It takes no memory.
+    pub fn of_nothing(alloc: Global, version: u64, range: RingRange, silo: SiloAddress) -> Report
+        ensures { result ≡ nothing_of version range silo }
+    {
+        Report::new(version, range, silo, None, Vec::new(alloc), true)
     }
 
     /// The version that the silo had seen.

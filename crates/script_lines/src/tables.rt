@@ -29,6 +29,8 @@ pub fn kind_word(kind: LetterKind) -> &'static [u8]
         LetterKind::Done => b"done",
         LetterKind::Query => b"query",
         LetterKind::Report => b"report",
+        LetterKind::Survey => b"survey",
+        LetterKind::Empty => b"empty",
         LetterKind::Behind => b"behind",
         LetterKind::Ahead => b"ahead",
         LetterKind::Offer => b"offer",

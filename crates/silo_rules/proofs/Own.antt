@@ -1,11 +1,13 @@
 -- A step leaves a node its silo's, by the same settings.
-use Rattle.std.proofs.Common.{◌≡◌, refl}
-use Rattle.std.specs.Prelude.{Ok}
-use Rattle.directory_rules.specs.State.{Node}
+use Rattle.std.proofs.Common.{◌≡◌, ap, refl}
+use Rattle.std.specs.Prelude.{fold, Ok}
+use Rattle.directory_rules.specs.State.{Host, Node}
 use Rattle.directory_rules.specs.Step.{Stepped}
+use Rattle.directory_rules.specs.Transfer.{told_nothing}
 use Rattle.directory_rules.specs.Input.{Input, step}
 use Rattle.directory_facts.proofs.Ways.{Ways}
 use Rattle.directory_facts.proofs.EachStep.{by_way}
+use Rattle.directory_facts.proofs.Emptied.{leaves_else}
 
 -- the node after a step has the settings and the silo of the one before
 pub record StaysOwn (node after : Node) : Type 0 where
@@ -46,6 +48,7 @@ module _ (node : Node) where
     lags = λ letter range. stays _ refl refl;
     passed = λ letter range. stays _ refl refl;
     reports = λ letter range after body seen. stays _ refl refl;
+    surveys = λ letter first others body seen. stays _ refl refl;
     gathers = λ letter page gathering taken is. stays _ refl refl;
     installs = λ letter page entries taken is. stays _ refl refl;
     drops = λ letter page gathering taken is. stays _ refl refl;
@@ -53,6 +56,9 @@ module _ (node : Node) where
     continues = λ letter report recovery taken is. stays _ refl refl;
     collects = λ letter report recovery taken is. stays _ refl refl;
     completes = λ letter report table taken is. stays _ refl refl;
+    empties =
+        λ letter ranges its body plain. let rest = leaves_else letter node ranges in
+        stays (fold (told_nothing letter) node ranges) rest.settings (ap (λ (h : Host). h.silo) rest.host);
     takes_over = λ letter entry body seen may. stays _ refl refl;
   }
 

@@ -1,7 +1,7 @@
 -- Letters, and what steps and events tell, cross.
 use mathlib.Core.List.{[], ◌∷◌}
 use Rattle.silo_workers.proofs.Parts.{Crosses, All, choice, fields, modelled, variants, number16, number32, number64}
-use Rattle.silo_workers.proofs.Holders.{optional}
+use Rattle.silo_workers.proofs.Holders.{optional, listed}
 use Rattle.silo_workers.proofs.Names.{silo_crosses, grain_crosses, activation_crosses, entry_field_crosses, range_crosses}
 use Rattle.silo_workers.proofs.Members.{hashing_crosses}
 use Rattle.silo_workers.proofs.Tables.{page_crosses, report_crosses}
@@ -44,6 +44,7 @@ reply_crosses =
 
 body_crosses : Crosses (body.the_field).row
 body_crosses =
+    let ranges = listed range.the_row range_crosses in
     let range : All (range.the_row ∷ []) = (range_crosses, tt) in
     let after = optional grain.the_row grain_crosses in
     variants body.the_type (
@@ -58,7 +59,10 @@ body_crosses =
               range,
               (
                 range,
-                ((range_crosses, (after, tt)), ((report_crosses, tt), (range, (range, ((entry_field_crosses, tt), tt))))),
+                (
+                  (range_crosses, (after, tt)),
+                  ((report_crosses, tt), ((ranges, tt), ((ranges, tt), (range, (range, ((entry_field_crosses, tt), tt)))))),
+                ),
               ),
             ),
           ),

@@ -11,6 +11,7 @@ use Rattle.silo_workers.proofs.Letters.{hashed_crosses, letter_crosses, effect_c
 use Rattle.silo_address.specs.contracts.grain.GrainId as grain
 use Rattle.silo_address.specs.contracts.entry.Entry as entry
 use Rattle.silo_address.specs.contracts.activation.ActivationId as activation
+use Rattle.ring_range.specs.contracts.range.RingRange as range
 use Rattle.hash_ring.specs.contracts.ring.Ring as ring
 use Rattle.seal_snapshot.specs.contracts.snapshot.Snapshot as snapshot
 use Rattle.grain_partition.specs.contracts.by_silo.ArcsBySilo as by_silo
@@ -117,7 +118,16 @@ change_crosses =
                                         (page_crosses, tt),
                                         (
                                           (range_crosses, tt),
-                                          ((range_crosses, (table_crosses, tt)), ((recovery_crosses, tt), ((report_crosses, tt), tt))),
+                                          (
+                                            (range_crosses, (table_crosses, tt)),
+                                            (
+                                              (recovery_crosses, tt),
+                                              (
+                                                (report_crosses, tt),
+                                                ((silo_crosses, (number64, (listed range.the_row range_crosses, tt))), tt),
+                                              ),
+                                            ),
+                                          ),
                                         ),
                                       ),
                                     ),

@@ -7,6 +7,7 @@ use Rattle.worked_rows.specs.Transfers as transfers
 use Rattle.worked_rows.specs.Pages as pages
 use Rattle.worked_rows.specs.Requests as requests
 use Rattle.worked_rows.specs.Recoveries as recoveries
+use Rattle.worked_rows.specs.Surveys as surveys
 use Rattle.worked_rows.specs.Offers as offers
 use Rattle.worked_rows.specs.WholeDumps as whole_dumps
 use Rattle.worked_rows.specs.Faults as faults
@@ -145,6 +146,10 @@ skip_then_late_letters = refl
 pub kept_skip : Prints recoveries.kept_skip
 unfolding all_opened
 kept_skip = refl
+
+pub several_ranges : Prints surveys.several_ranges
+unfolding all_opened
+several_ranges = refl
 
 pub no_report_of_a_skipped_version : Prints recoveries.no_report_of_a_skipped_version
 unfolding all_opened

@@ -5,6 +5,7 @@ pub mod Transfers
 pub mod Pages
 pub mod Requests
 pub mod Recoveries
+pub mod Surveys
 pub mod Offers
 pub mod WholeDumps
 pub mod Faults

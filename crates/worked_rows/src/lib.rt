@@ -15,6 +15,7 @@ ghost use Rattle.worked_rows.specs.Requests as requests;
 ghost use Rattle.worked_rows.specs.Rings as rings;
 ghost use Rattle.worked_rows.specs.Row.{Prints, PrintsWithOneSilo, PrintsWithReportsOfOne, PrintsHashed, IsWritten, IsJudged, IsAnswered, IsNoDump, IsADump};
 ghost use Rattle.worked_rows.specs.Shapes as shapes;
+ghost use Rattle.worked_rows.specs.Surveys as surveys;
 ghost use Rattle.worked_rows.specs.Transfers as transfers;
 ghost use Rattle.worked_rows.specs.WholeDumps as whole_dumps;
 
@@ -215,6 +216,12 @@ pub fn skip_then_late_letters()
 #[tactic(auto, using(crate::proofs::Computed::kept_skip))]
 pub fn kept_skip()
     ensures { Prints recoveries.kept_skip }
+{}
+
+/// Three ranges of a silo recover at once: each silo is asked for all by one message, and tells by one in which of them it has nothing.
+#[tactic(auto, using(crate::proofs::Computed::several_ranges))]
+pub fn several_ranges()
+    ensures { Prints surveys.several_ranges }
 {}
 
 /// A silo that skipped a version makes no report for it.

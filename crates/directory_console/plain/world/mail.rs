@@ -3,6 +3,7 @@
 use super::identities::{Activation, Grain, Silo};
 use super::ring::Range;
 use super::views::Version;
+use std::rc::Rc;
 
 /// How many letters may ever be sent.
 const MOST_LETTERS: usize = 1_000_000;
@@ -30,6 +31,9 @@ pub enum Body {
     Query { range: Range, after: Option<Grain> },
     /// One of the reports that were made.
     Report { report: u32 },
+    /// For one of the lists of ranges that were named, and for those of them in which the sender has nothing.
+    Survey { ranges: u32 },
+    Empty { ranges: u32 },
     Behind,
     Ahead,
     Offer { grain: Grain, activation: Activation },
@@ -53,6 +57,8 @@ pub enum Kind {
     Done,
     Query,
     Report,
+    Survey,
+    Empty,
     Behind,
     Ahead,
     Offer,
@@ -80,6 +86,8 @@ pub struct Letter {
 #[derive(Default)]
 pub struct Mail {
     letters: Vec<Letter>,
+    /// The lists of ranges that letters name.
+    ranges: Vec<Rc<[Range]>>,
     /// No letter before this one can be delivered as fresh, now or later: a letter never gets fresh again, and no silo lives again.
     settled: usize,
 }
@@ -105,6 +113,8 @@ impl Body {
             Body::Done { .. } => Kind::Done,
             Body::Query { .. } => Kind::Query,
             Body::Report { .. } => Kind::Report,
+            Body::Survey { .. } => Kind::Survey,
+            Body::Empty { .. } => Kind::Empty,
             Body::Behind => Kind::Behind,
             Body::Ahead => Kind::Ahead,
             Body::Offer { .. } => Kind::Offer,
@@ -136,6 +146,17 @@ impl Mail {
 
     pub fn post(&mut self, letter: Letter) {
         self.letters.push(letter);
+    }
+
+    /// The number under which letters name these ranges.
+    pub fn list(&mut self, ranges: Rc<[Range]>) -> u32 {
+        self.ranges.push(ranges);
+        self.ranges.len() as u32 - 1
+    }
+
+    /// The ranges of that number.
+    pub fn ranges(&self, number: u32) -> &Rc<[Range]> {
+        &self.ranges[number as usize]
     }
 
     /// The letter of a number, unless it was lost.

@@ -65,7 +65,7 @@ impl Node {
         }
     }
 
-    fn letter(&self, to: Silo, number: u64, body: Body) -> Letter {
+    pub fn letter(&self, to: Silo, number: u64, body: Body) -> Letter {
         Letter::new(self.silo, to, self.seen, number, body)
     }
 
@@ -255,6 +255,8 @@ impl Node {
             Body::Done { range } => Ok(self.take_done(commons, letter, range)),
             Body::Query { range, after } => self.answer_query(commons, letter, range, after),
             Body::Report { report } => self.take_report(commons, letter, report),
+            Body::Survey { ranges } => self.answer_survey(commons, letter, ranges),
+            Body::Empty { ranges } => Ok(self.take_empty(commons, letter, ranges)),
             Body::Behind | Body::Ahead => Ok(Effect::Noted),
             Body::Offer { grain, activation } => self.take_offer(commons, letter, grain, activation),
         }

@@ -1,5 +1,6 @@
 //! What a silo owns: pieces of the circle, one table for all of them, and the snapshots that it keeps for others.
 
+use super::Effect;
 use super::identities::{Activation, Grain, Silo};
 use super::ring::Range;
 use super::views::{SiloSet, Version};
@@ -57,6 +58,23 @@ impl State {
     /// It awaits the first reports of these silos.
     pub fn recovering(of: SiloSet) -> State {
         State::Recovering { of, told: BTreeMap::new(), reported: Vec::new() }
+    }
+
+    /// A silo that is awaited has told all. Once all have, the piece is settled; of two entries of a grain the first stays.
+    pub fn tell_all(&mut self, silo: Silo, table: &mut Table) -> Effect {
+        let State::Recovering { of, told, reported } = self else {
+            return Effect::Ignored;
+        };
+        of.remove(silo);
+        told.remove(&silo);
+        if of.len() > 0 {
+            return Effect::More;
+        }
+        reported.sort_by_key(|entry| entry.0);
+        reported.dedup_by_key(|entry| entry.0);
+        table.extend(std::mem::take(reported));
+        *self = State::Settled;
+        Effect::Complete
     }
 
     pub fn is_settled(&self) -> bool {

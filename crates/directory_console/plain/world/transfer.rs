@@ -74,10 +74,7 @@ impl Node {
         };
         commons.mail.has_room_for(of.len())?;
         piece.state = State::recovering(of);
-        let Commons { views, mail, .. } = commons;
-        for silo in views.by_address.iter().filter(|silo| of.contains(**silo)) {
-            mail.post(Letter::new(self.silo, *silo, self.seen, 0, Body::Query { range, after: None }));
-        }
+        self.post_to_members(commons, Body::Query { range, after: None });
         Ok(Effect::Recovering)
     }
 
@@ -118,15 +115,6 @@ impl Node {
             mail.post(letter.answer(Body::Query { range: report.range, after: Some(*last) }));
             return Ok(Effect::More);
         }
-        of.remove(letter.from);
-        told.remove(&letter.from);
-        if of.len() > 0 {
-            return Ok(Effect::More);
-        }
-        reported.sort_by_key(|entry| entry.0);
-        reported.dedup_by_key(|entry| entry.0);
-        self.table.extend(std::mem::take(reported));
-        *state = State::Settled;
-        Ok(Effect::Complete)
+        Ok(state.tell_all(letter.from, &mut self.table))
     }
 }

@@ -167,7 +167,7 @@ fn first_by_hash(
 }
 
 // How many hashes of the range come before the grain's behind which they stand; none where they stand behind none.
-fn first_step(asked: &PageAsked) -> u64
+pub(super) fn first_step(asked: &PageAsked) -> u64
     ensures value { result ≡ steps_before asked.now asked.now.after }
     ensures within { result ≤ asked.now.range.size }
 {
@@ -243,7 +243,13 @@ fn list_firm(
 
 // Whether the activation is firm, its grain is hashed into the range, and this stands behind the grain that was named. Neither grain is
 // hashed again.
-fn is_asked_for(asked: &PageAsked, first: u64, hash: u32, grain: GrainId, held: &Held) -> bool
+pub(super) fn is_asked_for(
+    asked: &PageAsked,
+    first: u64,
+    hash: u32,
+    grain: GrainId,
+    held: &Held,
+) -> bool
     requires first { first ≡ steps_before asked.now asked.now.after }
     requires hash { hash ≡ hash_grain asked.now.hashing grain }
     ensures { result ≡ is_asked_for asked.now (grain, held.now) }

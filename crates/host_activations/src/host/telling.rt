@@ -1,5 +1,5 @@
 ghost use Rattle.std.specs.Option.{option_map};
-ghost use Rattle.std.specs.Prelude.{◌≡◌, IfOk};
+ghost use Rattle.std.specs.Prelude.{◌≡◌, ◌==◌, IfOk, None, length};
 ghost use Rattle.directory_rules.specs.Host.{act_in, firm_behind, new_host, outstanding};
 ghost use Rattle.host_activations.specs.Page.{IsPage};
 ghost use Rattle.host_activations.specs.Acts.{act_for, acts_in};
@@ -8,6 +8,8 @@ use super::Host;
 use crate::asked::OutstandingRequest;
 use crate::{Activations, FirmPage, PageAsked, entry_on};
 use directory_rules::{Act, Held, Phase};
+use hash_ring::Hashing;
+use ring_range::RingRange;
 use silo_address::{GrainId, SiloAddress};
 use std::alloc::{AllocError, Global};
 use std::collections::BTreeMap;
@@ -20,6 +22,14 @@ impl Host {
         ensures { IfOk result (IsPage (firm_behind asked.now.hashing self.now asked.now.range asked.now.after) asked.now.most) }
     {
         self.held.firm_page(alloc, self.silo, asked)
+    }
+
+    /// Whether no activation is firm and hashed into the range. Where the hashing is the host's own it costs a logarithm, and what it passes
+    /// over that isn't firm; otherwise it looks at all activations. It takes no memory.
+    pub fn has_none_firm(&self, hashing: Hashing, range: RingRange) -> bool
+        ensures { result ≡ (length (firm_behind hashing self.now range None) == 0) }
+    {
+        !self.held.has_firm(hashing, range)
     }
 
     /// What is outstanding, under its numbers in their order. Fails only when memory runs out.

@@ -5,8 +5,9 @@ use Rattle.process_rules.specs.ReadLetter.{entries_in}
 use Rattle.process_lines.specs.declared.fault.LineError.{LineError}
 use Rattle.process_lines.specs.declared.fault.LineError.TheVariants.{OutOfMemory}
 use Rattle.process_lines.specs.ReadAs.{Fails}
-use Rattle.process_lines.specs.Short.{AreEntries}
-use Rattle.process_lines.proofs.EachEntry.{onto, entries_more, has_entries}
+use Rattle.process_lines.specs.Short.{AreSome}
+use Rattle.process_lines.proofs.EachEntry.{entries_more}
+use Rattle.process_lines.proofs.Onto.{onto, has_some}
 use Rattle.process_lines.proofs.entries.entries_in.Goals as goal
 
 pub words-preserved : goal.words-preserved
@@ -28,5 +29,5 @@ returns-then-is_err-clause-memory c memory =
     c.in-Some.grain.now c.in-Some-split_word.activation.now entry
     c.in-Some.ensures.words c.in-Some-split_word.ensures.words c.in_ok-entry.ensures in
     let out : c.without_memory.result ≡ OutOfMemory = cc memory in
-    subst AreEntries (sym whole) (has_entries before entry behind
+    subst AreSome (sym whole) (has_some before entry behind
     (subst (λ (error : LineError). Fails error behind) out c.without_memory.ensures))

@@ -1,7 +1,7 @@
 use Rattle.std.proofs.Common.{◌≡◌, length}
 use Rattle.texts.specs.Words.{words_in}
 use Rattle.process_rules.specs.ReadLetter.{entries_in}
-use Rattle.process_lines.proofs.EachEntry.{onto}
+use Rattle.process_lines.proofs.Onto.{onto}
 use Rattle.process_lines.proofs.entries.entries_in.Given as goal
 
 abbrev pub invariant-words : goal.invariant-words

@@ -2,7 +2,7 @@ use Rattle.std.proofs.Common.{◌≡◌, List, length}
 use Rattle.silo_address.specs.declared.Entry.{Entry}
 use Rattle.texts.specs.Words.{words_in}
 use Rattle.process_rules.specs.ReadLetter.{entries_in}
-use Rattle.process_lines.proofs.EachEntry.{onto}
+use Rattle.process_lines.proofs.Onto.{onto}
 use Rattle.process_lines.proofs.entries.without_memory.Given as goal
 
 abbrev pub invariant-words : goal.invariant-words

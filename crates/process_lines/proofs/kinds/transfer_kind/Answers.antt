@@ -12,6 +12,12 @@ returns-in-query c = kind_read transfer_kinds c.args.word.now (codes "query") _ 
 pub returns-in-report : goal.returns-in-report
 returns-in-report c = kind_read transfer_kinds c.args.word.now (codes "report") _ (omega arith) (search rules) refl
 
+pub returns-in-survey : goal.returns-in-survey
+returns-in-survey c = kind_read transfer_kinds c.args.word.now (codes "survey") _ (omega arith) (search rules) refl
+
+pub returns-in-empty : goal.returns-in-empty
+returns-in-empty c = kind_read transfer_kinds c.args.word.now (codes "empty") _ (omega arith) (search rules) refl
+
 pub returns-in-behind : goal.returns-in-behind
 returns-in-behind c = kind_read transfer_kinds c.args.word.now (codes "behind") _ (omega arith) (search rules) refl
 
@@ -23,5 +29,8 @@ pub returns-in_default : goal.returns-in_default
 returns-in_default c =
     no_kind transfer_kinds c.args.word.now (
       grind arith,
-      (grind arith, (grind arith, (grind arith, (grind arith, (grind arith, (grind arith, (grind arith, tt))))))),
+      (
+        grind arith,
+        (grind arith, (grind arith, (grind arith, (grind arith, (grind arith, (grind arith, (grind arith, (grind arith, tt)))))))),
+      ),
     )

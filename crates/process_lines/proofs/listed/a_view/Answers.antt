@@ -2,7 +2,7 @@ use Rattle.std.proofs.Common.{rules}
 use Rattle.texts.specs.Words.{words_in}
 use Rattle.process_rules.specs.ReadLine.{a_view}
 use Rattle.process_lines.specs.AskedModel.{asked_of}
-use Rattle.process_lines.proofs.EachEntry.{handed_on}
+use Rattle.process_lines.proofs.Onto.{handed_on}
 use Rattle.process_lines.proofs.EachSilo.{view_fails, view_needs, view_read}
 use Rattle.process_lines.proofs.listed.a_view.Goals as goal
 

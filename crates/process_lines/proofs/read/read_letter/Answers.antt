@@ -6,7 +6,7 @@ use Rattle.directory_rules.specs.State.{Letter}
 use Rattle.process_rules.specs.ReadLetter.{Head, head_of_words, kinds, kind_among, letter_by, form_of, read_letter}
 use Rattle.process_lines.specs.Fronts.{Four, four_in}
 use Rattle.process_lines.specs.ReadAs.{Reads, head_of, told}
-use Rattle.process_lines.specs.Short.{HasEntries}
+use Rattle.process_lines.specs.Short.{LetterTellsList}
 use Rattle.process_lines.proofs.Forms.{letter_front}
 use Rattle.process_lines.proofs.read.read_letter.Goals as goal
 
@@ -38,4 +38,4 @@ returns-clause-memory c =
     let front = c.in-Some.front in
     let four : Four = record { first = front.first.now; second = front.second.now; third = front.third.now; fourth = front.fourth.now; behind = words_in front.behind.now } in
     let reads = letter_is c.args.hashing (words_in c.args.words.now) four c.in-Some-kind_of_word.kind (told head_of c.read_head-head.result) c.in-Some.ensures c.in-Some-kind_of_word.ensures c.read_head-head.ensures in
-    λ memory. subst HasEntries (sym reads) (c.letter_of_kind.ensures.memory memory)
+    λ memory. subst LetterTellsList (sym reads) (c.letter_of_kind.ensures.memory memory)

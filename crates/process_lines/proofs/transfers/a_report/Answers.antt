@@ -4,7 +4,7 @@ use Rattle.texts.specs.Words.{words_in}
 use Rattle.directory_rules.specs.State.{Letter}
 use Rattle.process_rules.specs.ReadLetter.{report_behind}
 use Rattle.process_lines.specs.ReadAs.{Reads, head_of, told}
-use Rattle.process_lines.specs.Short.{HasEntries}
+use Rattle.process_lines.specs.Short.{LetterTellsList}
 use Rattle.process_lines.proofs.Forms.{report_first, report_further}
 use Rattle.process_lines.proofs.transfers.a_report.Goals as goal
 
@@ -18,7 +18,7 @@ returns-then-not-are_pairs-clause-reads c =
 
 pub returns-then-not-are_pairs-clause-memory : goal.returns-then-not-are_pairs-clause-memory
 returns-then-not-are_pairs-clause-memory c memory =
-    subst HasEntries
+    subst LetterTellsList
     (sym (report_first (told head_of c.args.head) (words_in c.args.words.now) (words_in c.in-Some.behind.now)
     (words_in c.in-Some-split_word.others.now) c.in-Some.range.now c.in-Some-split_word.first.now
     c.in-Some.ensures.words c.in-Some-split_word.ensures.words (sym c.are_pairs.ensures ∙ c.if-not-are_pairs.true)))
@@ -45,10 +45,10 @@ returns-clause-memory c memory =
     let range = c.in-Some.range.now in
     let last = c.in-Some-split_word-2.last.now in
     let entries = words_in c.in-Some-split_word-2.entries.now in
-    subst HasEntries
+    subst LetterTellsList
     (sym (report_further head (words_in c.args.words.now) (words_in c.in-Some.behind.now)
     (words_in c.in-Some-split_word.others.now) range c.in-Some-split_word.first.now
     c.in-Some.ensures.words c.in-Some-split_word.ensures.words last entries c.in-Some-split_word-2.ensures.words
     (sym c.are_pairs.ensures ∙ c.if-not-are_pairs.false)))
-    (subst (λ (after : Result (Option Grain) ℕ). HasEntries (report_behind head range after last entries))
+    (subst (λ (after : Result (Option Grain) ℕ). LetterTellsList (report_behind head range after last entries))
     c.after_word.ensures (c.report_of-2.ensures.memory memory))

@@ -2,7 +2,8 @@ use Rattle.std.proofs.Common.{ap, sym, true, rules}
 use Rattle.texts.specs.Words.{words_in}
 use Rattle.process_rules.specs.ReadLetter.{page_for}
 use Rattle.process_lines.specs.ReadAs.{head_of, told}
-use Rattle.process_lines.proofs.EachEntry.{handed_on, page_brings, page_fails}
+use Rattle.process_lines.proofs.EachEntry.{page_brings, page_fails}
+use Rattle.process_lines.proofs.Onto.{handed_on}
 use Rattle.process_lines.proofs.transfers.page_of.Goals as goal
 
 pub returns-in_err-entries-clause-reads : goal.returns-in_err-entries-clause-reads

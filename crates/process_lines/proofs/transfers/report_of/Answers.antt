@@ -2,7 +2,8 @@ use Rattle.std.proofs.Common.{ap, sym, rules}
 use Rattle.texts.specs.Words.{words_in}
 use Rattle.process_rules.specs.ReadLetter.{report_behind}
 use Rattle.process_lines.specs.ReadAs.{head_of, told}
-use Rattle.process_lines.proofs.EachEntry.{handed_on, report_brings, report_fails}
+use Rattle.process_lines.proofs.EachEntry.{report_brings, report_fails}
+use Rattle.process_lines.proofs.Onto.{handed_on}
 use Rattle.process_lines.proofs.transfers.report_of.Goals as goal
 
 pub returns-in_err-entries-clause-reads : goal.returns-in_err-entries-clause-reads
