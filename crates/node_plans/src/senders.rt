@@ -59,8 +59,8 @@ impl Sender<'_> {
     }
 
     /// The letters of a sight: what these pieces want, which are new, and then the requests, each under its number. Pieces that await
-    /// snapshots ask for them, piece by piece; then one survey of all that recover goes to each silo of the view. Fails only when
-    /// memory runs out.
+    /// snapshots ask for them, piece by piece; then each silo of the view gets one survey of all that recover, or where these are two
+    /// or one, a query for each. Fails only when memory runs out.
     pub fn sight_letters(
         &self,
         alloc: Global,
