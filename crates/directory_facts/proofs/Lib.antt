@@ -18,6 +18,7 @@ pub mod PiecesKept
 pub mod NamedTables
 pub mod Names
 pub mod NamedSights
+pub mod NamedAnswers
 pub mod NamesKept
 pub mod Hashes
 pub mod Throughout

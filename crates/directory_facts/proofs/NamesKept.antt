@@ -1,11 +1,10 @@
 -- Every step leaves a node that names silos, grains and counts in their ranges, and sends letters that do.
 use Rattle.std.proofs.Common.{arith, ◌≡◌, refl, sym, ap, subst, ℕ, ◌≤◌, List, [], ◌∷◌}
-use Rattle.std.specs.Prelude.{Bool, true, false, cond, ◌==◌, ◌&&◌, All, Option, Some, None, Result, Ok, Err, find, filter, fold}
-use Rattle.std.specs.Option.{option_map}
+use Rattle.std.specs.Prelude.{Bool, cond, ◌==◌, ◌&&◌, All, Option, Some, None, Ok, filter, fold}
 use Rattle.std.specs.Ordering.{nat_cmp}
 use Rattle.std.specs.BTreeMap.{is_at}
 use Rattle.std.proofs.lemmas.Bool.{leb-true}
-use Rattle.std.proofs.lemmas.List.Elements.{All-nil, All-head, All-tail, All-append, All-map, All-filter, All-push}
+use Rattle.std.proofs.lemmas.List.Elements.{All-nil, All-append, All-map, All-filter, All-push}
 use Rattle.std.proofs.lemmas.Map.Lookups.{exact_unsigned}
 use Rattle.silo_address.specs.Silo.{Silo, IsSilo, silo_cmp}
 use Rattle.silo_address.specs.Grain.{Grain, IsGrain, grain_cmp}
@@ -14,24 +13,22 @@ use Rattle.silo_address.specs.declared.Entry.{Entry}
 use Rattle.silo_address.proofs.Order.{silo_cmp_exact, grain_cmp_exact}
 use Rattle.membership_view.specs.View.{ViewValue}
 use Rattle.membership_view.specs.Views.{ViewsValue}
-use Rattle.ring_range.specs.Range.{Range, holds}
+use Rattle.ring_range.specs.Range.{Range}
 use Rattle.hash_ring.specs.Places.{PlacesValue, after_add, places_for}
 use Rattle.hash_ring.specs.Ring.{sorted_ring}
 use Rattle.range_moves.specs.Arcs.{arcs_of}
-use Rattle.directory_rules.specs.declared.act.Act.{Act}
 use Rattle.directory_rules.specs.declared.act.Act.TheVariants as act
 use Rattle.directory_rules.specs.declared.act.Request.{Request}
 use Rattle.directory_rules.specs.declared.held.Held.{Held}
 use Rattle.directory_rules.specs.declared.piece_state.PieceState.TheVariants as state
-use Rattle.directory_rules.specs.declared.reply.Why.{Why}
 use Rattle.directory_rules.specs.Settings.{Settings}
-use Rattle.directory_rules.specs.State.{Table, Piece, Holding, Snapshot, Page, Gathering, Report, Recovery, Host, Letter, Request_letter, Page_letter, Report_letter, Node}
+use Rattle.directory_rules.specs.State.{Table, Piece, Snapshot, Page, Gathering, Report, Recovery, Host, Letter, Request_letter, Page_letter, Report_letter, Node}
 use Rattle.directory_rules.specs.Table.{table_of}
 use Rattle.directory_rules.specs.Sight.{is_next}
 use Rattle.directory_rules.specs.Gatherings.{new_gathering, gathered}
 use Rattle.directory_rules.specs.Recovery.{new_recovery, recovered}
 use Rattle.directory_rules.specs.Host.{entry_of, held_of, next_held, with_started, with_closing, with_find, without_find, without_held, confirmed, renewed, renewed_about}
-use Rattle.directory_rules.specs.Answer.{piece_with, with_piece, turned, serving_piece, served_by, answered_from, answered}
+use Rattle.directory_rules.specs.Answer.{serving_piece, answered}
 use Rattle.directory_rules.specs.Node.{new_node}
 use Rattle.directory_rules.specs.Sent.{all_requests, all_wants, new_wants, gathering_of, recovery_of, query_letters}
 use Rattle.directory_rules.specs.Step as at
@@ -40,7 +37,7 @@ use Rattle.directory_rules.specs.Input.{Input}
 use Rattle.directory_rules.proofs.Cases.{on_bool}
 use Rattle.directory_facts.specs.Named.{IsNamed, AreNamed, AwaitsSilo}
 use Rattle.directory_facts.specs.Seen.{SeesItsVersion}
-use Rattle.directory_facts.proofs.Entries.{same_key, all_put, all_set, all_removed, found_so}
+use Rattle.directory_facts.proofs.Entries.{same_key, all_put, all_removed, found_so}
 use Rattle.directory_facts.proofs.Carried.{Facts, Brings, Keeps, Both, KeepsBeside, beside, both_keep}
 use Rattle.directory_facts.proofs.Ways.{MayBegin, Ways}
 use Rattle.directory_facts.proofs.EachStep.{by_way}
@@ -48,67 +45,15 @@ use Rattle.directory_facts.proofs.Owners.{OwnNode, own_facts, own_keep, own_left
 use Rattle.directory_facts.proofs.Counts.{AreOf, closed_are, confirmed_are, less_are, renewed_are, renewed_about_are}
 use Rattle.directory_facts.proofs.SeenRings.{seen_facts, seen_keep, stay}
 use Rattle.directory_facts.proofs.Places.{added_is}
-use Rattle.directory_facts.proofs.Served.{serves}
 use Rattle.directory_facts.proofs.Collected.{found_or}
 use Rattle.directory_facts.proofs.Emptied.{as_report, by_each_beside, by_nothing}
 use Rattle.directory_facts.proofs.Surveys.{all_new_wants, all_tellings}
 use Rattle.directory_facts.proofs.PiecesKept.{base_facts}
 use Rattle.directory_facts.proofs.StandingEntries.{all_reported}
-use Rattle.directory_facts.proofs.NamedTables.{AllNamed, table_named, handed_named, GatheredNamed, gathered_named, RecoveredNamed, recovered_named, NamesAct, turned_named}
+use Rattle.directory_facts.proofs.NamedTables.{AllNamed, table_named, handed_named, GatheredNamed, gathered_named, RecoveredNamed, recovered_named, NamesAct}
 use Rattle.directory_facts.proofs.Names.{Names, NamesOf, NamesBody, Says, SharedNames, named_facts, one_says, request_says, requests_say, requests_of_grain_say, pieces_say, OfSilos, ring_silos}
-use Rattle.directory_facts.proofs.NamedSights.{TablesNamed, AwaitSilos, arcs_from, pieces_named, pieces_await, shelf_named, gatherings_anew, recoveries_anew}
-
--- ---- requests that are served
-found_table : (hash : ℕ) (pieces : List (ℕ × Piece)) (piece : Piece) → TablesNamed pieces → piece_with hash pieces ≡ Some piece
-    → AreNamed piece.entries
-found_table hash [] piece named found = absurd (cc (found))
-found_table hash (e ∷ es) piece named found =
-    by (holds e.1.range hash) found (λ later. found_table hash es piece (All-tail (λ (x : ℕ × Piece). AreNamed x.1.entries) e es named)
-    later)
-  where
-    by : (b : Bool) → option_map (λ x. x.1) (cond b (Some e) (find (λ x. holds x.1.range hash) es)) ≡ Some piece
-        → (piece_with hash es ≡ Some piece → AreNamed piece.entries) → AreNamed piece.entries
-    by true here rest =
-        let same : e.1 ≡ piece = cc (here) in subst (λ (p : Piece). AreNamed p.entries) same
-        (All-head (λ (x : ℕ × Piece). AreNamed x.1.entries) e es named)
-    by false there rest = rest there
-
--- a piece is changed
-tables_set : (pieces : List (ℕ × Piece)) (piece : Piece) → TablesNamed pieces → AreNamed piece.entries
-    → TablesNamed (with_piece piece pieces)
-tables_set pieces piece named is =
-    all_set (λ (e : ℕ × Piece). AreNamed e.1.entries) (is_at (nat_cmp piece.range.start)) piece pieces (λ key old at so. is) named
-
-awaited_set : (pieces : List (ℕ × Piece)) (piece : Piece) → AwaitSilos pieces → AwaitsSilo piece.state
-    → AwaitSilos (with_piece piece pieces)
-awaited_set pieces piece awaited is =
-    all_set (λ (e : ℕ × Piece). AwaitsSilo e.1.state) (is_at (nat_cmp piece.range.start)) piece pieces (λ key old at so. is) awaited
-
-abbrev BothNamed : List (ℕ × Piece) → Type 0
-BothNamed pieces = TablesNamed pieces × AwaitSilos pieces
-
-served_named : (its : Act) (piece : Piece) (holding : Holding) (request : Request) → BothNamed holding.pieces → AreNamed piece.entries
-    → piece.state ≡ state.Settled → NamesAct its → BothNamed (served_by its piece holding request).holding.pieces
-served_named (act.Register entry previous) piece holding request named table settled is = (
-  tables_set holding.pieces (record piece { entries = (turned (act.Register entry previous) piece.entries).table }) named.0
-      (turned_named (act.Register entry previous) piece.entries table is),
-  awaited_set holding.pieces (record piece { entries = (turned (act.Register entry previous) piece.entries).table }) named.1
-      (subst AwaitsSilo (sym settled) tt),
-)
-served_named (act.Deregister entry) piece holding request named table settled is = (
-  tables_set holding.pieces (record piece { entries = (turned (act.Deregister entry) piece.entries).table }) named.0
-      (turned_named (act.Deregister entry) piece.entries table tt),
-  awaited_set holding.pieces (record piece { entries = (turned (act.Deregister entry) piece.entries).table }) named.1
-      (subst AwaitsSilo (sym settled) tt),
-)
-served_named (act.Find grain) piece holding request named table settled is = named
-
-answered_by : (serving : Result Piece Why) (holding : Holding) (request : Request) → BothNamed holding.pieces → NamesAct request.act
-    → serving_piece holding request ≡ serving → BothNamed (answered_from serving holding request).holding.pieces
-answered_by (Ok piece) holding request named is so =
-    let its = serves holding request piece so in
-    served_named request.act piece holding request named (found_table request.hash holding.pieces piece named.0 its.found) its.settled is
-answered_by (Err why) holding request named is so = named
+use Rattle.directory_facts.proofs.NamedSights.{arcs_from, pieces_named, pieces_await, shelf_named, gatherings_anew, recoveries_anew}
+use Rattle.directory_facts.proofs.NamedAnswers.{tables_set, awaited_set, answered_by}
 
 -- ---- steps
 module _ (settings : Settings) (views : ViewsValue) (places : PlacesValue) (silo : Silo) (node : Node) (own : OwnNode settings silo node)
