@@ -6,15 +6,11 @@ use Rattle.std.proofs.lemmas.Bool.{ne_eqb}
 use Rattle.std.proofs.lemmas.List.{append-nil, length-append}
 use Rattle.std.proofs.lemmas.Option.{slice_get-get_or}
 use mathlib.Core.List.{IsPrefix}
-use Rattle.directory_rules.specs.Event.{Event}
 use Rattle.directory_rules.specs.Settings.{Settings}
 use Rattle.directory_rules.specs.State.{World}
 use Rattle.directory_rules.specs.Run.{Ran}
-use Rattle.cluster_journal.specs.Agreement.{Stands}
 use Rattle.cluster_journal.specs.Entry.{EntryValue}
 use Rattle.cluster_journal.specs.Journal.{IsJournaled, entry_at, world_of}
-use Rattle.cluster_journal.specs.Posted.{IsReceiptOf}
-use Rattle.cluster_journal.specs.declared.entry.Receipt.{Receipt}
 
 pub prefix_self : {E : Type 0} (xs : List E) → IsPrefix xs xs
 prefix_self xs = ([], append-nil xs)
@@ -25,10 +21,6 @@ prefix_none xs = (xs, refl)
 pub prefix_then : {E : Type 0} (xs ys zs : List E) → IsPrefix xs ys → IsPrefix ys zs → IsPrefix xs zs
 prefix_then xs ys zs first second =
     (first.0 ++ second.0, sym (append_assoc xs first.0 second.0) ∙ (ap (λ l. l ++ second.0) first.1 ∙ second.1))
-
--- what goes before begins it
-pub prefix_of_more : {E : Type 0} (xs ys zs : List E) → ys ≡ xs ++ zs → IsPrefix xs ys
-prefix_of_more xs ys zs is = (zs, sym is)
 
 pub no_longer : {E : Type 0} (xs ys : List E) → IsPrefix xs ys → length xs ≤ length ys
 no_longer xs ys begins =
@@ -60,11 +52,6 @@ it_stands before journal entry number begins is =
     let index : number - 1 ≡ length before = omega (is, arith) in
     rw some (ap (λ n. slice_get journal n) index ∙ subst (λ (l : List EntryValue). slice_get l (length before) ≡ Some entry) whole
     (seam before begins.0 entry))
-
--- so does the receipt of an event that was accepted
-pub receipt_stands : (settings : Settings) (before now : List EntryValue) (event : Event) (receipt : Receipt)
-    → IsReceiptOf settings before now event receipt → Stands now receipt
-receipt_stands settings before now event receipt its = it_stands its.journal now receipt.entry receipt.number its.stands its.number
 
 -- ---- The last one.
 

@@ -40,26 +40,8 @@ settled_or_recovers state.Settled is too = cc (too)
 settled_or_recovers (state.Awaiting from) is too = cc (is)
 settled_or_recovers state.Recovering is too = cc (is)
 
-settled_or_awaits : (giver : Silo) (its : PieceState) → is_settled its ≡ true → is_awaiting_from giver its ≡ true → ⊥
-settled_or_awaits giver state.Settled is too = cc (too)
-settled_or_awaits giver (state.Awaiting from) is too = cc (is)
-settled_or_awaits giver state.Recovering is too = cc (is)
-
-recovers_or_awaits : (giver : Silo) (its : PieceState) → is_recovering its ≡ true → is_awaiting_from giver its ≡ true → ⊥
-recovers_or_awaits giver state.Settled is too = cc (is)
-recovers_or_awaits giver (state.Awaiting from) is too = cc (is)
-recovers_or_awaits giver state.Recovering is too = cc (too)
-
 pub not_settled_and_recovers : (node : Node) (range : Range) → HasSettled node range → Recovers node range → ⊥
 not_settled_and_recovers node range = one_state is_settled is_recovering settled_or_recovers range (piece_at node range)
-
-pub not_settled_and_awaits : (node : Node) (range : Range) (giver : Silo) → HasSettled node range → AwaitsFrom node range giver → ⊥
-not_settled_and_awaits node range giver =
-    one_state is_settled (is_awaiting_from giver) (settled_or_awaits giver) range (piece_at node range)
-
-pub not_recovers_and_awaits : (node : Node) (range : Range) (giver : Silo) → Recovers node range → AwaitsFrom node range giver → ⊥
-not_recovers_and_awaits node range giver =
-    one_state is_recovering (is_awaiting_from giver) (recovers_or_awaits giver) range (piece_at node range)
 
 -- ---- what a step makes of the pages had, more exactly: as much is gathered as before, or a page more
 abbrev pub HasPagesSo : Node → Node → Type 0

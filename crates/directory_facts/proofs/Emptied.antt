@@ -1,13 +1,13 @@
 -- What a letter of empty ranges makes of a node: of each range nothing, or a report is taken that tells of nothing there.
 use Rattle.std.proofs.Common.{◌≡◌, ◌∙◌, refl}
-use Rattle.std.specs.Prelude.{Bool, true, false, cond, List, [], ◌∷◌, fold, None}
+use Rattle.std.specs.Prelude.{Bool, true, false, cond, List, [], ◌∷◌, fold}
 use Rattle.ring_range.specs.Range.{Range}
-use Rattle.directory_rules.specs.State.{Table, Report, Report_letter, Recovery, Letter, Node}
+use Rattle.directory_rules.specs.State.{Table, Report_letter, Recovery, Letter, Node}
 use Rattle.directory_rules.specs.Recovery.{Recovered, Has_more, Awaits_more, Has_union, Rejects, recovered}
 use Rattle.directory_rules.specs.Sent.{recovery_of}
 use Rattle.directory_rules.specs.declared.effect.Effect.TheVariants as effect
 use Rattle.directory_rules.specs.Step.{silently}
-use Rattle.directory_rules.specs.Transfer.{is_report_awaited, nothing_in, recovered_by, reported, told_nothing, with_recovery, with_settled}
+use Rattle.directory_rules.specs.Transfer.{is_report_awaited, nothing_in, recovered_by, told_nothing, with_recovery, with_settled}
 use Rattle.directory_facts.proofs.Ways.{IsReportTaken}
 use Rattle.directory_facts.proofs.EachStep.{report_taken}
 use Rattle.directory_facts.proofs.Collected.{TakenSo, taken_so}

@@ -21,7 +21,7 @@ use Rattle.directory_rules.proofs.People.{live_said}
 use Rattle.directory_rules.specs.Laws.{is_live}
 use Rattle.directory_facts.specs.Own.{IsOwnLetter}
 use Rattle.directory_facts.proofs.Carried.{IsSight}
-use Rattle.directory_headline.specs.Setting.{IsSettingOf, is_member_in, is_alive_in, owner_in}
+use Rattle.directory_headline.specs.Setting.{IsSettingOf, is_member_in, owner_in}
 use Rattle.directory_headline.specs.SiloState.{state_of}
 use Rattle.directory_headline.specs.Shown.{Shown, IsShownNode, IsShownLetter}
 use Rattle.directory_headline.proofs.Actors.{IsBy, AllBy}
@@ -108,9 +108,6 @@ module _ (m : Setting) (f : World) (w : protocol.World) (silo : Silo) (node : No
   pub member_is : (s : Silo) → m.member node.view.version s ≡ is_member_in node.view s
   member_is s =
       here.setting.member node.view.version s node_facts.sees.within ∙ ap (λ view. is_member_in view s) (sym node_facts.sees.view_is)
-
-  pub alive_is : (s : Silo) → m.alive node.view.version s ≡ is_alive_in node.view s
-  alive_is s = here.setting.alive node.view.version s node_facts.sees.within ∙ ap (λ view. is_alive_in view s) (sym node_facts.sees.view_is)
 
   pub owner_is : (hash : ℕ) → m.owner node.view.version hash ≡ owner_silo node.ring.points hash
   owner_is hash =

@@ -1,5 +1,5 @@
 -- Silos that a view lists, one after the other: what makes each be listed, or refused.
-use Rattle.std.proofs.Common.{◌≡◌, ◌≢◌, refl, sym, ap, ◌∙◌, ℕ, List, [], ◌∷◌, ◌++◌}
+use Rattle.std.proofs.Common.{◌≡◌, refl, sym, ap, ◌∙◌, ℕ, List, [], ◌∷◌, ◌++◌}
 use Rattle.std.specs.Prelude.{Bool, true, false, cond, ◌==◌, ◌+◌, ◌<◌, nat_lt, length, take, drop, slice_index_or, IfNone, IsOk, is_ok, IsSomeAnd, Option, Some, None, Result, Ok, Err}
 use Rattle.std.proofs.lemmas.Bool.{lt-ltb, ltb-true}
 use Rattle.std.proofs.lemmas.List.{map-append, map_more, take-append-drop}
@@ -7,7 +7,7 @@ use Rattle.membership_view.specs.declared.Status.{Status}
 use Rattle.membership_view.specs.declared.Status.TheVariants.{Active, Leaving, Dead}
 use Rattle.membership_view.specs.Beginning.{after_listing}
 use Rattle.membership_view.specs.Views.{ViewsValue, most_known, views_from}
-use Rattle.hash_ring.specs.Places.{PlacesValue, after_add}
+use Rattle.hash_ring.specs.Places.{PlacesValue}
 use Rattle.directory_rules.proofs.Cases.{on_bool}
 use Rattle.directory_rules.specs.Settings.{Settings}
 use Rattle.directory_rules.specs.ListedModel.{all_listed_of, listed_of}
@@ -21,48 +21,11 @@ pub has_number : (P : ℕ → Type 0) (number : Option ℕ) (Unnumbered : Type 0
 has_number P None Unnumbered none = absurd none
 has_number P (Some n) Unnumbered some = tt
 
--- what is refused isn't right
-not_right : {A : Type 0} (outcome : Result A ℕ) (number : ℕ) → outcome ≡ Err number → IsOk outcome → ⊥
-not_right outcome number refused right = cc (sym right ∙ ap (λ o. is_ok o) refused)
-
 -- ---- the places of one that is listed
-pub none_for_dead : (settings : Settings) (places : PlacesValue) (one : Listed) → one.status ≡ Dead → (length one.places == 0) ≡ true
-    → places_of_listed settings places one ≡ Ok places
-none_for_dead settings places one dead none =
-    ap (λ (s : Status). places_by s settings places one.silo one.places) dead ∙ ap (λ b. cond b (Ok places) (Err 402)) none
-
-pub some_for_dead : (settings : Settings) (places : PlacesValue) (one : Listed) → one.status ≡ Dead
-    → (length one.places == 0) ≡ false → RefusesPlaces settings places one 402
-some_for_dead settings places one dead some =
-    ap (λ (s : Status). places_by s settings places one.silo one.places) dead ∙ ap (λ b. cond b (Ok places) (Err 402)) some
-
--- one that is Dead gets none
-pub dead_placed : (settings : Settings) (places : PlacesValue) (one : Listed) → one.status ≡ Dead → MayBeListed settings places one
-    → places_of_listed settings places one ≡ Ok places
-dead_placed settings places one dead may =
-    ap (λ (s : Status). places_by s settings places one.silo one.places) dead
-    ∙ on_bool (λ b. (length one.places == 0) ≡ b → cond {A = Result PlacesValue ℕ} b (Ok places) (Err 402) ≡ Ok places) (length one.places == 0) (λ t is. refl)
-    (λ f is. absurd (not_right (places_of_listed settings places one) 402 (some_for_dead settings places one dead is) may)) refl
-
--- any other one as at a join
-living_is : (status : Status) (settings : Settings) (places : PlacesValue) (one : Listed) → status ≢ Dead
-    → places_by status settings places one.silo one.places ≡ placed settings places one.silo one.places
-living_is Active settings places one living = refl
-living_is Leaving settings places one living = refl
-living_is Dead settings places one living = absurd (living refl)
-
 added_is : (over : Bool) (added : Result PlacesValue ℕ) (new : PlacesValue) → IsOk (cond over (Err 402) added) → added ≡ Ok new
     → cond over (Err 402) added ≡ Ok new
 added_is true added new may is = absurd (cc (may))
 added_is false added new may is = is
-
-pub living_placed : (settings : Settings) (places new : PlacesValue) (one : Listed) → one.status ≢ Dead → MayBeListed settings places one
-    → after_add places one.silo one.places ≡ Ok new → places_of_listed settings places one ≡ Ok new
-living_placed settings places new one living may added =
-    let its = living_is one.status settings places one living in
-    its
-    ∙ added_is (nat_lt settings.places (length one.places)) (after_add places one.silo one.places) new
-    (ap (λ (r : Result PlacesValue ℕ). is_ok r) (sym its) ∙ may) added
 
 -- ---- one silo is listed, or refused
 abbrev both : ViewsValue → PlacesValue → Membership

@@ -24,13 +24,6 @@ judged_ok false false some added made fit new = absurd (cc (fit))
 judged_ok false true false added made fit new = absurd (cc (fit))
 judged_ok false true true added made fit new = ap (λ b. cond b (Err 404) (Ok made)) new
 
-judged_again : (over counted some added : Bool) (made : PlacesValue) → by_count over counted some ≡ None → added ≡ true
-    → judged over counted some added made ≡ Err 404
-judged_again true counted some added made fit there = absurd (cc (fit))
-judged_again false false some added made fit there = absurd (cc (fit))
-judged_again false true false added made fit there = absurd (cc (fit))
-judged_again false true true added made fit there = ap (λ b. cond b (Err 404) (Ok made)) there
-
 judged_by : (over counted some added : Bool) (made : PlacesValue) (number : ℕ) → by_count over counted some ≡ Some number
     → judged over counted some added made ≡ Err number
 judged_by true counted some added made number is = let same : 402 ≡ number = cc (is) in ap (λ n. Err n) same
@@ -52,12 +45,6 @@ module _ (settings : Settings) (places : PlacesValue) (silo : Silo) (stated : Li
   placed_new =
       judged_ok (nat_lt settings.places (length stated)) (is_point_count places.hashing (length stated)) (has_points places.hashing (length stated))
       (is_added places silo) (with_silo places silo stated)
-
-  pub placed_again : count_refused settings places.hashing (length stated) ≡ None → is_added places silo ≡ true
-      → placed settings places silo stated ≡ Err 404
-  placed_again =
-      judged_again (nat_lt settings.places (length stated)) (is_point_count places.hashing (length stated))
-      (has_points places.hashing (length stated)) (is_added places silo) (with_silo places silo stated)
 
   pub not_placed : (number : ℕ) → count_refused settings places.hashing (length stated) ≡ Some number
       → placed settings places silo stated ≡ Err number

@@ -131,10 +131,6 @@ module _ (settings : Settings) (m : Membership) (own : Silo) (version : ℕ) (ro
         by (Ok made) at ok false is = itself_listed made at (newest_begun settings own version rows made at ∙ is)
 
 -- ---- Which refusal comes first.
-pub refusal_first : (all_let : Bool) (number : Option ℕ) → is_some number ≡ true → number_first all_let number ≡ number
-refusal_first all_let (Some number) some = refl
-refusal_first all_let None some = absurd (cc (some))
-
 pub memory_first : (all_let : Bool) (number : Option ℕ) → is_some number ≡ false → all_let ≡ true → number_first all_let number ≡ None
 memory_first all_let (Some number) none all = absurd (cc (none))
 memory_first all_let None none all = ap (λ (b : Bool). number_first b None) all

@@ -100,9 +100,6 @@ module _ (asked : PageAsked) where
       all_under : AllByRecursion (IsUnder asked.hashing es) left → AllByRecursion (IsUnder asked.hashing es) ((key, index) ∷ rest)
       all_under under = subst (AllByRecursion (IsUnder asked.hashing es)) first under
 
-      pub rest_under : AllByRecursion (IsUnder asked.hashing es) left → AllByRecursion (IsUnder asked.hashing es) rest
-      rest_under under = (all_under under).1
-
       -- the activation at the index has the hash of the key
       pub hash_under : AllByRecursion (IsUnder asked.hashing es) left → (e : Grain × Held) → slice_get es index ≡ Some e
           → key.hash ≡ hash_grain asked.hashing e.0
@@ -119,13 +116,6 @@ module _ (asked : PageAsked) where
 
         pub some_standing : (e : Grain × Held) → slice_get es index ≡ Some e → is_asked_for asked e ≡ true → true ≡ nat_lt 0 (length all)
         some_standing e stands is = some e (standing_at es rest) all is (from_key (Some e) stands)
-
-        pub rest_standing : (e : Grain × Held) → slice_get es index ≡ Some e → is_asked_for asked e ≡ false
-            → asked_for asked (standing_at es rest) ≡ all
-        rest_standing e stands not = sym (passed e (standing_at es rest) not) ∙ from_key (Some e) stands
-
-        pub none_standing : slice_get es index ≡ None → asked_for asked (standing_at es rest) ≡ all
-        none_standing none = from_key None none
 
   -- ---- Stretch by stretch.
   module _ (is_range : IsRange asked.range) (few : asked.most ≡ 0) (from : asked.after ≡ None) (es : List (Grain × Held))

@@ -1,12 +1,12 @@
 -- The rule's host of some fields.
-use Rattle.std.proofs.Common.{◌≡◌, refl, ap, ℕ, ◌+◌, ◌^◌, ◌≤◌, List, true, Some, None, arith}
+use Rattle.std.proofs.Common.{◌≡◌, ap, ℕ, ◌+◌, ◌^◌, ◌≤◌, List, true, Some, arith}
 use Rattle.silo_address.specs.Silo.{Silo}
 use Rattle.silo_address.specs.Grain.{Grain}
 use Rattle.directory_rules.specs.declared.Held.{Held}
 use Rattle.directory_rules.specs.declared.Phase.{Phase}
 use Rattle.directory_rules.specs.declared.Phase.TheVariants.{Asking, Firm, Closing}
 use Rattle.directory_rules.specs.State.{Host}
-use Rattle.directory_rules.specs.Host.{is_firm, is_asking_under, is_closing_under}
+use Rattle.directory_rules.specs.Host.{is_asking_under, is_closing_under}
 use Rattle.host_activations.specs.declared.asked.OutstandingRequest.{OutstandingRequest}
 use Rattle.host_activations.specs.Numbers.{number_in}
 use Rattle.host_activations.specs.Asked.{finds_in}
@@ -21,11 +21,6 @@ meant silo next count held out = made silo next count held (finds_in out)
 
 pub step_on : (number : ℕ) → IsNext number → number ≤ 2 ^ 60 → IsNext (number + 1)
 step_on number is within = record { above = omega arith; within = omega (within, arith) }
-
-pub firm_rests : (phase : Phase) → is_firm phase ≡ true → number_in phase ≡ None
-firm_rests (Asking number) firm = cc
-firm_rests Firm firm = refl
-firm_rests (Closing number) firm = cc
 
 pub asking_has : (number : ℕ) (phase : Phase) → is_asking_under number phase ≡ true → number_in phase ≡ Some number
 asking_has number (Asking its) is = ap (λ (n : ℕ). Some n) (eqb-true its number is)

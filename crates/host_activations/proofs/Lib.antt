@@ -37,7 +37,6 @@ pub mod Passing
 pub mod Tables
 pub mod AsTheyStand
 pub mod Pages
-pub mod Behind
 pub mod Circles
 pub mod Listed
 pub mod FirstByHash

@@ -19,14 +19,6 @@ held_behind bytes start end count within =
     ∙ (sym (drop-take (suc count) (end - (start + suc count)) (drop start bytes))
     ∙ ap (λ (n : ℕ). drop (suc count) (take n (drop start bytes))) parts))
 
--- its front
-pub held_front : (bytes : List ℕ) (start end count : ℕ) → count ≤ length (take (end - start) (drop start bytes))
-    → take ((start + count) - start) (drop start bytes) ≡ take count (take (end - start) (drop start bytes))
-held_front bytes start end count within =
-    let fits : count ≤ end - start = omega (arith, length-take (end - start) (drop start bytes)) in
-    let size : (start + count) - start ≡ count = omega arith in
-    ap (λ (n : ℕ). take n (drop start bytes)) size ∙ sym (take-take count (end - start) (drop start bytes) fits)
-
 -- it stays, whatever stands behind it
 pub held_still : (bytes rest : List ℕ) (start searched end : ℕ) → start ≤ searched → searched ≤ end → end ≤ length bytes
     → take (searched - start) (drop start (take end bytes ++ rest)) ≡ take (searched - start) (drop start bytes)

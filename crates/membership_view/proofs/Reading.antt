@@ -37,14 +37,6 @@ module _ (shown : List (Silo × Status)) (version : ℕ) (e : Silo × Row) (rows
       → rows_in version (e ∷ rows) ≡ cons_option (option_map (λ status. (e.0, status)) o) (rows_in version rows)
   rows_with o is = ap (λ o. cons_option (option_map (λ (status : Status). (e.0, status)) o) (rows_in version rows)) is
 
-  -- a silo that hadn't joined yet is passed over
-  pub read_past : (last : Option (Silo × Status)) → IsRead shown last version (e ∷ rows) all → status_in version e.1 ≡ None
-      → IsRead shown last version rows all
-  read_past last so is = record {
-    in_order = subst (λ l. IsStrictlySortedBy silo_cmp (keys_of (last_of last ++ l))) (rows_with None is) so.in_order;
-    concludes = ap (λ l. shown ++ listed_rows (last_of last ++ l)) (sym (rows_with None is)) ∙ so.concludes;
-  }
-
   -- the one before is shown or spare, by the next one
   pub read_next : (last : Option (Silo × Status)) (status : Status) → IsRead shown last version (e ∷ rows) all → status_in version e.1 ≡ Some status
       → IsRead (shown ++ before last e.0) (Some (e.0, status)) version rows all

@@ -2,7 +2,6 @@
 use Rattle.std.proofs.Common.{◌≡◌, subst, ap, ◌∙◌, sym, ℕ, Result, Ok, Err, List, [], ◌∷◌, ◌++◌}
 use Rattle.std.proofs.lemmas.List.{append-nil}
 use Rattle.ring_range.specs.Range.{Range}
-use Rattle.directory_rules.specs.State.{Letter}
 use Rattle.script_rules.specs.Script.{◌>>=◌}
 use Rattle.process_rules.specs.ReadLetter.{Head, letter_of, range_word, ranges_in, some_ranges}
 use Rattle.process_lines.specs.declared.fault.LineError.{LineError}

@@ -15,10 +15,6 @@ use Rattle.process_lines.specs.Memory.{WordsNeedMemory}
 use Rattle.process_lines.specs.Colons.{checked}
 
 -- ---- what is read, without its value
-pub checked_err : {A : Type 0} (read : Result A ℕ) (fault : ℕ) → Err fault ≡ checked read → read ≡ Err fault
-checked_err (Ok value) fault is = absurd (cc (is))
-checked_err (Err other) fault is = let same : other ≡ fault = cc (is) in ap Err same
-
 checked_then : {A B : Type 0} (read : Result A ℕ) (make : A → B) → checked (read >>= λ value. Ok (make value)) ≡ checked read
 checked_then (Ok value) make = refl
 checked_then (Err fault) make = refl
@@ -45,10 +41,6 @@ module _ (pieces behind : List (List ℕ)) (piece : List ℕ) (split : pieces �
       ap (λ (r : Result (List ℕ) ℕ). checked r) (places_by (Ok place) (sym reads))
       ∙ checked_then (places_in behind) (λ places. place ∷ places)
 
-  -- one that is none
-  pub places_fault : (fault : ℕ) → Err fault ≡ hash_word piece → Err fault ≡ checked (places_in pieces)
-  places_fault fault reads = sym (ap (λ (r : Result (List ℕ) ℕ). checked r) (places_by (Err fault) (sym reads)))
-
   -- read behind those that were read
   pub pushed_more : (before after : List ℕ) → (hash_word piece >>= λ place. Ok (before ++ place ∷ [])) ≡ Ok after
       → onto before (places_in pieces) ≡ onto after (places_in behind)
@@ -71,11 +63,6 @@ module _ (pieces behind : List (List ℕ)) (piece : List ℕ) (split : pieces �
       by (Err other) at is =
           let same : other ≡ fault = cc (is) in
           ap (onto before) (places_by (Err other) at) ∙ ap Err same
-
--- the last piece
-pub places_last : (pieces : List (List ℕ)) (piece : List ℕ) → pieces ≡ piece ∷ [] → (place : ℕ) → Ok place ≡ hash_word piece
-    → Ok tt ≡ checked (places_in pieces)
-places_last pieces piece split place reads = sym (places_checked pieces [] piece split place reads)
 
 pub pushed_last : (pieces : List (List ℕ)) (piece : List ℕ) → pieces ≡ piece ∷ [] → (before after : List ℕ)
     → (hash_word piece >>= λ place. Ok (before ++ place ∷ [])) ≡ Ok after → onto before (places_in pieces) ≡ Ok after
@@ -144,11 +131,6 @@ module _ (words behind : List (List ℕ)) (word : List ℕ) (split : words ≡ w
       by (Ok one) at is =
           ap (λ (r : Result (List Listed) ℕ). checked r) (silos_by (Ok one) at) ∙ checked_then (listed_in behind) (λ others. one ∷ others)
       by (Err fault) at is = absurd (cc (is))
-
-  -- one that doesn't
-  pub silos_fault : (fault : ℕ) → Err fault ≡ checked (listed_word word) → Err fault ≡ checked (listed_in words)
-  silos_fault fault is =
-      sym (ap (λ (r : Result (List Listed) ℕ). checked r) (silos_by (Err fault) (checked_err (listed_word word) fault is)))
 
   -- read behind those that were read
   pub silos_more : (before : List Listed) (one : Listed) → listed_word word ≡ Ok one

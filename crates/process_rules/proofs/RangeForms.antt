@@ -7,7 +7,6 @@ use Rattle.ring_range.specs.Text.{range_text}
 use Rattle.hash_ring.specs.declared.hashing.Hashing.{Hashing}
 use Rattle.directory_rules.specs.declared.letter_kind.LetterKind.{LetterKind}
 use Rattle.directory_rules.specs.State.{Letter, Body}
-use Rattle.script_rules.specs.Script.{◌>>=◌}
 use Rattle.process_rules.specs.LetterText.{ranges_words}
 use Rattle.process_rules.specs.ReadLetter.{range_word, ranges_in, Head, letter_of, some_ranges}
 use Rattle.process_rules.specs.Told.{AreSomeRanges}

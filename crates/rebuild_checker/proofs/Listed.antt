@@ -11,10 +11,6 @@ use Rattle.dump_rules.specs.Dump.{DumpNode, DumpPiece, DumpValue}
 use Rattle.dump_rules.specs.Verdict.{is_settled_state, live_nodes, current_pieces}
 use Rattle.rebuild_checker.specs.Lent.{nodes_lent, pieces_lent}
 
-front_kept : {X : Type 0} (t : Bool) (x : X) (all xs ys : List X) → all ≡ xs ++ ys → cond t (x ∷ all) all ≡ cond t (x ∷ xs) xs ++ ys
-front_kept true x all xs ys is = ap (λ zs. x ∷ zs) is
-front_kept false x all xs ys is = is
-
 pub map-map : {X Y Z : Type 0} (g : Y → Z) (f : X → Y) (xs : List X) → map g (map f xs) ≡ map (λ x. g (f x)) xs
 map-map g f [] = refl
 map-map g f (x ∷ xs) = ap (λ zs. g (f x) ∷ zs) (map-map g f xs)

@@ -209,12 +209,6 @@ pub change_kept : (s : SiloValue) (c : Change) (next : Membership) (settings : S
     → changed settings s.membership c ≡ Ok next → IsWhole (record s { membership = next })
 change_kept s c next settings same is so = change_whole s c next is (ap (λ (t : Settings). changed t s.membership c) (sym same) ∙ so)
 
--- equal views
-pub same_whole : (s : SiloValue) (views : ViewsValue) → IsWhole s → views ≡ s.membership.views
-    → IsWhole (record s { membership = record { views = views; places = s.membership.places } })
-same_whole s views is same =
-    subst (λ (v : ViewsValue). IsWhole (record s { membership = record { views = v; places = s.membership.places } })) (sym same) is
-
 -- ---- a step
 step_whole : (s : SiloValue) (silo : Silo) (input : Input) (stepped : Stepped) → IsWhole s
     → Brings seen_facts s.node.settings s.membership.views s.membership.places silo input → step s.node input ≡ Ok stepped

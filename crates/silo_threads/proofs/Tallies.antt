@@ -1,5 +1,5 @@
 -- What workers did, put together, that of one after the other.
-use Rattle.std.proofs.Common.{◌≡◌, ◌∙◌, ◌+◌, ℕ, true, false, List, [], ◌∷◌, ◌++◌, All, ap, append_assoc, arith, get_or, length, subst, sym}
+use Rattle.std.proofs.Common.{◌≡◌, ◌∙◌, ◌+◌, ℕ, false, List, [], ◌∷◌, ◌++◌, All, ap, append_assoc, arith, get_or, length, subst, sym}
 use Rattle.std.specs.List.{Any}
 use Rattle.std.specs.Prelude.{Result, Ok, Err, OnOk, is_err}
 use Rattle.std.proofs.Math.Seq.{get_or-append_seam}

@@ -1,5 +1,5 @@
 -- What whoever posts an event to a running cluster is told where it is refused.
-use Rattle.std.specs.Prelude.{◌≡◌, ℕ, List, Option, Some, None, ⊤}
+use Rattle.std.specs.Prelude.{ℕ, List, Option, Some, None, ⊤}
 use Rattle.directory_rules.specs.Event.{Event}
 use Rattle.directory_core.specs.Numbers.{IsNumberedUnlessMemory, event_refusal_number}
 use Rattle.directory_core.specs.declared.refusal.EventRefusal.{EventRefusal}

@@ -112,12 +112,6 @@ none_yet settings silo seen parts amount receipts part nothing none =
     subst (IsTally settings silo seen parts amount) (sym none)
     (record { part = part; counted = nothing; delivered = All-nil (IsDeliveryTo settings silo seen) })
 
--- the same with room for more
-pub roomier : (settings : Settings) (silo : Silo) (seen : List EntryValue) (parts amount : ℕ) (receipts same : List Receipt)
-    → IsTally settings silo seen parts amount receipts → same ≡ receipts
-    → IsTally settings silo seen parts amount same
-roomier settings silo seen parts amount receipts same is same_is = subst (IsTally settings silo seen parts amount) (sym same_is) is
-
 -- the tally where nothing was committed, but more was seen
 pub nothing_more : (settings : Settings) (silo : Silo) (seen now : List EntryValue) (parts same amount still : ℕ) (receipts : List Receipt)
     → IsTally settings silo seen parts amount receipts → IsPrefix seen now → same ≡ parts → still ≡ amount

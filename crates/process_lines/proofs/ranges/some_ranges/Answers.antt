@@ -1,9 +1,8 @@
-use Rattle.std.proofs.Common.{ap, sym, rules}
+use Rattle.std.proofs.Common.{ap, rules}
 use Rattle.texts.specs.Words.{words_in}
 use Rattle.process_rules.specs.ReadLetter.{letter_of, some_ranges}
-use Rattle.process_lines.specs.FaultNumbers.{line_fault_number}
 use Rattle.process_lines.specs.ReadAs.{head_of, told}
-use Rattle.process_lines.proofs.EachRange.{front_fault, letter_brings, letter_fails, letter_reads}
+use Rattle.process_lines.proofs.EachRange.{letter_brings, letter_fails, letter_reads}
 use Rattle.process_lines.proofs.Onto.{handed_on}
 use Rattle.process_lines.proofs.ranges.some_ranges.Goals as goal
 

@@ -1,10 +1,9 @@
-use Rattle.std.proofs.Common.{◌≡◌, None, refl, sym, ap, subst, ◌∙◌, length, slice_get}
+use Rattle.std.proofs.Common.{sym, ap, subst, ◌∙◌}
 use Rattle.std.specs.List.{AllByRecursion}
-use Rattle.std.specs.Prelude.{nat_lt}
 use Rattle.host_activations.specs.ByHash.{IsUnder}
 use Rattle.host_activations.specs.Listing.{asked_for}
 use Rattle.host_activations.specs.Stretch.{standing_at}
-use Rattle.host_activations.proofs.AnyFirm.{hash_under, none_standing, rest_standing, rest_under, some_standing}
+use Rattle.host_activations.proofs.AnyFirm.{hash_under, some_standing}
 use Rattle.host_activations.proofs.activations.any_firm.any_in_stretch.Goals as goal
 
 pub stretch-init : goal.stretch-init
