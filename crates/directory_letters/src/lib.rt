@@ -1,4 +1,4 @@
-//! Letters between silos, of all thirteen kinds. The rules are in `docs/RULES.md#letters`.
+//! Letters between silos, of all kinds. The rules are in `docs/RULES.md#letters`.
 #![tactic(auto)]
 
 mod letter;

@@ -58,9 +58,9 @@ pub enum Effect {
     Page,
     /// An ask was answered: there is no such page.
     Missing,
-    /// An ask or a query was answered: its version hasn't been seen yet.
+    /// An ask, a query or a survey was answered: its version hasn't been seen yet.
     Behind,
-    /// A query was answered: its version has been passed.
+    /// A query or a survey was answered: its version has been passed.
     Ahead,
     /// The last page: the piece is settled.
     Installed,
@@ -72,7 +72,7 @@ pub enum Effect {
     Recovering,
     /// The snapshot was handed over, and is deleted.
     Deleted,
-    /// A query was answered by a report.
+    /// A query was answered by a report, or a survey by what it asks for.
     Report,
     /// A report, and more are awaited, of its silo or of others.
     More,
