@@ -54,7 +54,7 @@ fn letter_sign(world: &World, letter: &Letter) -> Sign {
     let transfer = |is_further_page: bool| Sign::Transfer { silo: letter.to, is_further_page, entries: node.table.len() };
     match letter.body {
         Body::Page { page, .. } => transfer(page > 0),
-        Body::Report { .. } => transfer(false),
+        Body::Report { .. } | Body::Empty { .. } => transfer(false),
         Body::Register { grain, previous: Some(previous), .. } => {
             let key = world.grains().key(grain);
             let is_there = node.table.get(&key) == Some(&previous) && is_settled(node, world.grains().hash(grain));
