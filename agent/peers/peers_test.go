@@ -40,6 +40,16 @@ func TestSilence(t *testing.T) {
 	expect(b)
 	s.Forget()
 	expect()
+	for kind, isAnswered := range map[string]bool{"register": true, "deregister": true, "find": true, "ask": true, "query": true, "survey": true,
+		"taken": false, "page": false, "done": false, "report": false, "empty": false, "behind": false, "offer": false} {
+		s.Asked(b, kind)
+		if at += clock.Time(6 * time.Second); isAnswered {
+			expect(b)
+		} else {
+			expect()
+		}
+		s.Forget()
+	}
 }
 
 func TestVotedOut(t *testing.T) {

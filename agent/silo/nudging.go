@@ -40,7 +40,8 @@ func (s *Silo) Look() time.Duration { return s.patience.Look() }
 var (
 	begins = map[string]int{"started": 2, "closing": 2, "offered": 2, "finding": 1}
 	ends   = map[string]int{"firm": 2, "taken": 1, "ended": 2, "found": 2, "nothing": 1}
-	getsOn = map[string]bool{"page gathering": true, "page installed": true, "missing recovering": true, "report more": true, "report complete": true}
+	getsOn = map[string]bool{"page gathering": true, "page installed": true, "missing recovering": true, "report more": true, "report complete": true,
+		"empty more": true, "empty complete": true}
 )
 
 // note tells what a line of the silo says of what it waits for.

@@ -264,8 +264,9 @@ func TestWaits(t *testing.T) {
 // By these lines the pause of the ranges begins anew.
 func TestRangesGetOn(t *testing.T) {
 	for line, getsOn := range map[string]bool{"delivered page gathering": true, "delivered page installed": true, "delivered missing recovering": true,
-		"delivered report more": true, "delivered report complete": true, string(me) + " sees 4 next": true, "delivered page ignored": false,
-		"delivered page refused 702": false, "delivered report ignored": false, "delivered ask page": false, "delivered query report": false} {
+		"delivered report more": true, "delivered report complete": true, "delivered empty more": true, "delivered empty complete": true,
+		string(me) + " sees 4 next": true, "delivered page ignored": false, "delivered page refused 702": false, "delivered report ignored": false,
+		"delivered empty ignored": false, "delivered ask page": false, "delivered query report": false, "delivered survey report": false} {
 		at := clock.Time(0)
 		patience := settling.New(func() clock.Time { return at })
 		patience.Late(true)
