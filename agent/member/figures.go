@@ -99,6 +99,9 @@ func (m *Member) Ring(out io.Writer) error {
 	}
 	select {
 	case dump := <-dumps:
+		if dump == "" {
+			return fmt.Errorf("the silo's dump has more than 16 MiB: it has too much for its ring to be drawn; /metrics has its figures")
+		}
 		return ring.Draw(out, dump)
 	case <-m.ctx.Done():
 		return silo.ErrBusy

@@ -108,8 +108,15 @@ func readAnswer(said string) Answer {
 	return Answer{}
 }
 
-// Dump gives the silo's object among the nodes of a dump, in JSON.
-func (s *Silo) Dump(answer func(string)) error { return s.send("dump", answer) }
+// Dump gives the silo's object among the nodes of a dump, in JSON; or "" where that is too long.
+func (s *Silo) Dump(answer func(string)) error {
+	return s.send("dump", func(said string) {
+		if said == tooLong {
+			said = ""
+		}
+		answer(said)
+	})
+}
 
 // Status tells what the silo has and waits for. It costs the silo no more where that is much.
 func (s *Silo) Status(answer func(Status)) error {

@@ -30,8 +30,11 @@ const (
 	mostLetters = 48 << 20
 )
 
-// longestLine is what a silo writes at most in one line: it reads no longer ones.
+// longestLine is how many bytes of a line are kept, its line feed among them: no silo reads a letter that is longer. A dump may be.
 const longestLine = 16<<20 + 1
+
+// tooLong is what an answer is taken for that is longer: the fault of such a line.
+const tooLong = "fault 924"
 
 // ErrBusy says that too many lines wait for the silo's process.
 var ErrBusy = errors.New("too many lines wait for the silo's process")
@@ -110,7 +113,7 @@ type Silo struct {
 	listener Listener
 	in       *queue.Lines
 	ended    chan struct{}
-	wrote    int64 // atomic: when it wrote its last line, by clock.Boot
+	wrote    int64 // atomic: when it wrote something for the last time, by clock.Boot
 	counts   Counts
 	altered  sync.Once // says that a letter couldn't be read
 	patience *settling.Patience
@@ -201,7 +204,7 @@ func (s *Silo) Ended() <-chan struct{} { return s.ended }
 // Process is the number of the process.
 func (s *Silo) Process() int { return s.command.Process.Pid }
 
-// Wrote is when the process wrote its last line.
+// Wrote is when the process wrote something for the last time, be it a part of a line.
 func (s *Silo) Wrote() clock.Time { return clock.Time(atomic.LoadInt64(&s.wrote)) }
 
 // Pending is how many bytes wait for the process to read them.
@@ -294,16 +297,24 @@ func (s *Silo) read(out io.Reader) {
 	defer close(s.ended)
 	reader := bufio.NewReaderSize(out, 1<<20)
 	for {
-		line, err := readLine(reader)
+		line, isWhole, err := s.readLine(reader)
 		if err != nil {
 			return // what has no line feed may have been cut: it isn't taken
 		}
-		atomic.StoreInt64(&s.wrote, int64(clock.Boot()))
-		if head, isLetter := readHead(line); isLetter {
+		head, isLetter := readHead(line)
+		switch {
+		case isLetter && isWhole:
 			s.wroteLetter(head, line)
-		} else if !s.answered(line) {
-			s.listener.Broken("the silo's process wrote a line that nothing asked for: " + short(string(line)))
-			return
+		case isLetter: // it is lost, as letters may be
+			atomic.AddInt64(&s.counts.LettersLost, 1)
+		default:
+			if !isWhole {
+				line = []byte(tooLong)
+			}
+			if !s.answered(line) {
+				s.listener.Broken("the silo's process wrote a line that nothing asked for: " + short(string(line)))
+				return
+			}
 		}
 		if reader.Buffered() == 0 {
 			s.listener.Quiet()
@@ -311,21 +322,32 @@ func (s *Silo) read(out io.Reader) {
 	}
 }
 
-// readLine reads a line without its line feed; it stays until the next is read.
-func readLine(reader *bufio.Reader) ([]byte, error) {
-	line, err := reader.ReadSlice('\n')
-	if err == bufio.ErrBufferFull { // a long report
-		long := append([]byte(nil), line...)
-		for err == bufio.ErrBufferFull && len(long) <= longestLine {
-			line, err = reader.ReadSlice('\n')
+// readLine reads a line without its line feed; it stays until the next is read. Of one that is too long there is the beginning alone.
+func (s *Silo) readLine(reader *bufio.Reader) (line []byte, isWhole bool, err error) {
+	line, err = reader.ReadSlice('\n')
+	atomic.StoreInt64(&s.wrote, int64(clock.Boot()))
+	if err != bufio.ErrBufferFull {
+		if err != nil {
+			return nil, false, err
+		}
+		return line[:len(line)-1], true, nil
+	}
+	long := append([]byte(nil), line...) // a dump, or a letter of many ranges
+	size := len(long)
+	for err == bufio.ErrBufferFull {
+		line, err = reader.ReadSlice('\n')
+		atomic.StoreInt64(&s.wrote, int64(clock.Boot()))
+		if size += len(line); size <= longestLine {
 			long = append(long, line...)
 		}
-		line = long
 	}
 	if err != nil {
-		return nil, err
+		return nil, false, err
 	}
-	return line[:len(line)-1], nil
+	if size > longestLine {
+		return long, false, nil
+	}
+	return long[:size-1], true, nil
 }
 
 func (s *Silo) wroteLetter(head head, line []byte) {

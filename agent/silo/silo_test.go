@@ -403,6 +403,25 @@ func TestBounds(t *testing.T) {
 	}
 }
 
+// A dump that is too long is none, and a letter that is too long is lost; the silo goes on.
+func TestLongLines(t *testing.T) {
+	h := newHeard()
+	f, s := newFake(t, h)
+	for size, kept := range map[int]int{longestLine - 1: longestLine - 1, longestLine: 0, longestLine + 3<<20: 0} {
+		s.Dump(func(dump string) { h.add("a dump of %d bytes", len(dump)) })
+		f.expects("dump")
+		f.writes(strings.Repeat("x", size))
+		h.expects(t, fmt.Sprintf("a dump of %d bytes", kept))
+	}
+	survey := "letter " + string(me) + " 10.0.0.2:1000@1 1 survey"
+	long := survey + strings.Repeat(" 0+1", longestLine/4)
+	f.writes(long, long[:longestLine-1], survey+" 0+1")
+	h.expects(t, "letter to 10.0.0.2:1000@1 survey: "+long[:longestLine-1], "letter to 10.0.0.2:1000@1 survey: "+survey+" 0+1")
+	if counts := s.Counts(); counts.LettersLost != 1 || counts.LettersOut != 2 {
+		t.Errorf("%+v", counts)
+	}
+}
+
 // A process joins by its own join alone. One that is killed has surely ended behind Kill, and its lines have come.
 func TestProcess(t *testing.T) {
 	program := os.Getenv("SILO_PROGRAM")
