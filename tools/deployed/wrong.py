@@ -7,7 +7,7 @@ FAULTS = {
     "invents": "the transport invents a letter: a `deregister` of an activation that works",
     "alters": "the transport changes a letter: a report loses its entries",
     "works-on": "the application works on until its close is answered",
-    "denies": "the transport has `behind` in the place of each report: nothing wrong comes of it, but no range is recovered",
+    "denies": "the transport has `behind` in the place of each report and each `empty`: nothing wrong comes of it, but no range is recovered",
     "hurries": "a silo is nudged before its requests are answered: nothing wrong comes of it, but no answer counts",
 }
 REQUESTS = ("register", "deregister", "find")
@@ -40,7 +40,7 @@ class Plant:
             self.counts["planted", self.name] += 1
             end = next(index for index, word in enumerate(words) if word in ENDS)
             line = " ".join([*words[:end], "last"])
-        elif self.name == "denies" and words[4] == "report":
+        elif self.name == "denies" and words[4] in ("report", "empty"):
             self.counts["planted", self.name] += 1
             line = " ".join([*words[:4], "behind", words[5]])
         elif self.name == "hurries" and words[4] in ANSWERS:

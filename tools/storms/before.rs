@@ -11,7 +11,7 @@ use crate::world::{Silo, World};
 /// What an event may come to.
 pub enum Sign {
     Nothing,
-    /// A page or a report comes to a silo whose table has so many entries.
+    /// A page, a report or an empty message comes to a silo whose table has so many entries.
     Transfer { silo: Silo, is_further_page: bool, entries: usize },
     /// A registration comes where the activation has the entry whose place it is to take.
     Replacing,
