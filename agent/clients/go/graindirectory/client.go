@@ -19,6 +19,9 @@ import (
 // ErrLost says that the agent was fenced, or is gone: all activations are lost.
 var ErrLost = errors.New("the agent is fenced, or gone")
 
+// longestLine is what the agent writes at most in one line, in bytes: the answer to `members` is long where there are many.
+const longestLine = 16 << 20
+
 // Taken is the activation that a grain has elsewhere.
 type Taken string
 
@@ -150,7 +153,9 @@ func (c *Client) begin(words []string) *Work { // firm ACTIVATION GRAIN token V
 }
 
 func (c *Client) read() {
-	for lines := bufio.NewScanner(c.conn); lines.Scan() && c.take(strings.Fields(lines.Text())); {
+	lines := bufio.NewScanner(c.conn)
+	lines.Buffer(nil, longestLine)
+	for lines.Scan() && c.take(strings.Fields(lines.Text())) {
 	}
 	c.mu.Lock()
 	for _, answer := range c.waits {

@@ -206,3 +206,22 @@ func TestAnswers(t *testing.T) {
 		t.Error(err)
 	}
 }
+
+// The answer to `members` is long where there are many.
+func TestLongAnswer(t *testing.T) {
+	a, client := connect(t, nil)
+	members := "members 7" + strings.Repeat(" 10.0.0.1:1000@1 active node@host", 10000)
+	answers := make(chan []string, 1)
+	go func() {
+		words, err := client.Ask("members")
+		if err != nil {
+			t.Error(err)
+		}
+		answers <- words
+	}()
+	a.hears("1 members")
+	a.says("1 %s", members)
+	if words := <-answers; strings.Join(words, " ") != members {
+		t.Errorf("%d words are heard", len(words))
+	}
+}
