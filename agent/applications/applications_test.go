@@ -533,6 +533,40 @@ func TestFinds(t *testing.T) {
 	a.hears("6 refused 806 ")
 }
 
+// Who wants it fresh gets no hint, also while another's question is under way that may be answered by one.
+func TestFreshFinds(t *testing.T) {
+	x := start(t)
+	a, b := x.dial(), x.dial()
+	a.says("1 find user/ann")
+	x.silo.isAsked(t)
+	b.says("2 find user/ann fresh")
+	b.says("3 status")
+	b.hears("3 status S version 1 held 0")
+	x.silo.answers(t, "find user/ann", silo.Answer{Activation: "T!1", Cached: true})
+	a.hears("1 at T!1 user/ann hint")
+	x.silo.answers(t, "forget user/ann", silo.Answer{})
+	x.silo.answers(t, "find user/ann", silo.Answer{})
+	x.service.Said(silo.Said{What: silo.Found, Activation: "U!1", Grain: "user/ann"})
+	b.hears("2 at U!1 user/ann")
+	for _, refused := range []bool{false, true} { // without a hint the directory's own answer is both ones'
+		a.says("4 find user/bob")
+		x.silo.isAsked(t)
+		b.says("5 find user/bob fresh")
+		b.says("6 status")
+		b.hears("6 status S version 1 held 0")
+		if refused {
+			x.silo.answers(t, "find user/bob", silo.Answer{Refused: "806"})
+			a.hears("4 refused 806 ")
+			b.hears("5 refused 806 ")
+			continue
+		}
+		x.silo.answers(t, "find user/bob", silo.Answer{})
+		x.service.Said(silo.Said{What: silo.Nothing, Grain: "user/bob"})
+		a.hears("4 nowhere user/bob")
+		b.hears("5 nowhere user/bob")
+	}
+}
+
 func TestEvents(t *testing.T) {
 	x := start(t)
 	a := x.dial()

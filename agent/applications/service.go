@@ -11,7 +11,7 @@
 //	TAG named [NAME]         ok; by this name the other silos' applications hear of this connection; without a word, by none any more
 //	TAG members              members V SILO active|leaving NAME,..|- SILO ..: the silos of version V and their applications' names
 //	TAG clock                clock NOW: by the agent's clock, that of `event valid`
-//	TAG status               status SILO version V seen V settled V held N members N
+//	TAG status               status SILO version V seen V settled V members N held N
 //	                         refused CODE WORDS: why, and what to do
 //
 // By itself the agent says to each connection
@@ -100,9 +100,12 @@ type grain struct {
 	again            []ask        // who wants it anew behind its end
 }
 
+// search is a look-up that the silo was asked for.
 type search struct {
 	since clock.Time
 	asked []ask
+	fresh []ask // who wants no hint, and came while the silo may still answer by one
+	hints bool  // whether it may
 }
 
 // New makes a service; connections come by Serve.
@@ -222,10 +225,18 @@ func (s *Service) refused(g *grain, code string) {
 // find looks a grain up, once for all who ask meanwhile.
 func (s *Service) find(k ask, name string, fresh bool) {
 	if f := s.finds[name]; f != nil {
-		f.asked = append(f.asked, k)
+		if fresh && f.hints {
+			f.fresh = append(f.fresh, k)
+		} else {
+			f.asked = append(f.asked, k)
+		}
 		return
 	}
-	f := &search{since: s.options.Now(), asked: []ask{k}}
+	s.search(name, &search{since: s.options.Now(), asked: []ask{k}, hints: !fresh}, fresh)
+}
+
+// search asks the silo for a grain, behind a hint that is dropped where it has to be fresh.
+func (s *Service) search(name string, f *search, fresh bool) {
 	s.finds[name] = f
 	var err error
 	if fresh {
@@ -238,8 +249,15 @@ func (s *Service) find(k ask, name string, fresh bool) {
 			switch {
 			case answer.Refused != "":
 				s.notFound(name, answer.Refused)
-			case answer.Cached:
+			case answer.Cached && s.finds[name] == f:
+				again := f.fresh
+				f.fresh = nil
 				s.found(name, "at %s %s hint", answer.Activation, name)
+				if len(again) > 0 {
+					s.search(name, &search{since: s.options.Now(), asked: again}, true)
+				}
+			default: // it asks the directory
+				f.hints = false
 			}
 		})
 	}
@@ -252,7 +270,7 @@ func (s *Service) found(name, format string, words ...interface{}) {
 	if f := s.finds[name]; f != nil {
 		delete(s.finds, name)
 		s.took("find", f.since)
-		for _, k := range f.asked {
+		for _, k := range append(f.asked, f.fresh...) {
 			k.answer(format, words...)
 		}
 	}
@@ -261,7 +279,7 @@ func (s *Service) found(name, format string, words ...interface{}) {
 func (s *Service) notFound(name, code string) {
 	if f := s.finds[name]; f != nil {
 		delete(s.finds, name)
-		for _, k := range f.asked {
+		for _, k := range append(f.asked, f.fresh...) {
 			k.refuse(code)
 		}
 	}
