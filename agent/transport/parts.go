@@ -11,8 +11,11 @@ import (
 // longestLine is that of a silo's process, in bytes.
 const longestLine = 16 << 20
 
-// mostParts is how many bytes of letters that haven't come whole are kept, of all senders.
-const mostParts = 64 << 20
+// mostParts is how many bytes of letters that haven't come whole are kept, of all senders, and with each what it takes besides.
+const (
+	mostParts = 64 << 20
+	besides   = 256
+)
 
 // headRoom is what the head of a part has at most.
 const headRoom = 128
@@ -39,7 +42,7 @@ func cut(sender directory.Silo, number uint64, line []byte, most int) (messages 
 // there is one letter at a time, and any part that isn't the next one of that letter ends it.
 type parts struct {
 	letters map[string]*partial
-	size    int // bytes of all
+	size    int // bytes of all, and what each takes besides
 }
 
 type partial struct {
@@ -72,6 +75,7 @@ func (p *parts) take(data []byte) (line []byte, lost bool) {
 		}
 		letter = &partial{number: number, count: count, size: size}
 		p.letters[sender] = letter
+		p.size += besides
 	}
 	if len(letter.bytes)+len(rest) > size {
 		p.drop(sender)
@@ -88,7 +92,10 @@ func (p *parts) take(data []byte) (line []byte, lost bool) {
 		return letter.bytes, lost
 	}
 	for other := range p.letters { // any of the others is lost where there is too much
-		if p.size > mostParts && other != sender {
+		if p.size <= mostParts {
+			break
+		}
+		if other != sender {
 			p.drop(other)
 			lost = true
 		}
@@ -97,6 +104,6 @@ func (p *parts) take(data []byte) (line []byte, lost bool) {
 }
 
 func (p *parts) drop(sender string) {
-	p.size -= len(p.letters[sender].bytes)
+	p.size -= len(p.letters[sender].bytes) + besides
 	delete(p.letters, sender)
 }

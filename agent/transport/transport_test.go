@@ -165,7 +165,7 @@ func TestPartsOfTwo(t *testing.T) {
 		p.Take(cut(a, 9, []byte(letter(a, c, 9, 900)), 400)[0]) // whatever is under way ends
 	}
 	e.has(t, first, second)
-	if p.Counts().PartsLost == 0 || p.parts.size > 400 {
+	if p.Counts().PartsLost == 0 || p.parts.size > 400+besides {
 		t.Errorf("%+v, %d bytes are kept", p.Counts(), p.parts.size)
 	}
 }
@@ -197,6 +197,23 @@ func TestPartsBound(t *testing.T) {
 				t.Fatalf("%d bytes are kept", p.size)
 			}
 		}
+	}
+}
+
+// Nor is there of letters that have no bytes yet.
+func TestSendersBound(t *testing.T) {
+	p := newParts()
+	for i := 0; i < mostParts/besides+1000; i++ {
+		p.take([]byte(fmt.Sprintf("stranger%d 1 0 2 1\n", i)))
+	}
+	if len(p.letters) > mostParts/besides || p.size > mostParts {
+		t.Errorf("%d letters are kept", len(p.letters))
+	}
+	for sender := range p.letters {
+		p.drop(sender)
+	}
+	if p.size != 0 {
+		t.Errorf("%d bytes are kept of nothing", p.size)
 	}
 }
 
