@@ -20,12 +20,15 @@ namespace GrainDirectory
         readonly AgentConnection connection;
         readonly SiloAddress silo;
         readonly ConcurrentDictionary<string, Held> held = new ConcurrentDictionary<string, Held>();
-        volatile Dictionary<string, string> silos = new Dictionary<string, string>(); // the agents' silos, and the Orleans silo at each
+        readonly object gate = new object();
+        Dictionary<string, string> silos = new Dictionary<string, string>(); // the agents' silos, and the Orleans silo at each, until that changes
+        long changes;
 
         public AgentGrainDirectory(AgentConnection connection, SiloAddress silo)
         {
             this.connection = connection;
             this.silo = silo;
+            connection.MembersChanged += Forget;
             connection.Ask("named " + silo).Wait();
         }
 
@@ -77,19 +80,29 @@ namespace GrainDirectory
         async Task<GrainAddress> At(GrainId grain, string activation)
         {
             var at = activation.Split('!')[0];
-            if (!silos.ContainsKey(at)) await ReadMembers();
             string orleans;
-            silos.TryGetValue(at, out orleans);
+            bool isKnown;
+            lock (gate) { isKnown = silos.TryGetValue(at, out orleans); }
+            if (!isKnown) (await ReadMembers()).TryGetValue(at, out orleans);
             return new GrainAddress { GrainId = grain, ActivationId = activation, SiloAddress = new SiloAddress(orleans) };
         }
 
-        async Task ReadMembers()
+        // An Orleans silo that begins anew at its agent has another name.
+        void Forget()
         {
+            lock (gate) { changes++; silos = new Dictionary<string, string>(); }
+        }
+
+        async Task<Dictionary<string, string>> ReadMembers()
+        {
+            long before;
+            lock (gate) { before = changes; }
             var words = await connection.Ask("members"); // members V SILO STATUS NAMES SILO ..
             var now = new Dictionary<string, string>();
             for (var i = 2; i + 2 < words.Length; i += 3)
                 if (words[i + 2] != "-") now[words[i]] = words[i + 2].Split(',')[0];
-            silos = now;
+            lock (gate) { if (changes == before) silos = now; } // else it may be old by now
+            return now;
         }
 
         // KIND/KEY of visible ASCII, with no slash in the kind; a % and two digits for any other byte.

@@ -8,7 +8,8 @@ using GrainDirectory;
 
 static class Tests
 {
-    static readonly SiloAddress one = new SiloAddress("S10.0.0.1:11111:1"), two = new SiloAddress("S10.0.0.2:11111:1");
+    static readonly SiloAddress one = new SiloAddress("S10.0.0.1:11111:1"), two = new SiloAddress("S10.0.0.2:11111:1"),
+        anew = new SiloAddress("S10.0.0.2:11111:2");
 
     static int Main(string[] sockets)
     {
@@ -19,7 +20,7 @@ static class Tests
         Registers(a, b);
         Races(a, b);
         Texts();
-        Losing(a, b, first);
+        Losing(a, BeginsAnew(a, b, sockets[1]), first);
         Console.WriteLine("all is as it should be");
         return 0;
     }
@@ -74,13 +75,26 @@ static class Tests
         Is("other keys are other texts", AgentGrainDirectory.GrainText(new GrainId("a", "%20")) != AgentGrainDirectory.GrainText(new GrainId("a", " ")), true);
     }
 
+    // An Orleans silo that begins anew at the same agent has another name, and is found by that.
+    static AgentGrainDirectory BeginsAnew(AgentGrainDirectory a, AgentGrainDirectory b, string socket)
+    {
+        GrainAddress fay = Address("fay", two), again = Address("fay", anew);
+        b.Register(fay).Wait();
+        Is("found by the old name", a.Lookup(fay.GrainId).Result.SiloAddress.Text, two.Text);
+        b.Dispose();
+        var c = new AgentGrainDirectory(new AgentConnection(socket), anew);
+        Until("it has the grain again", () => c.Register(again).Result == again);
+        Until("found by the new name", () => a.Lookup(fay.GrainId).Result.SiloAddress.Text == anew.Text);
+        return c;
+    }
+
     // What a silo has is free when its connection ends.
     static void Losing(AgentGrainDirectory a, AgentGrainDirectory b, AgentConnection first)
     {
         Is("may", first.May, true);
         var told = new ManualResetEventSlim();
         first.Lost += why => told.Set();
-        var eve = Address("eve", two);
+        var eve = Address("eve", anew);
         a.Register(Address("eve", one)).Wait();
         a.Dispose();
         Is("told", told.Wait(5000), true);
