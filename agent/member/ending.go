@@ -27,7 +27,10 @@ func (m *Member) End(reason string) Outcome {
 		m.silo.Kill()
 	}
 	log.Printf("ends: %s", reason) // not before: a log that is stuck must not hold the end up
-	outcome := Outcome{Silo: m.me, Reason: reason, Ended: m.awaitApplications()}
+	m.mu.Lock()
+	wasReady := m.settled != 0
+	m.mu.Unlock()
+	outcome := Outcome{Silo: m.me, Reason: reason, Ready: wasReady, Ended: m.awaitApplications()}
 	log.Printf("the silo's process has ended; all applications have hung up: %v", outcome.Ended)
 	if outcome.Ended {
 		ctx, done := context.WithTimeout(context.Background(), 2*time.Second)

@@ -80,6 +80,7 @@ type Member struct {
 type Outcome struct {
 	Silo   directory.Silo
 	Reason string
+	Ready  bool // its ranges were settled once
 	Ended  bool // the silo's process has ended, and all applications have hung up
 	Left   bool // it left in order
 }

@@ -122,7 +122,7 @@ namespace GrainDirectory
             TaskCompletionSource<string[]> answer;
             lock (gate)
             {
-                answer = waiting[words[0]];
+                if (!waiting.TryGetValue(words[0], out answer)) return; // nobody asked
                 waiting.Remove(words[0]);
             }
             answer.SetResult(words.Rest());

@@ -51,6 +51,9 @@ func rate(o options, name string, client func(n int) (func(i int) error, error))
 	}
 	wait.Wait()
 	elapsed := time.Since(began).Seconds()
+	if len(all) == 0 {
+		return fmt.Errorf("%s: nothing was measured", name)
+	}
 	sort.Slice(all, func(i, j int) bool { return all[i] < all[j] })
 	fmt.Printf("%s, %d clients: %.0f a second, p50 %v, p99 %v, %d faults\n", name, o.clients, float64(len(all))/elapsed,
 		all[len(all)/2].Round(time.Microsecond), all[len(all)*99/100].Round(time.Microsecond), faults)

@@ -23,13 +23,10 @@ import (
 	"agent/transport/tcpcarrier"
 )
 
-// How long a call of the store may take at most, how long to wait before another try, and how long a generation has to last so that the next one needn't
-// wait longer than the one before did.
+// How long a call of the store may take at most, and how long to wait before another try.
 const (
-	call      = 3 * time.Second
-	retry     = 200 * time.Millisecond
-	lasting   = time.Minute
-	mostPause = 30 * time.Second
+	call  = 3 * time.Second
+	retry = 200 * time.Millisecond
 )
 
 // agent runs one generation of its silo after the other.
@@ -125,10 +122,11 @@ func (a *agent) agree(ctx context.Context, store membership.Store) error {
 // generations runs generations of the silo until it leaves.
 func (a *agent) generations(ctx context.Context, sequence *membership.Sequence) int {
 	var last member.Outcome
-	var wait time.Duration
+	var between pauses
 	supervised := a.endedBySupervisor()
 	for ctx.Err() == nil {
 		began := clock.Boot()
+		var outcome member.Outcome
 		m, err := a.join(ctx, sequence, func(old directory.Silo) bool { return last.Ended && old == last.Silo || supervised(old) })
 		if err != nil {
 			if ctx.Err() != nil {
@@ -140,7 +138,7 @@ func (a *agent) generations(ctx context.Context, sequence *membership.Sequence) 
 			}
 		} else {
 			var isOver bool
-			if last, isOver = a.live(ctx, m); isOver {
+			if outcome, isOver = a.live(ctx, m); isOver {
 				operation.Notify("STATUS=has left")
 				return left
 			}
@@ -150,13 +148,9 @@ func (a *agent) generations(ctx context.Context, sequence *membership.Sequence) 
 			if !a.config.Rejoin {
 				return fenced
 			}
+			last = outcome
 		}
-		if wait = 2*wait + time.Second; wait > mostPause {
-			wait = mostPause
-		}
-		if clock.Boot().Sub(began) > lasting || err == nil && last.Ended && wait <= time.Second {
-			wait = 0
-		}
+		wait := between.after(clock.Boot().Sub(began), outcome)
 		if wait > 0 {
 			log.Printf("joins again in %v", wait)
 		}
