@@ -29,3 +29,4 @@ pub mod Throughout
 pub mod Worked
 pub mod Decided
 pub mod RisingTables
+pub mod Parts

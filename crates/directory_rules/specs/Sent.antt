@@ -1,5 +1,5 @@
 -- What a node sends: requests to owners, and what its unsettled pieces want of other silos.
-use Rattle.std.specs.Prelude.{ℕ, ◌++◌, nat_le, if◌then◌else◌, List, [], ◌∷◌, Option, Some, None, length, map, flat_map}
+use Rattle.std.specs.Prelude.{ℕ, zero, suc, ◌++◌, ◌&&◌, is_none, is_some, Bool, true, false, List, [], ◌∷◌, Option, Some, None, length, take, drop, filter, map, flat_map}
 use Rattle.std.specs.Option.{unwrap_or}
 use Rattle.std.specs.Ordering.{nat_cmp}
 use Rattle.std.specs.Map.{lookup}
@@ -14,9 +14,10 @@ use Rattle.directory_rules.specs.declared.act.Request.{Request}
 use Rattle.directory_rules.specs.declared.piece_state.PieceState.{PieceState}
 use Rattle.directory_rules.specs.declared.piece_state.PieceState.TheVariants.{Settled, Awaiting, Recovering}
 use Rattle.directory_rules.specs.State.{Gathering, Recovery, Piece, Body, Request_letter, Ask_letter, Query_letter, Survey_letter, Letter, Node}
+use Rattle.directory_rules.specs.Settings.{is_surveyor}
 use Rattle.directory_rules.specs.Gatherings.{new_gathering}
 use Rattle.directory_rules.specs.Members.{members_of}
-use Rattle.directory_rules.specs.Recovery.{new_recovery, told_by}
+use Rattle.directory_rules.specs.Recovery.{new_recovery, is_among, told_by}
 use Rattle.directory_rules.specs.Host.{outstanding, requests_about, grain_of}
 
 -- a letter of the node, of the version that it has seen
@@ -86,17 +87,20 @@ wants_by Settled node range = []
 wants_by (Awaiting from) node range = ask_letters node range from
 wants_by Recovering node range = query_letters node range
 
--- what the unsettled pieces want, piece by piece
-abbrev pub all_wants : Node → List Letter
-all_wants node = flat_map (λ e. wants_by e.1.state node e.1.range) node.holding.pieces
+-- ---- By queries: what such pieces want, piece by piece.
+abbrev pub queried_wants : Node → List (ℕ × Piece) → List Letter
+queried_wants node pieces = flat_map (λ e. wants_by e.1.state node e.1.range) pieces
 
--- What new pieces want, of which nobody has told anything yet: one survey of the ranges that recover, in place of a query for each.
+-- ---- By surveys: each silo is asked for all ranges at once of which it has told nothing yet, and behind what it has told for each other one.
 
 -- the asks, piece by piece
 abbrev pub asks_by : PieceState → Node → Range → List Letter
 asks_by Settled node range = []
 asks_by (Awaiting from) node range = ask_letters node range from
 asks_by Recovering node range = []
+
+abbrev pub all_asks : Node → List (ℕ × Piece) → List Letter
+all_asks node pieces = flat_map (λ e. asks_by e.1.state node e.1.range) pieces
 
 -- the ranges that recover, piece by piece
 abbrev pub recovering_by : PieceState → Range → List Range
@@ -107,17 +111,59 @@ recovering_by Recovering range = range ∷ []
 abbrev pub recovering_ranges : List (ℕ × Piece) → List Range
 recovering_ranges pieces = flat_map (λ e. recovering_by e.1.state e.1.range) pieces
 
--- up to so many ranges are asked for one by one
-abbrev pub most_queried : ℕ
-most_queried = 2
+-- whether a silo is awaited, and has told nothing yet
+abbrev pub has_told_nothing : Silo → Recovery → Bool
+has_told_nothing silo recovery = is_among silo recovery.awaiting && is_none (told_by silo recovery)
 
--- each silo of the view is asked for ranges: for few by a query each, else by one letter for all
+-- those of the ranges of which the silo has told nothing yet
+abbrev pub untold_by : Node → List Range → Silo → List Range
+untold_by node ranges silo = filter (λ range. has_told_nothing silo (recovery_of node range)) ranges
+
+-- for how many ranges one survey asks at most, so that its line, and that of the answer, are no longer than a page's
+abbrev pub survey_size : ℕ
+survey_size = 1024
+
+-- the ranges in parts of so many, of which the last may have fewer, and no more parts than that
+abbrev pub parts_within : (most : ℕ) → List Range → List (List Range)
+parts_within zero ranges = []
+parts_within (suc more) [] = []
+parts_within (suc more) (range ∷ ranges) = take survey_size (range ∷ ranges) ∷ parts_within more (drop survey_size (range ∷ ranges))
+
+abbrev pub parts_of : List Range → List (List Range)
+parts_of ranges = parts_within (length ranges) ranges
+
+-- the surveys of ranges to a silo
+abbrev pub surveys_to : Node → List Range → Silo → List Letter
+surveys_to node ranges silo = map (λ part. letter_to silo node (Survey_letter part)) (parts_of ranges)
+
+-- the surveys to each silo of the view, by address
 abbrev pub survey_letters : Node → List Range → List Letter
-survey_letters node ranges =
-    if nat_le (length ranges) most_queried then flat_map (query_letters node) ranges
-    else map (λ silo. letter_to silo node (Survey_letter ranges)) (members_of node.view)
+survey_letters node ranges = flat_map (λ silo. surveys_to node (untold_by node ranges silo) silo) (members_of node.view)
 
--- the asks, and then the surveys
-abbrev pub new_wants : Node → List Letter
-new_wants node =
-    flat_map (λ e. asks_by e.1.state node e.1.range) node.holding.pieces ++ survey_letters node (recovering_ranges node.holding.pieces)
+-- the queries to those silos that have told a part of the range, by address
+abbrev pub further_queries : Node → Range → List Letter
+further_queries node range =
+    map (query_to node range) (filter (λ silo. is_some (told_by silo (recovery_of node range))) (recovery_of node range).awaiting)
+
+-- the asks, then the surveys, then those queries, range by range
+abbrev pub surveyed_wants : Node → List (ℕ × Piece) → List Letter
+surveyed_wants node pieces =
+    all_asks node pieces ++ (survey_letters node (recovering_ranges pieces) ++ flat_map (further_queries node) (recovering_ranges pieces))
+
+-- ---- Both.
+
+-- what such pieces want, by surveys or by queries
+abbrev pub wants_so : (by_surveys : Bool) → Node → List (ℕ × Piece) → List Letter
+wants_so true node pieces = surveyed_wants node pieces
+wants_so false node pieces = queried_wants node pieces
+
+-- whether the node asks by surveys
+abbrev pub is_surveying : Node → Bool
+is_surveying node = is_surveyor node.settings.surveyors node.host.silo
+
+-- what such pieces of the node want, and what its own do
+abbrev pub wants_of : Node → List (ℕ × Piece) → List Letter
+wants_of node pieces = wants_so (is_surveying node) node pieces
+
+abbrev pub all_wants : Node → List Letter
+all_wants node = wants_of node node.holding.pieces

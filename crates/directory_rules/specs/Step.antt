@@ -21,7 +21,7 @@ use Rattle.directory_rules.specs.Recovery.{new_recovery}
 use Rattle.directory_rules.specs.Sight.{is_next, pieces_after, sealed, shelf_after}
 use Rattle.directory_rules.specs.Host.{held_of, entry_of, is_firm, is_asking, outstanding, requests_about, has_numbers, has_count, is_full_of_activations, is_full_of_finds, next_held, with_started, with_closing, with_find, renewed, renewed_about}
 use Rattle.directory_rules.specs.Cache.{hint_of, in_front, without_pair, cache_seeing}
-use Rattle.directory_rules.specs.Sent.{letter_to, request_letters, requests_of_grain, all_requests, all_wants, new_wants}
+use Rattle.directory_rules.specs.Sent.{letter_to, request_letters, requests_of_grain, all_requests, all_wants}
 
 -- what a step makes: the new node, the letters that it sends, in order, and what it did
 pub record Stepped : Type 0 where
@@ -78,9 +78,9 @@ node_after next node view places arcs = record (with_pieces node view places (pi
   shelf = shelf_after next view node.shelf (sealed node.settings.hashing view node.host.silo node.holding.pieces arcs);
 }
 
--- what the pieces want comes first, then the outstanding requests
+-- what the new pieces want comes first, then the outstanding requests
 abbrev pub having_seen : (next : Bool) → Node → Stepped
-having_seen next node = record { node = node; letters = new_wants node ++ all_requests node; effect = if next then Next else Skip }
+having_seen next node = record { node = node; letters = all_wants node ++ all_requests node; effect = if next then Next else Skip }
 
 -- the view is seen: the rings are compared
 abbrev pub sight : (next : Bool) → Node → (before view : ViewValue) → PlacesValue → Stepped

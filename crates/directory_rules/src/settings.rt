@@ -1,6 +1,8 @@
 ghost use Rattle.std.specs.Prelude.{◌≡◌, ◌↔◌, ◌<◌, ◌≤◌, ◌^◌, IsTrue, IsSome, IfSome};
 ghost use Rattle.membership_view.specs.Views.{most_known};
-ghost use Rattle.directory_rules.specs.Settings.{AreSettings, directory_settings};
+ghost use Rattle.silo_address.specs.Silo.{Silo};
+ghost use Rattle.directory_rules.specs.Settings.{AreSettings, directory_settings, is_surveyor, most_activations, silo_settings};
+ghost use Rattle.directory_rules.specs.SettingsFields.{surveyors_of};
 
 use hash_ring::Hashing;
 use std::marker::Model;
@@ -14,16 +16,19 @@ const MOST_SILOS: usize = (1 << 62) - 1;
 /// The greatest number of letters ever sent in a played cluster.
 const MOST_LETTERS: u64 = 1_000_000;
 
-/// The greatest number of activations that a silo may hold.
+/// The greatest number of activations that a silo may hold; a report of so many entries is whole.
 const MOST_ACTIVATIONS: usize = 1 << 24;
 
-/// The greatest number of entries in a report, and how many it has unless another number is chosen.
-const MOST_REPORTED: usize = 64;
+/// The number of entries in a report of a silo by itself, unless another number is chosen.
+const REPORTED_BY_A_SILO: usize = 64;
+
+/// The number of activations that a silo by itself may hold, unless another number is chosen.
+const HELD_BY_A_SILO: usize = 1_000_000;
 
 /// The greatest last number of a silo.
 const LAST_NUMBER: u64 = 1 << 60;
 
-/// What a directory is set up with: how it hashes, and its limits (`docs/RULES.md#settings`).
+/// What a directory is set up with: how it hashes, whether its silos ask by surveys, and its limits (`docs/RULES.md#settings`).
 #[derive(Clone, Copy, PartialEq, Eq)]
 pub struct Settings {
     hashing: Hashing,
@@ -36,6 +41,7 @@ pub struct Settings {
     activations: usize,
     finds: usize,
     report_size: usize,
+    surveys: bool,
     last_number: u64,
 }
 
@@ -44,19 +50,21 @@ impl Model for Settings {
 
     ghost Value = { Settings };
 
-    ghost use Rattle.directory_rules.specs.SettingsFields.{settings_of, fields_of};
+    ghost use Rattle.directory_rules.specs.SettingsFields.{settings_of, fields_of, fields_again};
 
     ghost view = { settings_of };
 
     ghost invariant = { λ s. AreSettings (settings_of s) };
 
     ghost inverse = { fields_of };
+
+    ghost inverse_ok = { fields_again };
 }
 
 impl Settings {
     /// A directory's own settings: how it hashes, how many points a silo has where they are hashed (1 to 128), and how many
-    /// entries a cache keeps (0 to 65536; 0 keeps none). Its limits are those of a script's cluster
-    /// (`docs/RULES.md#settings`). `None` where a number is out of its range.
+    /// entries a cache keeps (0 to 65536; 0 keeps none). Its limits are those of a script's cluster, its reports are whole, and
+    /// its silos ask by queries (`docs/RULES.md#settings`). `None` where a number is out of its range.
     pub fn of_directory(hashing: Hashing, points: usize, cache: usize) -> Option<Settings>
         ensures exact { IfSome result (λ settings. settings ≡ directory_settings hashing points cache) }
         ensures in_range { IsSome result ↔ ((1 ≤ points) × (points ≤ 128) × (cache ≤ 65536)) }
@@ -72,10 +80,28 @@ impl Settings {
             places: 128,
             events: 1_000_000,
             letters: MOST_LETTERS,
-            activations: 1_000_000,
+            activations: 65_536,
             finds: 65_536,
-            report_size: MOST_REPORTED,
+            report_size: MOST_ACTIVATIONS,
+            surveys: false,
             last_number: LAST_NUMBER,
+        })
+    }
+
+    /// The settings of a silo by itself, as a server or a process: those of a directory, but it may know up to 2^62 - 1 silos, holds up
+    /// to 1000000 activations, tells 64 entries in a report, and asks by surveys. `None` where a number is out of its range, as for
+    /// `of_directory`.
+    pub fn of_silo(hashing: Hashing, points: usize, cache: usize) -> Option<Settings>
+        ensures exact { IfSome result (λ settings. settings ≡ silo_settings hashing points cache) }
+        ensures in_range { IsSome result ↔ ((1 ≤ points) × (points ≤ 128) × (cache ≤ 65536)) }
+    {
+        let directory = Settings::of_directory(hashing, points, cache)?;
+        Some(Settings {
+            silos: MOST_SILOS,
+            activations: HELD_BY_A_SILO,
+            report_size: REPORTED_BY_A_SILO,
+            surveys: true,
+            ..directory
         })
     }
 
@@ -105,7 +131,7 @@ impl Settings {
     /// range.
     pub fn with_activations(self, activations: usize) -> Option<Settings>
         ensures exact { IfSome result (λ settings. settings ≡ record self { activations = activations }) }
-        ensures in_range { IsSome result ↔ ((1 ≤ activations) × (activations ≤ 16777216)) }
+        ensures in_range { IsSome result ↔ ((1 ≤ activations) × (activations ≤ most_activations)) }
     {
         if activations == 0 || activations > MOST_ACTIVATIONS {
             return None;
@@ -116,18 +142,26 @@ impl Settings {
         })
     }
 
-    /// The same settings, but for at most so many entries in a report, 1 to 64. `None` where the number is out of its range.
+    /// The same settings, but for at most so many entries in a report, 1 to 2^24; reports of 2^24 are whole. `None` where the number is
+    /// out of its range.
     pub fn with_report_size(self, report_size: usize) -> Option<Settings>
         ensures exact { IfSome result (λ settings. settings ≡ record self { report_size = report_size }) }
-        ensures in_range { IsSome result ↔ ((1 ≤ report_size) × (report_size ≤ 64)) }
+        ensures in_range { IsSome result ↔ ((1 ≤ report_size) × (report_size ≤ most_activations)) }
     {
-        if report_size == 0 || report_size > MOST_REPORTED {
+        if report_size == 0 || report_size > MOST_ACTIVATIONS {
             return None;
         }
         Some(Settings {
             report_size,
             ..self
         })
+    }
+
+    /// The same settings, but for whether silos ask by surveys.
+    pub fn with_surveys(self, surveys: bool) -> Settings
+        ensures { result ≡ record self { surveyors = surveyors_of surveys } }
+    {
+        Settings { surveys, ..self }
     }
 
     /// The same settings, but for this last request number and last count of a silo, 1 to 2^60. `None` where the number is out of
@@ -208,11 +242,18 @@ impl Settings {
         self.finds
     }
 
-    /// How many entries a silo tells in one report, 1 to 64.
+    /// How many entries a silo tells in one report, 1 to 2^24.
     pub fn report_size(&self) -> usize
         ensures { result ≡ self.now.report_size }
     {
         self.report_size
+    }
+
+    /// Whether silos ask by surveys for what recovers.
+    pub fn surveys(&self) -> bool
+        ensures { (silo : Silo) → result ≡ is_surveyor self.now.surveyors silo }
+    {
+        self.surveys
     }
 
     /// The last request number and the last count of a silo, 1 to 2^60.
