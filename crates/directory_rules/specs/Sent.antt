@@ -119,7 +119,7 @@ has_told_nothing silo recovery = is_among silo recovery.awaiting && is_none (tol
 abbrev pub untold_by : Node → List Range → Silo → List Range
 untold_by node ranges silo = filter (λ range. has_told_nothing silo (recovery_of node range)) ranges
 
--- for how many ranges one survey asks at most, so that its line, and that of the answer, are no longer than a page's
+-- for how many ranges one survey asks at most, so that its line doesn't grow with what recovers
 abbrev pub survey_size : ℕ
 survey_size = 1024
 
