@@ -65,8 +65,8 @@ has_part_within (suc more) (first ∷ ranges) range few has =
     let behind = drop survey_size (first ∷ ranges) in
     let joined : front ++ behind ≡ first ∷ ranges = take-append-drop survey_size (first ∷ ranges) in
     elim (Contains-append_cases front behind range (subst (λ (l : List Range). Contains l range) (sym joined) has)) [
-      inl here ↦ record { part = front; there = (0, omega arith, refl); has = here }
-    | inr later ↦ behind_first front range (parts_within more behind) (has_part_within more behind range (omega arith) later)
+      | inl here ↦ record { part = front; there = (0, omega arith, refl); has = here }
+      | inr later ↦ behind_first front range (parts_within more behind) (has_part_within more behind range (omega arith) later)
     ]
 
 pub has_part : (ranges : List Range) (range : Range) → Contains ranges range → HasPart (parts_of ranges) range

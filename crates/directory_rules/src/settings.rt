@@ -1,7 +1,7 @@
 ghost use Rattle.std.specs.Prelude.{◌≡◌, ◌↔◌, ◌<◌, ◌≤◌, ◌^◌, IsTrue, IsSome, IfSome};
 ghost use Rattle.membership_view.specs.Views.{most_known};
 ghost use Rattle.silo_address.specs.Silo.{Silo};
-ghost use Rattle.directory_rules.specs.Settings.{AreSettings, directory_settings, is_surveyor, most_activations, silo_settings};
+ghost use Rattle.directory_rules.specs.Settings.{AreSettings, Nobody, directory_settings, is_surveyor, most_activations, silo_settings};
 ghost use Rattle.directory_rules.specs.SettingsFields.{surveyors_of};
 
 use hash_ring::Hashing;
@@ -29,7 +29,7 @@ const HELD_BY_A_SILO: usize = 1_000_000;
 const LAST_NUMBER: u64 = 1 << 60;
 
 /// What a directory is set up with: how it hashes, whether its silos ask by surveys, and its limits (`docs/RULES.md#settings`).
-#[derive(Clone, Copy, PartialEq, Eq)]
+#[derive(Clone, Copy)]
 pub struct Settings {
     hashing: Hashing,
     points: usize,
@@ -283,7 +283,24 @@ impl Settings {
     pub fn same(&self, other: &Settings) -> bool
         ensures { IsTrue result ↔ (self.now ≡ other.now) }
     {
-        *self == *other
+        self.surveys == other.surveys && self.same_but_for_surveys(other)
+    }
+
+    // Whether all other settings are the same.
+    fn same_but_for_surveys(&self, other: &Settings) -> bool
+        ensures { IsTrue result ↔ (record self.now { surveyors = Nobody } ≡ record other.now { surveyors = Nobody }) }
+    {
+        self.hashing == other.hashing
+            && self.points == other.points
+            && self.cache == other.cache
+            && self.silos == other.silos
+            && self.places == other.places
+            && self.events == other.events
+            && self.letters == other.letters
+            && self.activations == other.activations
+            && self.finds == other.finds
+            && self.report_size == other.report_size
+            && self.last_number == other.last_number
     }
 
     /// The settings themselves: they are copied and not cloned.
