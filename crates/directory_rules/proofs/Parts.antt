@@ -1,7 +1,7 @@
 -- The parts into which the ranges of surveys are cut: joined they are the ranges again, and none is empty.
-use Rattle.std.proofs.Common.{◌≡◌, ℕ, zero, suc, ◌-◌, ◌<◌, ◌≤◌, ◌++◌, List, [], ◌∷◌, All, Contains, length, take, drop, inl, inr, refl, sym, ap, subst, arith, length-drop}
+use Rattle.std.proofs.Common.{◌≡◌, ℕ, zero, suc, ◌-◌, ◌≤◌, ◌++◌, List, [], ◌∷◌, All, Contains, length, take, drop, inl, inr, refl, sym, ap, subst, arith, length-drop}
 use Rattle.std.proofs.lemmas.List.{take-append-drop}
-use Rattle.std.proofs.lemmas.List.Elements.{Contains-append_cases, Contains-append_right}
+use Rattle.std.proofs.lemmas.List.Elements.{All-cons, All-nil, Contains-append_cases, Contains-append_right}
 use Rattle.ring_range.specs.Range.{Range}
 use Rattle.directory_rules.specs.Sent.{parts_of, parts_within, survey_size}
 
@@ -38,9 +38,11 @@ parts_step range ranges =
 -- what holds of the first ranges of any list that has one holds of each part
 module _ (P : List Range → Type 0) (first : (range : Range) (ranges : List Range) → P (take survey_size (range ∷ ranges))) where
   each_within : (most : ℕ) (ranges : List Range) → All P (parts_within most ranges)
-  each_within zero ranges = tt
-  each_within (suc more) [] = tt
-  each_within (suc more) (range ∷ ranges) = (first range ranges, each_within more (drop survey_size (range ∷ ranges)))
+  each_within zero ranges = All-nil P
+  each_within (suc more) [] = All-nil P
+  each_within (suc more) (range ∷ ranges) =
+      let behind = drop survey_size (range ∷ ranges) in
+      All-cons P (take survey_size (range ∷ ranges)) (parts_within more behind) (first range ranges) (each_within more behind)
 
   pub each_part : (ranges : List Range) → All P (parts_of ranges)
   each_part ranges = each_within (length ranges) ranges

@@ -5,7 +5,7 @@ use Rattle.directory_rules.specs.declared.reply.Reply.{Reply}
 use Rattle.directory_rules.specs.declared.reply.Reply.TheVariants as reply
 use Rattle.directory_rules.specs.declared.letter_kind.LetterKind.{LetterKind}
 use Rattle.directory_rules.specs.declared.letter_kind.LetterKind.TheVariants as kind
-use Rattle.directory_rules.specs.State.{Page, Report, Ahead_letter, Ask_letter, Behind_letter, Body, Done_letter, Empty_letter, Missing_letter, Offer_letter, Page_letter, Query_letter, Reply_letter, Report_letter, Request_letter, Survey_letter}
+use Rattle.directory_rules.specs.State.{Ahead_letter, Ask_letter, Behind_letter, Body, Done_letter, Empty_letter, Missing_letter, Offer_letter, Page_letter, Query_letter, Reply_letter, Report_letter, Request_letter, Survey_letter}
 
 -- the kind of a request's letter, by its act
 abbrev pub act_kind : Act → LetterKind

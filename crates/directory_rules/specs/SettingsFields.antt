@@ -1,6 +1,5 @@
 -- How the fields of the Rust settings mean the rule's settings.
-use Rattle.std.specs.Prelude.{◌≡◌, refl, Bool, true, false, List}
-use Rattle.silo_address.specs.Silo.{Silo}
+use Rattle.std.specs.Prelude.{◌≡◌, refl, Bool, true, false}
 use Rattle.directory_rules.specs.declared.settings.Settings.TheInside.{Inside}
 use Rattle.directory_rules.specs.Settings.{Settings, AreSettings, Surveyors, Nobody, Everybody, Only}
 
