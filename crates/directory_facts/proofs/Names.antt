@@ -11,7 +11,6 @@ use Rattle.silo_address.specs.Silo.{Silo, IsSilo, silo_cmp}
 use Rattle.silo_address.specs.Grain.{Grain, grain_eq}
 use Rattle.silo_address.proofs.Order.{silo_cmp_exact}
 use Rattle.membership_view.specs.View.{ViewValue}
-use Rattle.ring_range.specs.Range.{Range}
 use Rattle.hash_ring.specs.declared.point.Point.{Point}
 use Rattle.hash_ring.specs.Owner.{owner_of}
 use Rattle.hash_ring.specs.Places.{PlacesValue, places_of, is_added}
@@ -26,16 +25,15 @@ use Rattle.directory_rules.specs.declared.act.Act.TheVariants as act
 use Rattle.directory_rules.specs.declared.held.Held.{Held}
 use Rattle.directory_rules.specs.declared.held.Phase.{Phase}
 use Rattle.directory_rules.specs.declared.held.Phase.TheVariants.{Asking, Firm, Closing}
-use Rattle.directory_rules.specs.declared.piece_state.PieceState.{PieceState}
-use Rattle.directory_rules.specs.declared.piece_state.PieceState.TheVariants as state
 use Rattle.directory_rules.specs.Settings.{Settings, AreSettings}
 use Rattle.directory_rules.specs.State.{Piece, Snapshot, Gathering, Recovery, Host, Letter, Body, Request_letter, Reply_letter, Ask_letter, Page_letter, Missing_letter, Done_letter, Query_letter, Report_letter, Survey_letter, Empty_letter, Behind_letter, Ahead_letter, Offer_letter, Node}
 use Rattle.directory_rules.specs.Host.{entry_of, grain_of, held_acts, find_acts, act_in, outstanding, requests_about}
 use Rattle.directory_rules.specs.Event.{IsEvent}
-use Rattle.directory_rules.specs.Sent.{letter_to, letter_if_owned, owner_by, hash_of, request_of, request_letters, all_requests, requests_of_grain, recovery_of, wants_by, query_to}
+use Rattle.directory_rules.specs.Sent.{letter_to, letter_if_owned, owner_by, hash_of, request_of, request_letters, all_requests, requests_of_grain, all_wants}
 use Rattle.directory_facts.specs.Named.{IsNamed, AreNamed, AwaitsSilo, HasNames}
 use Rattle.directory_facts.proofs.Entries.{same_key, all_put, found_so}
 use Rattle.directory_facts.proofs.Carried.{Facts}
+use Rattle.directory_facts.proofs.Surveys.{each_want}
 use Rattle.directory_facts.proofs.NamedTables.{AllNamed, NamesAct}
 
 -- ---- what is carried
@@ -143,17 +141,8 @@ requests_of_grain_say node grain held =
     (All-filter (λ (e : ℕ × Act). grain_eq (grain_of e.1) grain) (λ (e : ℕ × Act). NamesAct e.1) (outstanding node.host)
     (outstanding_named node.host held))
 
-wants_say : (its : PieceState) (node : Node) (range : Range) → All Says (wants_by its node range)
-wants_say state.Settled node range = All-nil Says
-wants_say (state.Awaiting from) node range = one_says _ tt
-wants_say state.Recovering node range =
-    All-map Says (query_to node range) (recovery_of node range).awaiting (λ k d below. tt)
-
-pub pieces_say : (node : Node) (pieces : List (ℕ × Piece)) → All Says (flat_map (λ e. wants_by e.1.state node e.1.range) pieces)
-pieces_say node [] = All-nil Says
-pieces_say node (e ∷ es) =
-    All-append Says (wants_by e.1.state node e.1.range) (flat_map (λ x. wants_by x.1.state node x.1.range) es)
-    (wants_say e.1.state node e.1.range) (pieces_say node es)
+pub wants_say : (node : Node) → All Says (all_wants node)
+wants_say node = each_want Says node (λ from range. tt) (λ range silo. tt) (λ silo range ranges. tt)
 
 -- ---- rings
 abbrev pub OfSilos : List Point → Type 0

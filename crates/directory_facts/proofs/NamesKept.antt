@@ -30,7 +30,7 @@ use Rattle.directory_rules.specs.Recovery.{new_recovery, recovered}
 use Rattle.directory_rules.specs.Host.{entry_of, held_of, next_held, with_started, with_closing, with_find, without_find, without_held, confirmed, renewed, renewed_about}
 use Rattle.directory_rules.specs.Answer.{serving_piece, answered}
 use Rattle.directory_rules.specs.Node.{new_node}
-use Rattle.directory_rules.specs.Sent.{all_requests, all_wants, new_wants, gathering_of, recovery_of, query_letters}
+use Rattle.directory_rules.specs.Sent.{all_requests, all_wants, gathering_of, recovery_of, query_letters}
 use Rattle.directory_rules.specs.Step as at
 use Rattle.directory_rules.specs.Transfer as tr
 use Rattle.directory_rules.specs.Input.{Input}
@@ -47,11 +47,11 @@ use Rattle.directory_facts.proofs.SeenRings.{seen_facts, seen_keep, stay}
 use Rattle.directory_facts.proofs.Places.{added_is}
 use Rattle.directory_facts.proofs.Collected.{found_or}
 use Rattle.directory_facts.proofs.Emptied.{as_report, by_each_beside, by_nothing}
-use Rattle.directory_facts.proofs.Surveys.{all_new_wants, all_tellings}
+use Rattle.directory_facts.proofs.Surveys.{all_tellings}
 use Rattle.directory_facts.proofs.PiecesKept.{base_facts}
 use Rattle.directory_facts.proofs.StandingEntries.{all_reported}
 use Rattle.directory_facts.proofs.NamedTables.{AllNamed, table_named, handed_named, GatheredNamed, gathered_named, RecoveredNamed, recovered_named, NamesAct}
-use Rattle.directory_facts.proofs.Names.{Names, NamesOf, NamesBody, Says, SharedNames, named_facts, one_says, request_says, requests_say, requests_of_grain_say, pieces_say, OfSilos, ring_silos}
+use Rattle.directory_facts.proofs.Names.{Names, NamesOf, NamesBody, Says, SharedNames, named_facts, one_says, request_says, requests_say, requests_of_grain_say, wants_say, OfSilos, ring_silos}
 use Rattle.directory_facts.proofs.NamedSights.{arcs_from, pieces_named, pieces_await, shelf_named, gatherings_anew, recoveries_anew}
 use Rattle.directory_facts.proofs.NamedAnswers.{tables_set, awaited_set, answered_by}
 
@@ -125,8 +125,7 @@ module _ (settings : Settings) (views : ViewsValue) (places : PlacesValue) (silo
           gathered_so = gatherings_anew view made.holding.pieces;
           recovered_so = recoveries_anew view made.holding.pieces;
         },
-        All-append Says (new_wants made) (all_requests made)
-            (all_new_wants Says made (λ from range. tt) (λ range silo. tt) (λ silo ranges. tt)) (requests_say made held),
+        All-append Says (all_wants made) (all_requests made) (wants_say made) (requests_say made held),
       )
 
   nudged : NamesOf (record node { host = renewed node.host }) × All Says
@@ -135,8 +134,7 @@ module _ (settings : Settings) (views : ViewsValue) (places : PlacesValue) (silo
       let made = record node { host = renewed node.host } in
       let held = still made.host.held (renewed_are node.host) in (
         host_so (renewed node.host) names.silo held,
-        All-append Says (all_requests made) (all_wants made) (requests_say made held)
-            (pieces_say made made.holding.pieces),
+        All-append Says (all_requests made) (all_wants made) (requests_say made held) (wants_say made),
       )
 
   nudged_about : (grain : Grain) → NamesOf (record node { host = renewed_about grain node.host }) × All Says
@@ -281,7 +279,7 @@ module _ (settings : Settings) (views : ViewsValue) (places : PlacesValue) (silo
     forgets = λ grain activation hint brings. (names, none);
     nudges = λ numbers brings. nudged;
     nudges_grain = λ grain numbers brings. nudged_about grain;
-    nudges_ranges = λ brings. (names, pieces_say node node.holding.pieces);
+    nudges_ranges = λ brings. (names, wants_say node);
     answers = λ letter request body sender version brings. (answered_so letter request body brings.1, one_says _ tt);
     confirms =
         λ letter number entry e is there brings. (

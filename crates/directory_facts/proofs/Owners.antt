@@ -14,15 +14,13 @@ use Rattle.directory_rules.specs.declared.act.Act.{Act}
 use Rattle.directory_rules.specs.declared.act.Act.TheVariants as act
 use Rattle.directory_rules.specs.declared.held.Held.{Held}
 use Rattle.directory_rules.specs.declared.held.Phase.TheVariants.{Firm}
-use Rattle.directory_rules.specs.declared.piece_state.PieceState.{PieceState}
-use Rattle.directory_rules.specs.declared.piece_state.PieceState.TheVariants as state
 use Rattle.directory_rules.specs.Settings.{Settings}
-use Rattle.directory_rules.specs.State.{Piece, Snapshot, Page, Host, Letter, Body, Request_letter, Offer_letter, Node}
+use Rattle.directory_rules.specs.State.{Snapshot, Page, Host, Letter, Body, Request_letter, Offer_letter, Node}
 use Rattle.directory_rules.specs.Sight.{is_next}
 use Rattle.directory_rules.specs.Snapshot.{Hands_page, Has_none, Is_behind, page_count, page_of, page_from, is_snapshot, shelf_answer}
 use Rattle.directory_rules.proofs.Cases.{on_bool}
 use Rattle.directory_rules.specs.Host.{outstanding, requests_about, entry_of, next_held, next_closing, with_started, with_closing, with_find, without_find, without_held, confirmed, renewed, renewed_about}
-use Rattle.directory_rules.specs.Sent.{letter_to, letter_if_owned, owner_by, hash_of, request_of, request_letters, all_requests, requests_of_grain, recovery_of, wants_by, all_wants, new_wants, query_to}
+use Rattle.directory_rules.specs.Sent.{letter_to, letter_if_owned, owner_by, hash_of, request_of, request_letters, all_requests, requests_of_grain, recovery_of, all_wants, query_to}
 use Rattle.directory_rules.specs.Step as at
 use Rattle.directory_rules.specs.Transfer as tr
 use Rattle.directory_facts.specs.Own.{IsOwnNode, NamesOwn, IsOwnLetter}
@@ -30,7 +28,7 @@ use Rattle.directory_facts.proofs.Carried.{Facts, Keeps}
 use Rattle.directory_facts.proofs.Ways.{MayBegin, Ways}
 use Rattle.directory_facts.proofs.EachStep.{by_way}
 use Rattle.directory_facts.proofs.Emptied.{LeavesElse, leaves_else}
-use Rattle.directory_facts.proofs.Surveys.{all_new_wants, all_tellings}
+use Rattle.directory_facts.proofs.Surveys.{all_tellings, each_want}
 use Rattle.directory_facts.proofs.Hosts.{Once, once_held, once_started, once_set, once_less, once_renewed, once_renewed_about, outstanding_own, requests_about_own}
 
 -- the node is its silo's, by the settings, and holds one activation a grain
@@ -94,17 +92,9 @@ queries_own settings node range silos =
 one_own : (settings : Settings) (letter : Letter) → IsOwnLetter settings letter → AllOwn settings (letter ∷ [])
 one_own settings letter own = All-cons (IsOwnLetter settings) letter [] own (All-nil (IsOwnLetter settings))
 
-wants_own : (its : PieceState) (settings : Settings) (node : Node) (range : Range) → AllOwn settings (wants_by its node range)
-wants_own state.Settled settings node range = All-nil (IsOwnLetter settings)
-wants_own (state.Awaiting from) settings node range = one_own settings _ tt
-wants_own state.Recovering settings node range = queries_own settings node range (recovery_of node range).awaiting
-
-pieces_own : (settings : Settings) (node : Node) (pieces : List (ℕ × Piece))
-    → AllOwn settings (flat_map (λ e. wants_by e.1.state node e.1.range) pieces)
-pieces_own settings node [] = All-nil (IsOwnLetter settings)
-pieces_own settings node (e ∷ es) =
-    All-append (IsOwnLetter settings) (wants_by e.1.state node e.1.range) (flat_map (λ x. wants_by x.1.state node x.1.range) es)
-    (wants_own e.1.state settings node e.1.range) (pieces_own settings node es)
+wants_own : (settings : Settings) (node : Node) → AllOwn settings (all_wants node)
+wants_own settings node =
+    each_want (IsOwnLetter settings) node (λ from range. tt) (λ range silo. tt) (λ silo range ranges. tt)
 
 -- ---- pages
 found_passes : {X : Type 0} (test : X → Bool) (xs : List X) (x : X) → find test xs ≡ Some x → test x ≡ true
@@ -190,8 +180,7 @@ module _ (settings : Settings) (silo : Silo) (node : Node) (own : OwnNode settin
     sees = λ before view places newer numbers.
         let made = at.sight (is_next node.view before view node.host.silo) node before view places in (
           renewed_so,
-          All-append (IsOwnLetter settings) (new_wants made.node) (all_requests made.node)
-              (all_new_wants (IsOwnLetter settings) made.node (λ from range. tt) (λ range silo. tt) (λ silo ranges. tt))
+          All-append (IsOwnLetter settings) (all_wants made.node) (all_requests made.node) (wants_own settings made.node)
               (all_requests_own settings made.node own.by_settings),
         );
     wakes = λ grain may. begun grain None may;
@@ -225,13 +214,13 @@ module _ (settings : Settings) (silo : Silo) (node : Node) (own : OwnNode settin
         let made = record node { host = renewed node.host } in (
           renewed_so,
           All-append (IsOwnLetter settings) (all_requests made) (all_wants made) (all_requests_own settings made own.by_settings)
-              (pieces_own settings made made.holding.pieces),
+              (wants_own settings made),
         );
     nudges_grain = λ grain numbers. (
       host_so (renewed_about grain node.host) refl (once_renewed_about grain node.host own.once),
       requests_of_grain_own settings (record node { host = renewed_about grain node.host }) grain own.by_settings,
     );
-    nudges_ranges = (own, pieces_own settings node node.holding.pieces);
+    nudges_ranges = (own, wants_own settings node);
     answers = λ letter request body sender version. (own, sends _ tt);
     confirms =
         λ letter number entry e is there. (
