@@ -4,11 +4,10 @@ use Rattle.std.specs.Prelude.{Bool, true, All, flat_map, fold, length}
 use Rattle.std.specs.Ordering.{nat_cmp}
 use Rattle.std.specs.List.{filter_map, cons_option}
 use Rattle.std.specs.BTreeMap.{insert_entry}
-use Rattle.std.proofs.lemmas.List.Elements.{All-nil, All-cons, All-head, All-tail, All-append, All-map, All-filter, filter_passes}
+use Rattle.std.proofs.lemmas.List.Elements.{All-nil, All-cons, All-head, All-tail, All-append, All-filter, filter_passes}
 use Rattle.std.proofs.lemmas.Map.Lookups.{exact_unsigned}
 use Rattle.silo_address.specs.Silo.{Silo}
 use Rattle.silo_address.specs.Grain.{Grain, grain_eq}
-use Rattle.ring_range.specs.Range.{Range}
 use Rattle.directory_protocol.specs.Setting.{Setting}
 use Rattle.directory_protocol.specs.World as protocol
 use Rattle.directory_protocol.specs.Effects.{run}
@@ -18,17 +17,15 @@ use Rattle.directory_rules.specs.declared.effect.Effect.TheVariants.{Nudged}
 use Rattle.directory_rules.specs.declared.held.Held.{Held}
 use Rattle.directory_rules.specs.declared.held.Phase.{Phase}
 use Rattle.directory_rules.specs.declared.held.Phase.TheVariants.{Asking, Firm, Closing}
-use Rattle.directory_rules.specs.declared.piece_state.PieceState.{PieceState}
-use Rattle.directory_rules.specs.declared.piece_state.PieceState.TheVariants as state
-use Rattle.directory_rules.specs.State.{Host, Piece, Letter, Node, World}
+use Rattle.directory_rules.specs.State.{Host, Letter, Node, World}
 use Rattle.directory_rules.specs.Host.{grain_of, held_acts, find_acts, act_in, entry_of, outstanding, new_number, renewed, requests_about, new_number_about, renewed_about}
-use Rattle.directory_rules.specs.Sent.{request_of, request_letters, all_requests, requests_of_grain, recovery_of, wants_by, all_wants, new_wants, query_to}
+use Rattle.directory_rules.specs.Sent.{request_of, request_letters, all_requests, requests_of_grain, all_wants}
 use Rattle.directory_rules.specs.Step.{having_nudged, having_nudged_grain, nudge_ranges}
 use Rattle.directory_facts.proofs.Entries.{all_put}
-use Rattle.directory_facts.proofs.Surveys.{all_new_wants}
+use Rattle.directory_facts.proofs.Surveys.{each_want}
 use Rattle.directory_headline.specs.Shown.{IsShownLetter, IsShownRequest}
 use Rattle.directory_headline.proofs.Actors.{leaves_run}
-use Rattle.directory_headline.proofs.Frame.{Here, Moves, stays, alive, node_facts, node_shown, host_is, seen_is, no_letters, one_letter}
+use Rattle.directory_headline.proofs.Frame.{Here, Moves, stays, alive, node_facts, node_shown, host_is, seen_is, no_letters}
 use Rattle.directory_headline.proofs.Hosts.{host_changes, request_shown}
 use Rattle.directory_headline.proofs.NewNumbers.{IsRenewal, IsSent}
 use Rattle.directory_headline.proofs.Renewals.{sends_anew}
@@ -107,24 +104,8 @@ about_shown m node later grain version silo seen its sent =
 
 -- what pieces want is always shown
 module _ (m : Setting) (later : protocol.World) (node : Node) where
-  wants_shown : (its : PieceState) (range : Range) → All (IsShownLetter m.hash later) (wants_by its node range)
-  wants_shown state.Settled range = no_letters (IsShownLetter m.hash later)
-  wants_shown (state.Awaiting from) range = one_letter (IsShownLetter m.hash later) _ tt
-  wants_shown state.Recovering range =
-      All-map (IsShownLetter m.hash later) (query_to node range) (recovery_of node range).awaiting
-      (λ k d below. tt)
-
-  pieces_shown : (pieces : List (ℕ × Piece)) → All (IsShownLetter m.hash later) (flat_map (λ e. wants_by e.1.state node e.1.range) pieces)
-  pieces_shown [] = no_letters (IsShownLetter m.hash later)
-  pieces_shown (e ∷ es) =
-      All-append (IsShownLetter m.hash later) (wants_by e.1.state node e.1.range) (flat_map (λ x. wants_by x.1.state node x.1.range) es)
-      (wants_shown e.1.state e.1.range) (pieces_shown es)
-
-  pub all_wants_shown : All (IsShownLetter m.hash later) (all_wants node)
-  all_wants_shown = pieces_shown node.holding.pieces
-
-  pub new_wants_shown : All (IsShownLetter m.hash later) (new_wants node)
-  new_wants_shown = all_new_wants (IsShownLetter m.hash later) node (λ from range. tt) (λ range silo. tt) (λ silo ranges. tt)
+  pub wants_shown : All (IsShownLetter m.hash later) (all_wants node)
+  wants_shown = each_want (IsShownLetter m.hash later) node (λ from range. tt) (λ range silo. tt) (λ silo range ranges. tt)
 
 module _ (m : Setting) (f : World) (w : protocol.World) (silo : Silo) (node : Node) (here : Here m f w silo node) where
   -- these requests are sent anew, and there are these letters
@@ -153,7 +134,7 @@ module _ (m : Setting) (f : World) (w : protocol.World) (silo : Silo) (node : No
       (all_renewed node.host (node_facts m f w silo node here).numbered) (all_requests made ++ all_wants made)
       (λ later sent. All-append (IsShownLetter m.hash later) (all_requests made) (all_wants made)
       (requests_shown m made later (w.seen silo) silo (seen_is m f w silo node here) (sym (host_is m f w silo node here)) sent)
-      (all_wants_shown m later made))
+      (wants_shown m later made))
 
   pub nudges_grain : (grain : Grain) → Moves m w silo (having_nudged_grain (record node { host = renewed_about grain node.host }) grain)
   nudges_grain grain =
@@ -165,4 +146,4 @@ module _ (m : Setting) (f : World) (w : protocol.World) (silo : Silo) (node : No
       sent)
 
   pub nudges_ranges : Moves m w silo (nudge_ranges node)
-  nudges_ranges = stays m w silo (nudge_ranges node) (node_shown m f w silo node here) (all_wants_shown m w node)
+  nudges_ranges = stays m w silo (nudge_ranges node) (node_shown m f w silo node here) (wants_shown m w node)

@@ -28,7 +28,7 @@ use Rattle.directory_rules.specs.Gatherings.{new_gathering}
 use Rattle.directory_rules.specs.Recovery.{new_recovery}
 use Rattle.directory_rules.specs.Sight.{was_settled, kept_entries, shelf_after}
 use Rattle.directory_rules.specs.Host.{outstanding, new_number, renewed}
-use Rattle.directory_rules.specs.Sent.{all_requests, new_wants}
+use Rattle.directory_rules.specs.Sent.{all_requests, all_wants}
 use Rattle.directory_rules.specs.Step.{gathering_in, recovery_in, new_gatherings, new_recoveries, node_after, sight}
 use Rattle.directory_rules.proofs.Cases.{on_bool}
 use Rattle.directory_facts.proofs.Carried.{IsSight}
@@ -48,7 +48,7 @@ use Rattle.directory_headline.proofs.SettledPiece.{grain_below}
 use Rattle.directory_headline.proofs.SightPieces.{IsSealed}
 use Rattle.directory_headline.proofs.Renewals.{sends_anew}
 use Rattle.directory_headline.proofs.Distinct.{all_renewed}
-use Rattle.directory_headline.proofs.Nudges.{requests_shown, new_wants_shown}
+use Rattle.directory_headline.proofs.Nudges.{requests_shown, wants_shown}
 use Rattle.directory_headline.proofs.Sights as sights
 
 -- ---- what begins anew
@@ -229,6 +229,6 @@ module _ (m : Setting) (f : World) (w : protocol.World) (silo : Silo) (node : No
           recoveries = recoveries_still m seen later grows made.recoveries (recoveries_anew m seen view member by_address after);
         };
         letters =
-            All-append (IsShownLetter m.hash later) (new_wants made) (all_requests made) (new_wants_shown m later made)
+            All-append (IsShownLetter m.hash later) (all_wants made) (all_requests made) (wants_shown m later made)
             (requests_shown m made later (seen.seen silo) silo version (sym its) sends.sent);
       }
