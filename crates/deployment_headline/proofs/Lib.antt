@@ -15,10 +15,12 @@ pub mod Listings
 pub mod PlacesTold
 pub mod Beginnings
 pub mod Sound
+pub mod OtherSettings
+pub mod OtherDeployments
 pub mod Limits
-pub mod Roomy
 pub mod Unlimited
 pub mod Runs
+pub mod Choices
 pub mod MayBegin
 pub mod Called
 pub mod Worked

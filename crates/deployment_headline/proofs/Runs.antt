@@ -36,7 +36,7 @@ use Rattle.deployment_headline.proofs.Unlimited.{headline_under}
 use Rattle.deployment_headline.proofs.Memberships.{Leads}
 use Rattle.deployment_headline.proofs.MirrorChanges.{goes_on}
 use Rattle.deployment_headline.proofs.StepEvents.{moves, told_agrees}
-use Rattle.deployment_headline.proofs.Roomy.{deployed_same}
+use Rattle.deployment_headline.proofs.Limits.{deployed_same}
 use Rattle.deployment_headline.proofs.Sound.{Sound, sound_first, its_process, keeps}
 use Rattle.deployment_headline.proofs.Worlds.{its_node, make, its_letter, HasWritten, letter_there, IsOneEvent}
 

@@ -32,7 +32,7 @@ use Rattle.deployment_headline.specs.Steps.{Step, IsStep, after, after_all, depl
 use Rattle.deployment_headline.specs.Theorems.{nodes_of, world_of}
 use Rattle.deployment_headline.specs.Tokens.{IsHeld, IsFirm, NeverFall, PassDeaths, TokensOfEventsFence, TokensOfProcessesFence}
 use Rattle.deployment_headline.proofs.Lists.{over-over, lookup-over}
-use Rattle.deployment_headline.proofs.Roomy.{deployed_same}
+use Rattle.deployment_headline.proofs.Limits.{deployed_same}
 use Rattle.deployment_headline.proofs.Runs.{Makes, run_on, settings_stay, written_grow, makes, made_so, sound_after, has_settings, one_more, steps_are_plain}
 use Rattle.deployment_headline.proofs.Sound.{Sound, sound_first, its_process}
 use Rattle.deployment_headline.proofs.StepEvents.{moves}

@@ -2,6 +2,7 @@ pub mod Deployment
 pub mod Steps
 pub mod Limits
 pub mod Theorems
+pub mod Choices
 pub mod Calls
 pub mod Tokens
 pub mod Worked

@@ -1,6 +1,7 @@
-//! The laws. All but the last five hold after any steps of a deployment, from its first moment on: letters that come late, again, in
+//! The laws. All but the last six hold after any steps of a deployment, from its first moment on: letters that come late, again, in
 //! another order, astray, or never.
 ghost use Rattle.deployment_headline.specs.Calls.{CallsAreSteps};
+ghost use Rattle.deployment_headline.specs.Choices.{ChoicesAreOnesOwn};
 ghost use Rattle.deployment_headline.specs.Theorems.{DeploymentsAreRuns, LimitsDoNotMatter, ProcessesAreBehind, ProcessesAreOwn, ProcessesMayBegin, ProcessesKeepOneFirm, ProcessesKeepTheHeadline, StepsArePlain, WrittenAreOwn};
 ghost use Rattle.deployment_headline.specs.Tokens.{TokensOfEventsFence, TokensOfProcessesFence};
 ghost use Rattle.deployment_headline.specs.Worked.{WorkedDeployment};
@@ -57,6 +58,11 @@ pub fn tokens_of_processes_fence()
 /// A deployment's steps look at no limit on events or letters.
 pub fn limits_do_not_matter()
     ensures { LimitsDoNotMatter }
+{}
+
+/// Silos of one deployment may differ in whether they ask by surveys: each heeds its own choice alone, step by step and letter by letter.
+pub fn choices_are_ones_own()
+    ensures { ChoicesAreOnesOwn }
 {}
 
 /// Each call of a silo that a server embeds is a step of the deployment that it is of.
