@@ -34,11 +34,11 @@ not_same : (q s : Silo) → q ≢ s → silo_eq q s ≡ false
 not_same q s apart =
     on_bool (λ b. silo_eq q s ≡ b → b ≡ false) (silo_eq q s) (λ t is. absurd (apart ((Decides-silo q s).0 is))) (λ f is. refl) refl
 
-abbrev staying : List (Silo × Status) → List (Silo × Status)
+abbrev pub staying : List (Silo × Status) → List (Silo × Status)
 staying rows = filter (λ row. not (is_dead_status row.1)) rows
 
 -- who stands below all of them isn't among them
-not_among : (q : Silo) (rows : List (Silo × Status)) → AllByRecursion (λ s. silo_cmp q s ≡ Less) (keys_of rows)
+pub not_among : (q : Silo) (rows : List (Silo × Status)) → AllByRecursion (λ s. silo_cmp q s ≡ Less) (keys_of rows)
     → is_among q (keys_of (staying rows)) ≡ false
 not_among q [] above = refl
 not_among q (e ∷ es) above =

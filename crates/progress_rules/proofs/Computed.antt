@@ -11,7 +11,7 @@ use Rattle.progress_rules.specs.Hasty.{HastyNudgesWait, PartNudgesDoNot}
 use Rattle.progress_rules.specs.RoomWorked.{BoundIsReached}
 use Rattle.progress_rules.specs.Reversed.{ReversedNeedsTwo}
 use Rattle.progress_rules.specs.Paged.{PagesReachTheBound}
-use Rattle.progress_rules.specs.Surveyed.{SurveyReachesTheBound}
+use Rattle.progress_rules.specs.Surveyed.{SurveysStayWithinTheBound}
 use Rattle.progress_rules.specs.Wrong.{ComesBackAlone, ComesBackByPages, PageIsNotAskedOn, QueryOfTheVersionIsBehind, ReportIsNotStruckOff, ReportsFromTheStart}
 
 pub plan_computed : PlanComputes
@@ -54,13 +54,14 @@ pub pages_computed : PagesReachTheBound
 unfolding run happens cut_parts stated_hash digits sha256 hash_after compress rounds schedule first_words digest_bytes
 pages_computed = refl
 
-pub survey_computed : SurveyReachesTheBound
+pub survey_computed : SurveysStayWithinTheBound
 unfolding run happens cut_parts stated_hash digits sha256 hash_after compress rounds schedule first_words digest_bytes
 survey_computed = record {
   emptied_by_two = refl;
   emptied_is_settled = refl;
   surveyed_by_one = refl;
   surveyed_is_not = refl;
+  fewer = refl;
   reached = refl;
 }
 

@@ -83,7 +83,7 @@ module _ (hashing : Hashing) (node : Node) (has : HasPieces hashing node) where
       (table_nil hashing range))
       refl
 
-  emptied_has : (letter : Letter) (range : Range) → HasPieces hashing (told_nothing letter node range)
+  pub emptied_has : (letter : Letter) (range : Range) → HasPieces hashing (told_nothing letter node range)
   emptied_has letter range =
       by_nothing letter node range (HasPieces hashing) has
       (λ recovery so. with_recovery_has recovery (subst (RecoveredInto hashing range) so.1 (into letter range)))

@@ -20,7 +20,7 @@ use Rattle.directory_rules.specs.Table.{table_of}
 use Rattle.directory_rules.specs.Snapshot.{ShelfAnswer, Hands_page, Is_behind, is_snapshot, has_snapshot, shelf_answer, shelf_without}
 use Rattle.directory_rules.specs.Host as host
 use Rattle.directory_rules.specs.Host.{next_held, entry_of}
-use Rattle.directory_rules.specs.Sent.{query_to, request_letters, all_requests, requests_of_grain, all_wants, new_wants}
+use Rattle.directory_rules.specs.Sent.{query_to, request_letters, all_requests, requests_of_grain, all_wants}
 use Rattle.directory_rules.specs.Step.{Stepped, silently, sight, started}
 use Rattle.directory_rules.specs.Sight.{is_next}
 use Rattle.directory_rules.specs.Input.{Input, Does, Receives, step}
@@ -30,12 +30,12 @@ use Rattle.directory_rules.proofs.Cases.{on_bool}
 use Rattle.directory_facts.proofs.Ways.{Ways}
 use Rattle.directory_facts.proofs.EachStep.{by_way}
 use Rattle.directory_facts.proofs.Emptied.{leaves_else}
-use Rattle.directory_facts.proofs.Surveys.{all_new_wants, all_tellings}
+use Rattle.directory_facts.proofs.Surveys.{all_tellings, each_want}
 use Rattle.progress_rules.specs.Gathers.{AwaitsFrom}
 use Rattle.progress_rules.specs.Room.{answers_of}
 use Rattle.progress_rules.proofs.Gathers.{set_awaits}
 use Rattle.progress_rules.proofs.TakesPage.{found_test}
-use Rattle.progress_rules.proofs.Questions.{IsQuestion, sent_question, query_questions, request_questions, grain_questions, want_questions}
+use Rattle.progress_rules.proofs.Questions.{IsQuestion, sent_question, query_questions, request_questions, grain_questions}
 use Rattle.progress_rules.proofs.ShelfFalls.{is_for, handed}
 
 -- ---- what is said
@@ -121,6 +121,10 @@ module _ (node : Node) where
   ask_tell : (after : Node) (letters : List Letter) → All IsQuestion letters → AllTell after letters
   ask_tell after letters all =
       All-weaker IsQuestion (λ l. Tells l.body l node after) (λ l asks. question_tells l.body l node after asks) letters all
+
+  want_tell : (after : Node) → AllTell after (all_wants after)
+  want_tell after =
+      each_want (λ l. Tells l.body l node after) after (λ from range. tt) (λ range silo. tt) (λ silo range ranges. tt)
 
   page_tells : (letter : Letter) (range : Range) (number : ℕ) (page : Page)
       → shelf_answer node.shelf node.view.version letter.version range letter.from number ≡ Hands_page page
@@ -208,8 +212,7 @@ module _ (node : Node) where
         let after = (sight (is_next node.view before view node.host.silo) node before view places).node in
         record {
           tells =
-              All-append (λ l. Tells l.body l node after) (new_wants after) (all_requests after)
-              (all_new_wants (λ l. Tells l.body l node after) after (λ from range. tt) (λ range silo. tt) (λ silo ranges. tt))
+              All-append (λ l. Tells l.body l node after) (all_wants after) (all_requests after) (want_tell after)
               (ask_tell after (all_requests after) (request_questions after));
           keeps = λ seen. let same = ap (λ (v : ViewValue). v.version) seen in absurd (omega (arith, same, newer));
           view = inl newer;
@@ -224,15 +227,14 @@ module _ (node : Node) where
     nudges = λ numbers.
         let after = record node { host = host.renewed node.host } in
         sends (Does Nudge) after (all_requests after ++ all_wants after) effect.Nudged refl refl
-        (ask_tell after (all_requests after ++ all_wants after)
-        (All-append IsQuestion (all_requests after) (all_wants after) (request_questions after)
-        (want_questions after)));
+        (All-append (λ l. Tells l.body l node after) (all_requests after) (all_wants after)
+        (ask_tell after (all_requests after) (request_questions after)) (want_tell after));
     nudges_grain = λ grain numbers.
         let after = record node { host = host.renewed_about grain node.host } in
         sends (Does (NudgeGrain grain)) after (requests_of_grain after grain) effect.Nudged refl refl
         (ask_tell after (requests_of_grain after grain) (grain_questions after grain));
     nudges_ranges =
-        sends (Does NudgeRanges) node (all_wants node) effect.Nudged refl refl (ask_tell node (all_wants node) (want_questions node));
+        sends (Does NudgeRanges) node (all_wants node) effect.Nudged refl refl (want_tell node);
     answers = λ letter request body sender version. sends (Receives letter) _ _ _ refl refl (one_tells _ _ tt);
     confirms = λ letter number entry e is there. silent (Receives letter) _ _ refl refl;
     yields = λ letter number entry e is there. silent (Receives letter) _ _ refl refl;

@@ -150,4 +150,4 @@ numbers_suffice settings world r suffice silo node its early =
     (enough world.settings world.accepted node few early (subst NumbersSuffice (sym same) suffice))
 
 pub directories_have_numbers : DirectoriesHaveNumbers
-directories_have_numbers hashing points cache = omega arith
+directories_have_numbers hashing points cache = (omega arith, omega arith)

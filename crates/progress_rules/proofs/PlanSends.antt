@@ -25,7 +25,7 @@ use Rattle.progress_rules.proofs.Synced.{synced_seen}
 use Rattle.progress_rules.proofs.Sums.{le_same, sum_plus, sum_times}
 use Rattle.progress_rules.proofs.AreTold.{Base, base_of}
 use Rattle.progress_rules.proofs.Falls.{left_after, need_of, need}
-use Rattle.progress_rules.proofs.NudgeSends.{awaited_of}
+use Rattle.progress_rules.proofs.WantSums.{awaited_of}
 use Rattle.progress_rules.proofs.PageFalls.{left_each}
 use Rattle.progress_rules.proofs.Passed.{one_report}
 use Rattle.progress_rules.proofs.Reporting.{first_reporting, settled_reporting}

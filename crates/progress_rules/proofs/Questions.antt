@@ -1,5 +1,6 @@
--- Questions: requests, asks and queries, each of which has one answer. They are no offers, and are what a nudge sends.
-use Rattle.std.proofs.Common.{arith, ◌≡◌, refl, ℕ, List, [], ◌∷◌, length}
+-- Questions: requests, asks and queries, each of which has one answer; and what pieces want, which has answers too. They are no offers, and are
+-- what a nudge sends.
+use Rattle.std.proofs.Common.{arith, ◌≡◌, refl, ℕ, ◌≤◌, List, [], ◌∷◌, length}
 use Rattle.std.specs.Prelude.{flat_map, All, Option, Some, None}
 use Rattle.std.proofs.lemmas.List.Elements.{All-nil, All-cons, All-head, All-tail, All-append, All-map, All-weaker}
 use Rattle.std.proofs.lemmas.List.Sums.{sum_by-cons}
@@ -7,11 +8,10 @@ use Rattle.silo_address.specs.Silo.{Silo}
 use Rattle.silo_address.specs.Grain.{Grain}
 use Rattle.ring_range.specs.Range.{Range}
 use Rattle.directory_rules.specs.declared.act.Act.{Act}
-use Rattle.directory_rules.specs.declared.piece_state.PieceState.{PieceState}
-use Rattle.directory_rules.specs.declared.piece_state.PieceState.TheVariants as state
-use Rattle.directory_rules.specs.State.{Piece, Letter, Body, Request_letter, Ask_letter, Offer_letter, Node}
+use Rattle.directory_rules.specs.State.{Letter, Body, Request_letter, Offer_letter, Node}
 use Rattle.directory_rules.specs.Host.{outstanding, requests_about}
-use Rattle.directory_rules.specs.Sent.{letter_to, letter_if_owned, owner_by, hash_of, request_of, request_letters, gathering_of, recovery_of, query_to, query_letters, wants_by, all_requests, requests_of_grain, all_wants}
+use Rattle.directory_rules.specs.Sent.{letter_to, letter_if_owned, owner_by, hash_of, request_of, request_letters, recovery_of, query_to, query_letters, all_requests, requests_of_grain, all_wants}
+use Rattle.directory_facts.proofs.Surveys.{each_want}
 use Rattle.progress_rules.specs.Room.{answers_of, offers_of}
 use Rattle.progress_rules.proofs.FreshWith.{sent_with, none_sent}
 
@@ -61,13 +61,26 @@ pub query_questions : (node : Node) (range : Range) → All IsQuestion (query_le
 query_questions node range =
     All-map IsQuestion (query_to node range) (recovery_of node range).awaiting (λ k d below. refl)
 
-wanted_questions : (its : PieceState) (node : Node) (range : Range) → All IsQuestion (wants_by its node range)
-wanted_questions state.Settled node range = All-nil IsQuestion
-wanted_questions (state.Awaiting from) node range =
-    All-cons IsQuestion (letter_to from node (Ask_letter range (gathering_of node range).next)) [] refl (All-nil IsQuestion)
-wanted_questions state.Recovering node range = query_questions node range
+-- ---- what pieces want has an answer at least
+abbrev pub HasAnswers : Letter → Type 0
+HasAnswers letter = 1 ≤ answers_of letter.body
 
-pub want_questions : (node : Node) → All IsQuestion (all_wants node)
-want_questions node =
-    all_flat IsQuestion (λ (e : ℕ × Piece). wants_by e.1.state node e.1.range) (λ e. wanted_questions e.1.state node e.1.range)
-    node.holding.pieces
+want_answers : (node : Node) → All HasAnswers (all_wants node)
+want_answers node =
+    each_want HasAnswers node (λ from range. omega arith) (λ range silo. omega arith) (λ silo range ranges. omega arith)
+
+fewer : (letters : List Letter) → All HasAnswers letters → length letters ≤ sent_with answers_of letters
+fewer [] all = omega arith
+fewer (letter ∷ letters) all =
+    let here = All-head HasAnswers letter letters all in
+    let rest = fewer letters (All-tail HasAnswers letter letters all) in
+    let parts = sum_by-cons (λ (l : Letter). answers_of l.body) letter letters in
+    omega (arith, here, rest, parts)
+
+pub wants_fewer : (node : Node) → length (all_wants node) ≤ sent_with answers_of (all_wants node)
+wants_fewer node = fewer (all_wants node) (want_answers node)
+
+pub wants_offer_none : (node : Node) → sent_with offers_of (all_wants node) ≡ 0
+wants_offer_none node =
+    none_sent offers_of (all_wants node)
+    (each_want (λ (l : Letter). offers_of l.body ≡ 0) node (λ from range. refl) (λ range silo. refl) (λ silo range ranges. refl))

@@ -36,7 +36,8 @@ use Rattle.progress_rules.proofs.Sums.{sum_plus}
 use Rattle.progress_rules.proofs.Potential.{potential, nodes_stay}
 use Rattle.progress_rules.proofs.Reporting.{Reporting, size_above, delivered_reporting, nudged_reporting}
 use Rattle.progress_rules.proofs.DeliveryFalls.{nodes_sorted, potential_falls, requests_fall, fresh_falls}
-use Rattle.progress_rules.proofs.NudgeSends.{by_values, awaited_of, asked_by_nudge, nudge_few, potential_grows, requests_stay, fresh_grows}
+use Rattle.progress_rules.proofs.WantSums.{awaited_of, by_values}
+use Rattle.progress_rules.proofs.NudgeSends.{asked_by_nudge, nudge_few, potential_grows, requests_stay, fresh_grows}
 
 -- ---- what a settle keeps: bounds of the letters that are sent, of the requests that are outstanding, and of the events
 pub record Within (b : Base) (sends asks events : ℕ) (world : World) : Type 0 where

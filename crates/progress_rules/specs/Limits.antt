@@ -3,7 +3,7 @@ use Rattle.std.specs.Prelude.{◌≡◌, ◌⊎◌, ℕ, ◌+◌, ◌*◌, ◌�
 use Rattle.silo_address.specs.Silo.{Silo}
 use Rattle.membership_view.specs.declared.status.Status.TheVariants.{Active}
 use Rattle.hash_ring.specs.declared.Hashing.{Hashing}
-use Rattle.directory_rules.specs.Settings.{Settings, AreSettings, directory_settings}
+use Rattle.directory_rules.specs.Settings.{Settings, AreSettings, directory_settings, silo_settings}
 use Rattle.directory_rules.specs.Event.{Event, IsEvent}
 use Rattle.directory_rules.specs.State.{World}
 use Rattle.directory_rules.specs.Happens.{status_now}
@@ -26,9 +26,9 @@ NumbersSuffice settings = settings.events * (settings.activations + settings.fin
 abbrev pub NumbersNeverRefuse : Type 0
 NumbersNeverRefuse = (settings : Settings) (events : List Event) (number : ℕ) → AreSettings settings → NumbersSuffice settings → All IsEvent events → plan (run_from_start settings events).world ≡ Err number → IsLimit number
 
--- a directory's own settings have them
+-- a directory's own settings have them, and those of a silo by itself
 abbrev pub DirectoriesHaveNumbers : Type 0
-DirectoriesHaveNumbers = (hashing : Hashing) (points cache : ℕ) → NumbersSuffice (directory_settings hashing points cache)
+DirectoriesHaveNumbers = (hashing : Hashing) (points cache : ℕ) → NumbersSuffice (directory_settings hashing points cache) × NumbersSuffice (silo_settings hashing points cache)
 
 -- there is an Active silo
 pub record HasActive (world : World) : Type 0 where

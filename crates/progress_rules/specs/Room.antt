@@ -141,9 +141,10 @@ abbrev pub pages_awaited : World → ℕ
 pages_awaited world = over_nodes (λ node. over_pieces (pages_left world node) node) world
 
 -- ---- the bounds
--- So many letters the plan needs at most. Each letter that is fresh has its answers; each question that a nudge sends is a letter and has
--- one; an offer makes a request; a page is asked for and answered, and so is a report; where there is no snapshot, each member is asked for
--- all of its own; and in the second round what is still outstanding is asked once more.
+-- So many letters the plan needs at most, by queries or by surveys. Each letter that is fresh has its answers; each question that a nudge
+-- sends is a letter and has one, and a survey takes no more letters than a query and a report for each of its ranges; an offer makes a
+-- request; a page is asked for and answered, and so is a report; where there is no snapshot, each member is asked for all of its own; and in
+-- the second round what is still outstanding is asked once more.
 abbrev pub letters_needed : World → ℕ
 letters_needed world =
     fresh_with answers_of world + 2 * fresh_with offers_of world + 2 * requests_out world + 2 * reports_missing world + 2 * snapshots_awaited world + 2 * pages_awaited world
