@@ -1,6 +1,6 @@
 -- What a node sends goes from a silo to silos.
-use Rattle.std.proofs.Common.{◌≡◌, ℕ, List, [], ◌∷◌, refl, sym, ap, subst}
-use Rattle.std.specs.Prelude.{Bool, true, false, cond, nat_le, not, All, IfSome, Option, Some, None, filter, flat_map, fold, length, map}
+use Rattle.std.proofs.Common.{arith, ◌≡◌, ◌≢◌, ◌≤◌, ℕ, zero, suc, List, [], ◌∷◌, refl, sym, ap, subst}
+use Rattle.std.specs.Prelude.{take, Bool, true, false, cond, nat_le, not, All, IfSome, Option, Some, None, filter, flat_map, fold}
 use Rattle.std.specs.List.{filter_map, cons_option}
 use Rattle.std.specs.Map.{keys_of}
 use Rattle.std.specs.Option.{option_map}
@@ -25,10 +25,10 @@ use Rattle.directory_rules.specs.declared.held.Phase.TheVariants.{Asking, Firm, 
 use Rattle.directory_rules.specs.declared.piece_state.PieceState.{PieceState}
 use Rattle.directory_rules.specs.declared.piece_state.PieceState.TheVariants as state
 use Rattle.directory_rules.specs.Members.{is_dead_status, members_of}
-use Rattle.directory_rules.specs.State.{Piece, Recovery, Host, Letter, Body, Request_letter, Query_letter, Survey_letter, Node}
+use Rattle.directory_rules.specs.State.{Recovery, Host, Letter, Body, Request_letter, Query_letter, Survey_letter, Node}
 use Rattle.directory_rules.specs.Recovery.{new_recovery, told_by}
 use Rattle.directory_rules.specs.Host.{grain_of, entry_of, act_in, held_acts, find_acts, outstanding, requests_about}
-use Rattle.directory_rules.specs.Sent.{letter_to, letter_if_owned, owner_by, hash_of, request_of, request_letters, all_requests, requests_of_grain, recovery_of, query_to, query_letters, wants_by, all_wants, asks_by, recovering_ranges, most_queried, survey_letters, new_wants}
+use Rattle.directory_rules.specs.Sent.{letter_to, letter_if_owned, owner_by, hash_of, request_of, request_letters, all_requests, requests_of_grain, recovery_of, query_to, query_letters, all_wants, asks_by, survey_size}
 use Rattle.directory_rules.specs.Settings.{Settings}
 use Rattle.directory_rules.proofs.Cases.{on_bool}
 use Rattle.directory_facts.specs.Named.{IsNamed, AwaitsSilo}
@@ -36,6 +36,7 @@ use Rattle.directory_facts.specs.Seen.{SeesItsVersion}
 use Rattle.directory_facts.proofs.Collected.{found_or}
 use Rattle.directory_facts.proofs.Entries.{all_put, found_so}
 use Rattle.directory_facts.proofs.Names.{NamesOf, SharedNames, OfSilos, place_silo, ring_silos, owner_named}
+use Rattle.directory_facts.proofs.Surveys as wants
 use Rattle.directory_facts.proofs.SeenRings.{AreViews}
 use Rattle.process_deployment.proofs.SayableFacts.{Asks, AsksOn, Tells, Goes, Replaces, Looks, Waits, Sends}
 
@@ -168,6 +169,12 @@ pub awaited_asks : (node : Node) → All IsSilo (members_of node.view) → All W
 awaited_asks node members waits range =
     found_or AsksOn (is_at (nat_cmp range.start)) (new_recovery node.view range) node.recoveries waits (new_asks node.view range members)
 
+-- ---- parts of surveys
+-- the first ranges of some are some
+first_some : (most : ℕ) (range : Range) (ranges : List Range) → 1 ≤ most → take most (range ∷ ranges) ≢ []
+first_some zero range ranges some none = absurd (omega arith)
+first_some (suc more) range ranges some none = cc none
+
 -- ---- all of it
 module _ (node : Node) (its : Knows node) (sends : Sends node.host node.recoveries) where
   pub requests_go : All Goes (all_requests node)
@@ -187,63 +194,24 @@ module _ (node : Node) (its : Knows node) (sends : Sends node.host node.recoveri
       sent node its silo (Query_letter range (told_by silo (recovery_of node range))) is
       (told_grain silo (recovery_of node range) (asks_on range))
 
+  to_awaited : (range : Range) → All (λ silo. Goes (query_to node range silo)) (recovery_of node range).awaiting
+  to_awaited range =
+      All-weaker IsSilo (λ silo. Goes (query_to node range silo)) (query_goes range) (recovery_of node range).awaiting (asks_on range).silos
+
   pub queries_go : (range : Range) → All Goes (query_letters node range)
-  queries_go range =
-      All-map Goes (query_to node range) (recovery_of node range).awaiting
-      (All-weaker IsSilo (λ silo. Goes (query_to node range silo)) (query_goes range) (recovery_of node range).awaiting
-      (asks_on range).silos)
+  queries_go range = All-map Goes (query_to node range) (recovery_of node range).awaiting (to_awaited range)
 
-  want_goes : (its_state : PieceState) (range : Range) → AwaitsSilo its_state → All Goes (wants_by its_state node range)
-  want_goes state.Settled range awaits = none_goes
-  want_goes (state.Awaiting from) range awaits = one_goes _ (sent node its from _ awaits tt)
-  want_goes state.Recovering range awaits = queries_go range
-
-  pieces_go : (pieces : List (ℕ × Piece)) → All (λ e. AwaitsSilo e.1.state) pieces
-      → All Goes (flat_map (λ e. wants_by e.1.state node e.1.range) pieces)
-  pieces_go [] all = none_goes
-  pieces_go (e ∷ es) all =
-      All-append Goes (wants_by e.1.state node e.1.range) (flat_map (λ x. wants_by x.1.state node x.1.range) es)
-      (want_goes e.1.state e.1.range (All-head (λ (x : ℕ × Piece). AwaitsSilo x.1.state) e es all))
-      (pieces_go es (All-tail (λ (x : ℕ × Piece). AwaitsSilo x.1.state) e es all))
-
-  pub wants_go : All Goes (all_wants node)
-  wants_go = pieces_go node.holding.pieces its.awaited
-
-  -- ---- what new pieces want
   ask_goes : (its_state : PieceState) (range : Range) → AwaitsSilo its_state → All Goes (asks_by its_state node range)
   ask_goes state.Settled range awaits = none_goes
   ask_goes (state.Awaiting from) range awaits = one_goes _ (sent node its from _ awaits tt)
   ask_goes state.Recovering range awaits = none_goes
 
-  asks_go : (pieces : List (ℕ × Piece)) → All (λ e. AwaitsSilo e.1.state) pieces
-      → All Goes (flat_map (λ e. asks_by e.1.state node e.1.range) pieces)
-  asks_go [] all = none_goes
-  asks_go (e ∷ es) all =
-      All-append Goes (asks_by e.1.state node e.1.range) (flat_map (λ x. asks_by x.1.state node x.1.range) es)
-      (ask_goes e.1.state e.1.range (All-head (λ (x : ℕ × Piece). AwaitsSilo x.1.state) e es all))
-      (asks_go es (All-tail (λ (x : ℕ × Piece). AwaitsSilo x.1.state) e es all))
+  survey_goes : (silo : Silo) → IsSilo silo → wants.Surveys Goes node silo
+  survey_goes silo is range ranges =
+      sent node its silo (Survey_letter (take survey_size (range ∷ ranges))) is (first_some survey_size range ranges (omega arith))
 
-  all_queries_go : (ranges : List Range) → All Goes (flat_map (query_letters node) ranges)
-  all_queries_go [] = none_goes
-  all_queries_go (range ∷ ranges) =
-      All-append Goes (query_letters node range) (flat_map (query_letters node) ranges) (queries_go range) (all_queries_go ranges)
-
-  survey_goes : (ranges : List Range) → nat_le (length ranges) most_queried ≡ false → (silo : Silo) → IsSilo silo
-      → Goes (letter_to silo node (Survey_letter ranges))
-  survey_goes [] many silo is = absurd (cc many)
-  survey_goes (range ∷ ranges) many silo is = sent node its silo (Survey_letter (range ∷ ranges)) is (λ none. cc none)
-
-  surveys_go : (ranges : List Range) → All Goes (survey_letters node ranges)
-  surveys_go ranges =
-      on_bool (λ b. All Goes (cond b (flat_map (query_letters node) ranges)
-      (map (λ silo. letter_to silo node (Survey_letter ranges)) (members_of node.view)))) (nat_le (length ranges) most_queried)
-      (λ few. all_queries_go ranges)
-      (λ many. All-map Goes (λ silo. letter_to silo node (Survey_letter ranges)) (members_of node.view)
-      (All-weaker IsSilo (λ silo. Goes (letter_to silo node (Survey_letter ranges))) (survey_goes ranges many) (members_of node.view)
-      its.members))
-
-  pub new_wants_go : All Goes (new_wants node)
-  new_wants_go =
-      All-append Goes (flat_map (λ e. asks_by e.1.state node e.1.range) node.holding.pieces)
-      (survey_letters node (recovering_ranges node.holding.pieces)) (asks_go node.holding.pieces its.awaited)
-      (surveys_go (recovering_ranges node.holding.pieces))
+  pub wants_go : All Goes (all_wants node)
+  wants_go =
+      wants.all_wanted Goes node to_awaited
+      (All-weaker IsSilo (wants.Surveys Goes node) survey_goes (members_of node.view) its.members) node.holding.pieces
+      (All-weaker (λ e. AwaitsSilo e.1.state) (wants.Asks Goes node) (λ e awaits. ask_goes e.1.state e.1.range awaits) node.holding.pieces its.awaited)

@@ -31,7 +31,7 @@ use Rattle.directory_rules.specs.Receive.{replying}
 use Rattle.directory_rules.specs.Recovery.{new_recovery, recovered}
 use Rattle.directory_rules.specs.Host.{entry_of, held_of, next_held, with_started, next_closing, with_closing, with_find, without_find, without_held, confirmed, renewed, renewed_phase, new_number, renewed_about, held_renewed_about, new_number_about}
 use Rattle.directory_rules.specs.Node.{new_node}
-use Rattle.directory_rules.specs.Sent.{recovery_of, all_requests, all_wants, new_wants}
+use Rattle.directory_rules.specs.Sent.{recovery_of, all_requests, all_wants}
 use Rattle.directory_rules.specs.Step as at
 use Rattle.directory_rules.specs.Transfer as tr
 use Rattle.directory_rules.specs.Input.{Input}
@@ -46,7 +46,7 @@ use Rattle.directory_facts.proofs.Emptied.{by_nothing, by_each_beside}
 use Rattle.directory_facts.proofs.Ways.{Ways}
 use Rattle.process_deployment.proofs.SayableAnswers.{answers, handed_digest, StillAsks, recovered_asks}
 use Rattle.process_deployment.proofs.SayableFacts.{AsksOn, Tells, IsOnSilo, Goes, Replaces, Looks, Waits, Sends, sent_facts}
-use Rattle.process_deployment.proofs.SayableSending.{Knows, knows, view_silos, one_goes, none_goes, sent, request_goes, requests_go, requests_of_grain_go, new_asks, awaited_asks, asks_on, query_goes, queries_go, wants_go, new_wants_go}
+use Rattle.process_deployment.proofs.SayableSending.{Knows, knows, view_silos, one_goes, none_goes, sent, request_goes, requests_go, requests_of_grain_go, new_asks, awaited_asks, asks_on, query_goes, queries_go, wants_go}
 
 -- ---- recoveries that begin anew
 anew : (view : ViewValue) → All IsSilo (members_of view) → (pieces : List (ℕ × Piece)) → All Waits (at.new_recoveries view pieces)
@@ -229,7 +229,7 @@ module _ (settings : Settings) (views : ViewsValue) (places : PlacesValue) (silo
       let members = subst (λ (v : ViewValue). All IsSilo (members_of v)) (sym sight.is_view) (view_silos settings views places sight.version shared.0.1 shared.1) in
       let makes : Sends made.host made.recoveries = anew_with (at.new_recoveries view made.holding.pieces) (anew view members made.holding.pieces) in (
         makes,
-        All-append Goes (new_wants made) (all_requests made) (new_wants_go made (after made so) makes)
+        All-append Goes (all_wants made) (all_requests made) (wants_go made (after made so) makes)
             (requests_go made (after made so) makes),
       )
 
