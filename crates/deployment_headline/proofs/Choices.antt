@@ -20,18 +20,18 @@ use Rattle.deployment_headline.proofs.Lists.{over, over-over, insert-over}
 use Rattle.deployment_headline.proofs.OtherDeployments as others
 use Rattle.deployment_headline.proofs.Runs.{processes_keep_one_firm}
 
-abbrev same : ℕ → ℕ
+abbrev pub same : ℕ → ℕ
 same n = n
 
 -- what a silo chose, said of all silos
-abbrev chosen : Silo → Surveyors → Surveyors
+abbrev pub chosen : Silo → Surveyors → Surveyors
 chosen silo its = surveyors_of (is_surveyor its silo)
 
 said_of_all : (silo : Silo) (b : Bool) → is_surveyor (surveyors_of b) silo ≡ b
 said_of_all silo true = refl
 said_of_all silo false = refl
 
-agrees : (silo : Silo) (its : Surveyors) → is_surveyor (chosen silo its) silo ≡ is_surveyor its silo
+pub agrees : (silo : Silo) (its : Surveyors) → is_surveyor (chosen silo its) silo ≡ is_surveyor its silo
 agrees silo its = said_of_all silo (is_surveyor its silo)
 
 -- twice is once

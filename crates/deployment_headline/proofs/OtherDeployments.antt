@@ -106,7 +106,7 @@ module _ (events letters : ℕ → ℕ) (choose : Silo → Surveyors → Surveyo
       ap (λ ps. record (R d) { changes = d.changes ++ c ∷ []; membership = membership; processes = ps }) (processes_same sets_up d c)
 
   -- ---- what a process is told
-  told_same : (s : SiloValue) (version : ℕ) (c : Change)
+  pub told_same : (s : SiloValue) (version : ℕ) (c : Change)
       → told (P s).node.settings (P s).membership version c ≡ told s.node.settings s.membership version c
   told_same s version c =
       let m = s.membership in
@@ -121,7 +121,7 @@ module _ (events letters : ℕ → ℕ) (choose : Silo → Surveyors → Surveyo
       ap (λ ps. record (R d) { processes = ps }) (insert-over P silo_cmp d.processes silo (record s { membership = its.membership }))
 
   -- ---- what a process begins with
-  view_same : (s : SiloValue) (silo : Silo) (version : ℕ) (rows : List Listed)
+  pub view_same : (s : SiloValue) (silo : Silo) (version : ℕ) (rows : List Listed)
       → told_view (P s).node.settings (P s).membership silo version rows ≡ told_view s.node.settings s.membership silo version rows
   view_same s silo version rows =
       let its = s.node.settings in
@@ -167,7 +167,7 @@ module _ (events letters : ℕ → ℕ) (choose : Silo → Surveyors → Surveyo
   barred_same None r = refl
   barred_same (Some number) r = refl
 
-  does_same : (s : SiloValue) (input : Input) → does (P s) input ≡ Q (does s input)
+  pub does_same : (s : SiloValue) (input : Input) → does (P s) input ≡ Q (does s input)
   does_same s input =
       ap (λ r. unless_barred (barred s) r) (steps_same events letters choose agrees s.node input) ∙ barred_same (barred s) (step s.node input)
 
@@ -181,10 +181,10 @@ module _ (events letters : ℕ → ℕ) (choose : Silo → Surveyors → Surveyo
       by true false = refl
       by true true = steps_same events letters choose agrees s.node (sight_of s.membership version)
 
-  sees_same : (s : SiloValue) (version : ℕ) → sees (P s) version ≡ Q (sees s version)
+  pub sees_same : (s : SiloValue) (version : ℕ) → sees (P s) version ≡ Q (sees s version)
   sees_same s version = ap (λ r. unless_barred (barred s) r) (seen_same s version) ∙ barred_same (barred s) (alone.seen s version)
 
-  receives_same : (s : SiloValue) (letter : Letter) → receives (P s) letter ≡ Q (receives s letter)
+  pub receives_same : (s : SiloValue) (letter : Letter) → receives (P s) letter ≡ Q (receives s letter)
   receives_same s letter = by (silo_eq letter.to s.node.host.silo)
     where
       by : (its : Bool) → (if its then does (P s) (Receives letter) else Ok (silently (P s).node Ignored)) ≡ Q

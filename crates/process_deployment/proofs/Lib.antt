@@ -8,6 +8,7 @@ mod Silent
 mod Answers
 mod Everyone
 mod Outputs
+mod Choices
 mod Lists
 mod DecidedViews
 mod Moving

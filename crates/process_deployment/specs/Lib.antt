@@ -3,6 +3,7 @@ pub mod Cluster
 pub mod Steps
 pub mod Allowed
 pub mod Theorems
+pub mod Choices
 pub mod Worked
 pub mod Begun
 pub mod Wrong

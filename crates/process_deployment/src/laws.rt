@@ -1,6 +1,7 @@
 //! The laws. All but the last two hold after any steps of a cluster of processes, each started with any token or with none: lines come
 //! late, again, in another order, astray, faulty, or never.
 ghost use Rattle.process_deployment.specs.Begun.{BegunCluster};
+ghost use Rattle.process_deployment.specs.Choices.{OutputsHeedOnesOwnChoice};
 ghost use Rattle.process_deployment.specs.Firm.{FirmStays, LinesTellFirm};
 ghost use Rattle.process_deployment.specs.Started.{StartsAreRuns};
 ghost use Rattle.process_deployment.specs.Theorems.{ClustersAreDeployments, LinesArePlain, LinesKeepOneFirm, LinesKeepTheHeadline, LivingGoOn, ProcessesJoinByTheirTokens, ProcessesWriteTheirOutput};
@@ -68,6 +69,11 @@ pub fn unjoined_do_nothing()
 /// Each process has written exactly the output of all that it read.
 pub fn processes_write_their_output()
     ensures { ProcessesWriteTheirOutput }
+{}
+
+/// Processes of one cluster may differ in whether they ask by surveys: each writes what a program writes that has its own choice alone.
+pub fn outputs_heed_ones_own_choice()
+    ensures { OutputsHeedOnesOwnChoice }
 {}
 
 /// A process may be started, and read what was decided so far, before its silo's join is decided: that is such a run too, so all these laws
