@@ -7,4 +7,5 @@ pub mod Calls
 pub mod Tokens
 pub mod Worked
 pub mod WorkedTokens
+pub mod WorkedChoices
 pub mod Wrong

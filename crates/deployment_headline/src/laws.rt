@@ -1,10 +1,11 @@
-//! The laws. All but the last six hold after any steps of a deployment, from its first moment on: letters that come late, again, in
+//! The laws. All but the last seven hold after any steps of a deployment, from its first moment on: letters that come late, again, in
 //! another order, astray, or never.
 ghost use Rattle.deployment_headline.specs.Calls.{CallsAreSteps};
 ghost use Rattle.deployment_headline.specs.Choices.{ChoicesAreOnesOwn};
 ghost use Rattle.deployment_headline.specs.Theorems.{DeploymentsAreRuns, LimitsDoNotMatter, ProcessesAreBehind, ProcessesAreOwn, ProcessesMayBegin, ProcessesKeepOneFirm, ProcessesKeepTheHeadline, StepsArePlain, WrittenAreOwn};
 ghost use Rattle.deployment_headline.specs.Tokens.{TokensOfEventsFence, TokensOfProcessesFence};
 ghost use Rattle.deployment_headline.specs.Worked.{WorkedDeployment};
+ghost use Rattle.deployment_headline.specs.WorkedChoices.{WorkedChoices};
 ghost use Rattle.deployment_headline.specs.WorkedTokens.{WorkedTokens};
 
 /// Some events of the rule make a world with the deployment's views, places and letters, and its processes' nodes.
@@ -84,4 +85,9 @@ pub fn worked_deployment()
 /// where it died while that was firm. An activation that is given up is firm by no reply, whichever comes first.
 pub fn worked_tokens()
     ensures { WorkedTokens }
+{}
+
+/// Choices, worked out: of two silos of one deployment one asks by surveys and the other by queries, and either recovers what it owns.
+pub fn worked_choices()
+    ensures { WorkedChoices }
 {}
