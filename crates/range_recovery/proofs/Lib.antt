@@ -6,3 +6,4 @@ pub mod Reported
 pub mod Told
 pub mod Reports
 pub mod LastGrains
+pub mod Telling

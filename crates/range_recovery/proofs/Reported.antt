@@ -14,7 +14,7 @@ use Rattle.directory_rules.specs.Recovery.{is_among}
 use Rattle.directory_rules.proofs.Cases.{on_bool}
 use Rattle.range_recovery.specs.contracts.awaited.AwaitedPartialEq as awaited_eq
 use Rattle.range_recovery.specs.declared.awaited.Awaited.{Awaited}
-use Rattle.range_recovery.specs.Silos.{awaiting_of, reported_of, silos_of, has_reported, IsByAddress, IsSiloAt}
+use Rattle.range_recovery.specs.Silos.{AreAwaited, AwaitedValue, awaiting_of, reported_of, silos_of, has_reported, IsByAddress, IsSiloAt}
 use Rattle.range_recovery.proofs.Marks.{In-from_kept}
 
 abbrev row_of : Silo → Bool → Awaited
@@ -129,3 +129,19 @@ has_reported-at silos sorted silo index a stands read =
     ap (λ s. has_reported (record { awaiting = awaiting_of silos; reported = reported_of silos }) s) (sym same)
     ∙ has_reported-there silos (Rising-from_sorted silo_cmp (silos_of silos) sorted) a
     (In-from_place a silos index stands.within (sym read))
+
+-- a silo is awaited where it is asked and hasn't reported
+awaited_if : (reported awaited has : Bool) → (awaited ≡ true → reported ≡ true → ⊥) → answer reported awaited ≡ Some has → not has ≡ awaited
+awaited_if true true has apart told = absurd (apart refl refl)
+awaited_if true false true apart told = refl
+awaited_if true false false apart told = cc
+awaited_if false true true apart told = cc
+awaited_if false true false apart told = refl
+awaited_if false false has apart told = cc
+
+pub awaits_by : (silos : AwaitedValue) → AreAwaited silos → (silo : Silo) (has : Bool) → has_reported silos silo ≡ Some has
+    → not has ≡ is_among silo silos.awaiting
+awaits_by silos are silo has told =
+    awaited_if (is_among silo silos.reported) (is_among silo silos.awaiting) has
+    (λ waits done. are.apart silo (Contains-from_In silo silos.awaiting ((Decides-among silo silos.awaiting).0 waits))
+    (Contains-from_In silo silos.reported ((Decides-among silo silos.reported).0 done))) told

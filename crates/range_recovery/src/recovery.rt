@@ -1,6 +1,7 @@
-ghost use Rattle.std.specs.Prelude.{◌≡◌, ◌↔◌, ◌==◌, ◌&&◌, IsTrue, IfOk, IfErr, OnOk, OnErr, Ok, Some, true, false};
+ghost use Rattle.std.specs.Prelude.{◌≡◌, ◌↔◌, ◌==◌, ◌&&◌, filter, is_some, IsTrue, IfOk, IfErr, OnOk, OnErr, Ok, Some, true, false};
 ghost use Rattle.ring_range.specs.Range.{range_eq};
-ghost use Rattle.directory_rules.specs.Recovery.{new_recovery, recovered, told_by, with_last, with_more, with_report};
+ghost use Rattle.directory_rules.specs.Recovery.{is_among, new_recovery, recovered, told_by, with_last, with_more, with_report};
+ghost use Rattle.directory_rules.specs.Sent.{has_told_nothing};
 ghost use Rattle.range_recovery.specs.Silos.{has_reported, silos_in};
 ghost use Rattle.range_recovery.specs.Kept.{IsRecovery};
 ghost use Rattle.range_recovery.specs.Progress.{Reaches, Refuses, RefusesOrLacksMemory, after_one_more, nothing_of, progress_of};
@@ -83,6 +84,51 @@ impl Recovery {
         ensures { result ≡ told_by silo.now self.now }
     {
         self.told.get(silo).copied()
+    }
+
+    /// The silos that are awaited and have told a part, by address. Fails only when memory runs out; where nobody has told a part it
+    /// takes none.
+    pub fn telling(&self, alloc: Global) -> Result<Vec<SiloAddress>, AllocError>
+        ensures { IfOk result (λ silos. silos.items ≡ filter (λ silo. is_some (told_by silo self.now)) self.now.awaiting) }
+    {
+        if self.told.is_empty() {
+            return Ok(Vec::new(alloc));
+        }
+        let silos = self.silos.awaiting(alloc)?;
+        self.telling_of(alloc, &silos)
+    }
+
+    // Those of the silos that have told a part.
+    fn telling_of(
+        &self,
+        alloc: Global,
+        silos: &[SiloAddress],
+    ) -> Result<Vec<SiloAddress>, AllocError>
+        ensures { IfOk result (λ telling. telling.items ≡ filter (λ silo. is_some (told_by silo self.now)) silos.now) }
+    {
+        silos
+            .iter()
+            .filter(|silo| self.told_by(silo).is_some())
+            .copied()
+            .collect(alloc)
+    }
+
+    /// Whether the silo is awaited, and has told nothing yet.
+    pub fn has_told_nothing(&self, silo: &SiloAddress) -> bool
+        ensures { result ≡ has_told_nothing silo.now self.now }
+    {
+        self.awaits(silo) && self.told_by(silo).is_none()
+    }
+
+    // Whether the silo's last report is missing.
+    fn awaits(&self, silo: &SiloAddress) -> bool
+        ensures { result ≡ is_among silo.now self.now.awaiting }
+    {
+        self.silos.whole();
+        match self.silos.has_reported(silo) {
+            Some(has_reported) => !has_reported,
+            None => false,
+        }
     }
 
     /// What was reported so far.
