@@ -10,6 +10,7 @@ use Rattle.membership_view.specs.Views.{ViewsValue}
 use Rattle.ring_range.specs.Range.{Range, range_eq}
 use Rattle.ring_range.proofs.Same.{Decides-range}
 use Rattle.hash_ring.specs.Hash.{hash_grain}
+use Rattle.directory_rules.specs.Settings.{Settings}
 use Rattle.directory_rules.specs.State.{Gathering, Letter, Body, Report_letter, Page_letter, Missing_letter, Node, Snapshot}
 use Rattle.directory_rules.specs.Happens.{node_of}
 use Rattle.directory_rules.specs.Input.{Receives}
@@ -20,11 +21,12 @@ use Rattle.directory_rules.specs.Snapshot.{Hands_page, Has_none, Is_behind, is_s
 use Rattle.directory_rules.specs.Step.{Stepped}
 use Rattle.directory_rules.specs.Transfer.{answer_to, asked_by, report_of}
 use Rattle.directory_rules.proofs.Cases.{on_bool}
+use Rattle.directory_facts.specs.Pieces.{HasPieces}
 use Rattle.progress_rules.specs.Waits.{Awaits, IsFurther}
 use Rattle.progress_rules.specs.Gathers.{AwaitsFrom}
-use Rattle.progress_rules.specs.Covered.{IsQueryFor, IsReportFor}
+use Rattle.progress_rules.specs.Covered.{IsQueryFor, IsSurveyFor, IsReportFor, TellsReport}
 use Rattle.progress_rules.specs.Pages.{IsAskFor, IsPageFor, IsMissingFor}
-use Rattle.progress_rules.proofs.Covered.{answers_query, takes_report}
+use Rattle.progress_rules.proofs.Covered.{answers_ask, answers_query, takes_told, tells_to}
 use Rattle.progress_rules.proofs.TakesPage.{after_missing}
 use Rattle.progress_rules.proofs.Transfers.{takes_page}
 use Rattle.progress_rules.proofs.Two.{not_lower, queried_so}
@@ -35,7 +37,7 @@ use Rattle.deployment_headline.proofs.Limits.{stepped_with_room, steps_same}
 use Rattle.deployment_progress.proofs.States.{GoesOn}
 use Rattle.deployment_progress.proofs.Rest.{node_at, process_with, IsAtRest, its_settings}
 use Rattle.deployment_progress.proofs.Quiet.{letter_comes}
-use Rattle.deployment_progress.proofs.Later.{w, in_world, its_recoveries, its_version, its_settings_are, its_silo, stepped_on, got_end}
+use Rattle.deployment_progress.proofs.Later.{w, in_world, its_recoveries, its_pieces, its_version, its_settings_are, its_silo, stepped_on, got_end, got_right}
 
 -- ---- an ask at a shelf
 found_test : (P : Snapshot → Type 0) (test : Snapshot → Bool) (shelf : List Snapshot) (x : Snapshot) → All P shelf
@@ -151,24 +153,39 @@ module _ (d : Deployment) (r : IsAtRest d) where
         answer,
         wrote (after d (Receive silo index)) silo node query answer (came silo index query node is.to found there)
             (ap (λ (s : Stepped). s.letters) so),
-        answers_query d.settings node query d.membership.views.version owner range silo behind (its_settings d r)
-            (its_settings_are d r silo node there) (its_silo d r silo node there) (its_version d r silo node there) is,
+        answers_query d.settings node query d.membership.views.version owner range silo (its_settings d r)
+            (its_settings_are d r silo node there) (its_silo d r silo node there) (its_version d r silo node there) behind is,
       )
 
-  pub report_comes : (owner silo : Silo) (range : Range) (behind : Option Grain) (index : ℕ) (answer : Letter) (node after_it : Node)
+  -- a survey comes: one of the letters that are then written answers for the range
+  pub survey_comes : (owner silo : Silo) (range : Range) (behind : Option Grain) (index : ℕ) (survey : Letter) (node : Node)
+      → node_at d silo ≡ Some node → slice_get d.written index ≡ Some survey
+      → IsSurveyFor d.membership.views.version owner range silo behind survey
+      → (number : ℕ) × (answer : Letter) × (length d.written ≤ number)
+      × (slice_get (after d (Receive silo index)).written number ≡ Some answer)
+      × TellsReport d.settings.hashing d.membership.views.version owner range silo behind answer
+  survey_comes owner silo range behind index survey node there found is =
+      let so = answers_ask d.settings node survey d.membership.views.version owner range silo (its_settings d r) (its_settings_are d r silo node there) (its_silo d r silo node there) (its_version d r silo node there) behind (inr is) in
+      let c = came silo index survey node is.to found there in
+      let got = got_right d.written (received node survey).letters so.0 so.1 in
+      (got.0, so.0, got.1, ap (λ ls. slice_get ls got.0) c.written ∙ got.2, so.2)
+
+  -- the answer comes back
+  pub answer_told : (owner silo : Silo) (range : Range) (behind : Option Grain) (index : ℕ) (answer : Letter) (node after_it : Node)
       → node_at d owner ≡ Some node → slice_get d.written index ≡ Some answer
-      → IsReportFor d.settings.hashing d.membership.views.version owner range silo behind answer
+      → TellsReport d.settings.hashing d.membership.views.version owner range silo behind answer
       → Awaits node range silo → told_by silo (recovery_of node range) ≡ behind
       → node_at (after d (Receive owner index)) owner ≡ Some after_it → Awaits after_it range silo
       → IsFurther (hash_grain d.settings.hashing) range behind (told_by silo (recovery_of after_it range))
-  report_comes owner silo range behind index answer node after_it there found is before told at waits =
-      let c = came owner index answer node is.to found there in
+  answer_told owner silo range behind index answer node after_it there found tells before told at waits =
+      let c = came owner index answer node (tells_to d.settings.hashing d.membership.views.version owner range silo behind answer tells) found there in
       let put = c.there in
       let same : (received node answer).node ≡ after_it = cc (at, put) in
       let now : Awaits (received node answer).node range silo = subst (λ (n : Node). Awaits n range silo) (sym same) waits in
+      let pieces : HasPieces d.settings.hashing node = subst (λ (s : Settings). HasPieces s.hashing node) (w d r).settings (its_pieces d r owner node there) in
       subst (λ (n : Node). IsFurther (hash_grain d.settings.hashing) range behind (told_by silo (recovery_of n range))) same
-      (takes_report d.settings node answer d.membership.views.version owner range silo behind (its_settings_are d r owner node there)
-      (its_version d r owner node there) (its_recoveries d r owner node there) is before told now)
+      (takes_told d.settings node answer d.membership.views.version owner range silo behind (its_settings_are d r owner node there) pieces
+      (its_version d r owner node there) (its_recoveries d r owner node there) tells before told now)
 
   -- ---- an ask comes, and its answer comes back
   pub ask_comes : (pages : ℕ) (owner giver : Silo) (range : Range) (page index : ℕ) (ask : Letter) (node : Node)

@@ -1,7 +1,7 @@
 -- There and back: whatever happens between, by the answer to a query its silo is struck off or has told further, and the answer to an ask
 -- brings its page.
 use Rattle.std.proofs.Common.{arith, ◌≡◌, ℕ, ◌<◌, ◌≤◌, List, [], ◌∷◌, length, refl, sym, ap, ◌∙◌, subst, inl, inr}
-use Rattle.std.specs.Prelude.{slice_get, All, Option, Some}
+use Rattle.std.specs.Prelude.{slice_get, All, Option, Some, None}
 use Rattle.std.specs.Option.{option_map}
 use Rattle.std.proofs.lemmas.List.Elements.{All-cons, All-head}
 use Rattle.silo_address.specs.Silo.{Silo, silo_eq}
@@ -18,7 +18,7 @@ use Rattle.directory_rules.proofs.Cases.{on_bool}
 use Rattle.directory_rules.specs.Membership.{Membership}
 use Rattle.progress_rules.specs.Waits.{Recovers, Awaits, IsFurther, IsUpTo}
 use Rattle.progress_rules.specs.Gathers.{AwaitsFrom}
-use Rattle.progress_rules.specs.Covered.{IsQueryFor, IsReportFor}
+use Rattle.progress_rules.specs.Covered.{TellsReport}
 use Rattle.progress_rules.specs.Pages.{IsAskFor}
 use Rattle.progress_rules.proofs.Told.{up_to_both, further_up_to}
 use Rattle.deployment_headline.specs.Deployment.{Deployment}
@@ -27,14 +27,14 @@ use Rattle.deployment_headline.proofs.Runs.{settings_stay}
 use Rattle.deployment_headline.proofs.Sound.{keeps}
 use Rattle.deployment_headline.proofs.Worlds.{its_node}
 use Rattle.deployment_progress.specs.Quiet.{DecidesNone}
-use Rattle.deployment_progress.specs.Answers.{there_and_back, QueriesAreAnswered, AsksAreAnswered}
+use Rattle.deployment_progress.specs.Answers.{there_and_then, QueriesAreAnswered, SurveysAreAnswered, AsksAreAnswered}
 use Rattle.deployment_progress.specs.Waits.{WaitsForLess}
 use Rattle.deployment_progress.proofs.States.{not_settled_and_recovers}
 use Rattle.deployment_progress.proofs.Rest.{node_at, IsAtRest, its_sound}
 use Rattle.deployment_progress.proofs.Quiet.{Moves, quiet_moves, rests_on}
 use Rattle.deployment_progress.proofs.Later.{its_settings_are, IsLater, IsQuiet, quiet_rest, step_on, after_append, rests_after, later_so, stays_written, same_membership, starts_at_rest}
 use Rattle.deployment_progress.proofs.Shelves.{together, at_most}
-use Rattle.deployment_progress.proofs.Answered.{IsAnswerFor, query_comes, report_comes, ask_comes, answer_comes}
+use Rattle.deployment_progress.proofs.Answered.{IsAnswerFor, query_comes, survey_comes, answer_told, ask_comes, answer_comes}
 
 -- who has a node after a step had one before
 pub was_there : (d : Deployment) (st : Step) (next : Deployment) → Moves d st next → (silo : Silo) (node : Node)
@@ -69,9 +69,9 @@ module _ (d : Deployment) (r : IsAtRest d) (silo : Silo) (index : ℕ) (between 
   pub last_rests : IsAtRest last
   last_rests = rests_after asked asked_rests between q
 
-  pub last_is : after_all d (there_and_back d silo index between back) ≡ after last (Receive back (length d.written))
+  pub last_is : (answer : ℕ) → after_all d (there_and_then silo index between back answer) ≡ after last (Receive back answer)
   unfolding after_all
-  last_is = after_append asked between (Receive back (length d.written) ∷ [])
+  last_is answer = after_append asked between (Receive back answer ∷ [])
 
   steps_quiet : IsQuiet (Receive silo index ∷ between)
   steps_quiet =
@@ -92,19 +92,17 @@ module _ (d : Deployment) (r : IsAtRest d) (silo : Silo) (index : ℕ) (between 
   pub last_settings : last.settings ≡ d.settings
   last_settings = settings_stay asked (its_sound asked asked_rests) between ∙ (keeps d (its_sound d r) (Receive silo index)).settings
 
-  -- a query
-  pub query_back : (owner : Silo) (range : Range) (behind : Option Grain) (query : Letter) (asked_node own after_it : Node) → back ≡ owner
-      → node_at d silo ≡ Some asked_node → slice_get d.written index ≡ Some query
-      → IsQueryFor d.membership.views.version owner range silo behind query → node_at d owner ≡ Some own → Recovers own range
-      → IsUpTo (hash_grain own.settings.hashing) range behind (told_by silo (recovery_of own range))
-      → node_at (after last (Receive back (length d.written))) owner ≡ Some after_it → Awaits after_it range silo
+  -- an answer to a question for a report
+  pub told_back : (owner : Silo) (range : Range) (behind : Option Grain) (number : ℕ) (answer : Letter) (own after_it : Node)
+      → slice_get asked.written number ≡ Some answer
+      → TellsReport d.settings.hashing d.membership.views.version owner range silo behind answer → node_at d owner ≡ Some own
+      → Recovers own range → IsUpTo (hash_grain own.settings.hashing) range behind (told_by silo (recovery_of own range))
+      → node_at (after last (Receive owner number)) owner ≡ Some after_it → Awaits after_it range silo
       → IsFurther (hash_grain own.settings.hashing) range behind (told_by silo (recovery_of after_it range))
-  query_back owner range behind query asked_node own after_it to there found is its was up_to at waits =
-      let answer = query_comes d r owner silo range behind index query asked_node there found is in
-      let written = stays_written asked asked_rests between q (length d.written) answer.0 answer.1 in
-      let now : node_at (after last (Receive owner (length d.written))) owner ≡ Some after_it = subst (λ s. node_at (after last (Receive s (length d.written))) owner ≡ Some after_it) to at in
+  told_back owner range behind number answer own after_it found tells its was up_to now waits =
+      let written = stays_written asked asked_rests between q number answer found in
       let then = then_there owner own its in
-      let one = step_on last last_rests (Receive owner (length d.written)) (after last (Receive owner (length d.written))) (quiet_moves last last_rests (Receive owner (length d.written)) tt) owner then.node then.there in
+      let one = step_on last last_rests (Receive owner number) (after last (Receive owner number)) (quiet_moves last last_rests (Receive owner number) tt) owner then.node then.there in
       let put = one.there in
       let same : one.node ≡ after_it = cc (now, put) in
       let less : WaitsForLess then.node after_it = subst (WaitsForLess then.node) same one.less in
@@ -118,14 +116,31 @@ module _ (d : Deployment) (r : IsAtRest d) (silo : Silo) (index : ℕ) (between 
       (less.told range silo still waits) in
       elim up_to_then [
         | inl as_much ↦
-            let counts = report_comes last last_rests owner silo range behind (length d.written) answer.0 then.node after_it then.there written
-            (subst (λ (m : Membership). IsReportFor last.settings.hashing m.views.version owner range silo behind answer.0) (sym last_membership)
-            (subst (λ s. IsReportFor s.hashing d.membership.views.version owner range silo behind answer.0) (sym last_settings) answer.2))
+            let counts = answer_told last last_rests owner silo range behind number answer then.node after_it then.there written
+            (subst (λ (m : Membership). TellsReport last.settings.hashing m.views.version owner range silo behind answer) (sym last_membership)
+            (subst (λ s. TellsReport s.hashing d.membership.views.version owner range silo behind answer) (sym last_settings) tells))
             before as_much now waits in
             subst (λ (s : Settings). IsFurther (hash_grain s.hashing) range behind (told_by silo (recovery_of after_it range)))
             (last_settings ∙ sym (its_settings_are d r owner own its)) counts
         | inr further ↦ further_up_to hash range behind told (told_by silo (recovery_of after_it range)) further up_to_last
       ]
+
+  -- and once more as a law says it, by the settings of all
+  pub told_by_all : (owner : Silo) (range : Range) (behind : Option Grain) (number : ℕ) (answer : Letter) (own after_it : Node)
+      → back ≡ owner → slice_get asked.written number ≡ Some answer
+      → TellsReport d.settings.hashing d.membership.views.version owner range silo behind answer → node_at d owner ≡ Some own
+      → Recovers own range → IsUpTo (hash_grain d.settings.hashing) range behind (told_by silo (recovery_of own range))
+      → node_at (after_all d (there_and_then silo index between back number)) owner ≡ Some after_it → Awaits after_it range silo
+      → IsFurther (hash_grain d.settings.hashing) range behind (told_by silo (recovery_of after_it range))
+  told_by_all owner range behind number answer own after_it to found tells its was up_to at waits =
+      let by_settings = its_settings_are d r owner own its in
+      let now : node_at (after last (Receive owner number)) owner ≡ Some after_it =
+      subst (λ s. node_at (after last (Receive s number)) owner ≡ Some after_it) to
+      (ap (λ x. node_at x owner) (sym (last_is number)) ∙ at) in
+      subst (λ (x : Settings). IsFurther (hash_grain x.hashing) range behind (told_by silo (recovery_of after_it range))) by_settings
+      (told_back owner range behind number answer own after_it found tells its was
+      (subst (λ (x : Settings). IsUpTo (hash_grain x.hashing) range behind (told_by silo (recovery_of own range))) (sym by_settings) up_to)
+      now waits)
 
   -- an ask
   pub ask_back : (pages : ℕ) (owner : Silo) (range : Range) (page : ℕ) (ask : Letter) (giving own after_it : Node) → back ≡ owner
@@ -159,14 +174,31 @@ queries_are_answered settings steps between are named seen named_between none ow
       written = its.1;
       report = its.2;
       further = λ t u own was up_to after_it waits.
-          let at = ap (option_map its_node) own in
-          let by_settings = its_settings_are d r owner t.node at in
-          subst (λ (x : Settings). IsFurther (hash_grain x.hashing) range behind (told_by silo (recovery_of u.node range))) by_settings
-          (query_back d r silo index between q owner owner range behind query s.node t.node u.node refl (ap (option_map its_node) there) found
-          is at was
-          (subst (λ (x : Settings). IsUpTo (hash_grain x.hashing) range behind (told_by silo (recovery_of t.node range))) (sym by_settings)
-          up_to)
-          (ap (λ x. node_at x owner) (sym (last_is d r silo index between q owner)) ∙ ap (option_map its_node) after_it) waits);
+          told_by_all d r silo index between q owner owner range behind (length d.written) its.0 t.node u.node refl its.1 (inl its.2)
+          (ap (option_map its_node) own) was up_to (ap (option_map its_node) after_it) waits;
+    }
+
+-- whoever has told nothing may have told anything
+anything : (hash : Grain → ℕ) (range : Range) (told : Option Grain) → IsUpTo hash range None told
+anything hash range None = inl refl
+anything hash range (Some grain) = inr refl
+
+pub surveys_are_answered : SurveysAreAnswered
+surveys_are_answered settings steps between are named seen named_between none owner silo s range index survey there found is =
+    let d = deployed settings steps in
+    let r = starts_at_rest settings steps are named seen in
+    let q : IsQuiet between = record { named = named_between; none = none } in
+    let its = survey_comes d r owner silo range None index survey s.node (ap (option_map its_node) there) found is in
+    record {
+      number = its.0;
+      answer = its.1;
+      later = its.2;
+      written = its.3;
+      tells = its.4;
+      further = λ t u own was after_it waits.
+          told_by_all d r silo index between q owner owner range None its.0 its.1 t.node u.node refl its.3 its.4 (ap (option_map its_node) own)
+          was (anything (hash_grain d.settings.hashing) range (told_by silo (recovery_of t.node range))) (ap (option_map its_node) after_it)
+          waits;
     }
 
 pub asks_are_answered : AsksAreAnswered
@@ -183,5 +215,5 @@ asks_are_answered settings steps between are named seen named_between none owner
       had = λ t u own late after_it waits.
           (ask_back d r giver index between q owner (together s.node.shelf) owner range page ask s.node t.node u.node refl giving
           (at_most s.node.shelf) found is (ap (option_map its_node) own) late
-          (ap (λ x. node_at x owner) (sym (last_is d r giver index between q owner)) ∙ ap (option_map its_node) after_it) waits).0;
+          (ap (λ x. node_at x owner) (sym (last_is d r giver index between q owner (length d.written))) ∙ ap (option_map its_node) after_it) waits).0;
     }

@@ -41,7 +41,7 @@ use Rattle.deployment_progress.proofs.Later.{w, in_world, its_version, its_silo,
 use Rattle.deployment_progress.proofs.Answered.{came, wrote}
 use Rattle.deployment_progress.proofs.Back.{was_there, was_there_first}
 use Rattle.deployment_progress.proofs.Nudged.{quiet_after, nudged_rests, nudge_taken, first_there, nudged_there, renewed_free, after_nudge}
-use Rattle.deployment_progress.proofs.Letters.{quiet_before, quiet_between, b_rests, l_rests, at_ask, at_last, quiet_end, next_rests, end_is}
+use Rattle.deployment_progress.proofs.Letters.{ComesBack, first_back, quiet_before, quiet_between, b_rests, l_rests, at_ask, at_last, quiet_end, next_rests, end_is}
 use Rattle.deployment_progress.proofs.Numbers.{its_numbered, Numbers, numbers_on, step_numbers, step_serves, numbers_later, served_later}
 
 -- ---- a request comes, and its reply
@@ -75,14 +75,17 @@ module _ (d : Deployment) (r : IsAtRest d) (silo : Silo) (steps : List Step) (q 
   abbrev b : Deployment
   b = after_all d a.before
 
+  abbrev c : ComesBack silo steps s.turn.index letter_it a.before (length b.written)
+  c = first_back d silo steps s.turn.index letter_it a
+
   abbrev own : Node
   own = s.process.node
 
   abbrev before_quiet : IsQuiet a.before
-  before_quiet = quiet_before d r silo steps q s.turn.index letter_it a node there
+  before_quiet = quiet_before d r silo steps q s.turn.index letter_it a.before (length b.written) c node there
 
   abbrev b_rest : IsAtRest b
-  b_rest = b_rests d r silo steps q s.turn.index letter_it a node there
+  b_rest = b_rests d r silo steps q s.turn.index letter_it a.before (length b.written) c node there
 
   own_there : node_at b s.turn.owner ≡ Some own
   own_there = ap (option_map its_node) s.there
@@ -122,7 +125,7 @@ module _ (d : Deployment) (r : IsAtRest d) (silo : Silo) (steps : List Step) (q 
       (ap (λ (t : Stepped). t.letters) (request_comes own node silo s.turn.owner e s.piece version_b own_facts))
 
   between : IsQuiet a.between
-  between = quiet_between d r silo steps q s.turn.index letter_it a node there
+  between = quiet_between d r silo steps q s.turn.index letter_it a.before (length b.written) c node there
 
   asked_rest : IsAtRest asked
   asked_rest = rests_on b b_rest (Receive s.turn.owner s.turn.index) tt tt
@@ -132,7 +135,7 @@ module _ (d : Deployment) (r : IsAtRest d) (silo : Silo) (steps : List Step) (q 
   l = after_all asked a.between
 
   abbrev l_rest : IsAtRest l
-  l_rest = l_rests d r silo steps q s.turn.index letter_it a node there
+  l_rest = l_rests d r silo steps q s.turn.index letter_it a.before (length b.written) c node there
 
   abbrev back : Step
   back = Receive silo (length b.written)
@@ -141,13 +144,13 @@ module _ (d : Deployment) (r : IsAtRest d) (silo : Silo) (steps : List Step) (q 
   next = after l back
 
   abbrev next_rest : IsAtRest next
-  next_rest = next_rests d r silo steps q s.turn.index letter_it a node there
+  next_rest = next_rests d r silo steps q s.turn.index letter_it a.before (length b.written) c node there
 
   abbrev asking : IsLater d r b silo node
-  asking = at_ask d r silo steps q s.turn.index letter_it a node there
+  asking = at_ask d r silo steps q s.turn.index letter_it a.before (length b.written) c node there
 
   abbrev last_it : IsLater b b_rest l silo asking.node
-  last_it = at_last d r silo steps q s.turn.index letter_it a node there
+  last_it = at_last d r silo steps q s.turn.index letter_it a.before (length b.written) c node there
 
   abbrev told : Node
   told = (received last_it.node reply).node
@@ -188,7 +191,7 @@ module _ (d : Deployment) (r : IsAtRest d) (silo : Silo) (steps : List Step) (q 
 
   pub not_owed : (last : Node) → node_at (after_all d steps) silo ≡ Some last → Owes last.host e → ⊥
   not_owed last at left =
-      let end = numbers_later next next_rest a.rest (quiet_end d r silo steps q s.turn.index letter_it a node there) silo told last told_there (ap (λ x. node_at x silo) (sym (end_is d r silo steps q s.turn.index letter_it a node there)) ∙ at) in
+      let end = numbers_later next next_rest a.rest (quiet_end d r silo steps q s.turn.index letter_it a.before (length b.written) c node there) silo told last told_there (ap (λ x. node_at x silo) (sym (end_is d r silo steps q s.turn.index letter_it a.before (length b.written) c node there)) ∙ at) in
       let below = All-contains (λ (x : ℕ × Act). x.0 < node.host.next_number) (requests_of node.host) e (its_numbered d r silo node there).below owes in
       let rises = to_told.rises in
       elim (end.owes e left) [ inl still ↦ not_told still | inr free ↦ omega (arith, free, below, rises) ]

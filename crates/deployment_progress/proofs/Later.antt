@@ -1,6 +1,7 @@
 -- Through whatever happens in the quiet a silo only waits for less, and what was written stays written.
-use Rattle.std.proofs.Common.{◌≡◌, ℕ, zero, suc, ◌+◌, List, [], ◌∷◌, ◌++◌, length, refl, sym, ap, ◌∙◌, subst, inl, inr}
-use Rattle.std.specs.Prelude.{slice_get, All, Some}
+use Rattle.std.proofs.Common.{arith, ◌≡◌, ℕ, zero, suc, ◌+◌, ◌<◌, ◌≤◌, List, [], ◌∷◌, ◌++◌, length, refl, sym, ap, ◌∙◌, subst, inl, inr}
+use Rattle.std.specs.Prelude.{slice_get, All, Contains, Some}
+use Rattle.std.specs.List.{slice_index_or}
 use Rattle.std.specs.Option.{option_map}
 use Rattle.std.proofs.lemmas.List.Elements.{All-nil, All-cons, All-head, All-tail}
 use Rattle.silo_address.specs.Silo.{Silo, silo_eq}
@@ -165,6 +166,20 @@ got_left (y ∷ xs) ys (suc k) x found = got_left xs ys k x found
 pub got_end : {X : Type 0} (xs ys : List X) (x : X) → slice_get (xs ++ x ∷ ys) (length xs) ≡ Some x
 got_end [] ys x = refl
 got_end (y ∷ xs) ys x = got_end xs ys x
+
+got_in : {X : Type 0} (xs : List X) (k : ℕ) (x : X) → k < length xs → slice_index_or xs k x ≡ x → slice_get xs k ≡ Some x
+got_in [] k x below is = absurd (omega (below, arith))
+got_in (y ∷ xs) zero x below is = ap Some is
+got_in (y ∷ xs) (suc k) x below is = got_in xs k x (omega (below, arith)) is
+
+pub got_right : {X : Type 0} (xs ys : List X) (x : X) → Contains ys x → (k : ℕ) × (length xs ≤ k) × (slice_get (xs ++ ys) k ≡ Some x)
+got_right [] ys x has = (has.0, omega arith, got_in ys has.0 x has.1 has.2)
+got_right (y ∷ xs) ys x has = let rest = got_right xs ys x has in let low = rest.1 in (suc rest.0, omega (arith, low), rest.2)
+
+pub got_below : {X : Type 0} (xs : List X) (k : ℕ) (x : X) → slice_get xs k ≡ Some x → k < length xs
+got_below [] k x found = absurd (cc (found))
+got_below (y ∷ xs) zero x found = omega arith
+got_below (y ∷ xs) (suc k) x found = let rest = got_below xs k x found in omega (arith, rest)
 
 -- ---- all of them
 pub record IsQuiet (steps : List Step) : Type 0 where

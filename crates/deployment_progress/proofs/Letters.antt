@@ -1,12 +1,13 @@
 -- A letter of a silo that is answered: the silo waits for less from when the letter comes to when the answer does, and on to the end.
-use Rattle.std.proofs.Common.{arith, ◌≡◌, ℕ, zero, suc, ◌<◌, ◌≤◌, List, [], ◌∷◌, ◌++◌, length, sym, ap, ◌∙◌, subst}
-use Rattle.std.specs.Prelude.{slice_get, Contains, Some}
-use Rattle.std.specs.List.{slice_index_or}
+use Rattle.std.proofs.Common.{arith, ◌≡◌, ℕ, ◌<◌, ◌≤◌, List, [], ◌∷◌, ◌++◌, length, sym, ap, ◌∙◌, subst, inl, inr}
+use Rattle.std.specs.Prelude.{Contains, Some}
+use Rattle.std.proofs.lemmas.List.Elements.{Contains-append_cases}
 use Rattle.silo_address.specs.Silo.{Silo}
 use Rattle.directory_rules.specs.State.{Letter, Node}
+use Rattle.progress_rules.proofs.Answered.{only_one}
 use Rattle.deployment_headline.specs.Deployment.{Deployment}
 use Rattle.deployment_headline.specs.Steps.{Step, Receive, after, after_all}
-use Rattle.deployment_progress.specs.Exchanges.{IsAnswered}
+use Rattle.deployment_progress.specs.Exchanges.{IsAnswered, IsAnsweredWhole}
 use Rattle.deployment_progress.specs.Waits.{WaitsForLess}
 use Rattle.deployment_progress.proofs.Less.{waits_on}
 use Rattle.deployment_progress.proofs.Rest.{node_at, IsAtRest}
@@ -14,41 +15,63 @@ use Rattle.deployment_progress.proofs.Quiet.{quiet_moves, rests_on}
 use Rattle.deployment_progress.proofs.Later.{IsLater, IsQuiet, quiet_first, quiet_last, quiet_rest, step_on, after_append, rests_after, later_so}
 use Rattle.deployment_progress.proofs.Back.{last_rests, then_there}
 
--- ---- letters that were written last
-got_in : {X : Type 0} (xs : List X) (k : ℕ) (x : X) → k < length xs → slice_index_or xs k x ≡ x → slice_get xs k ≡ Some x
-got_in [] k x below is = absurd (omega (below, arith))
-got_in (y ∷ xs) zero x below is = ap Some is
-got_in (y ∷ xs) (suc k) x below is = got_in xs k x (omega (below, arith)) is
+-- after those steps the letter comes, and later that answer comes back
+pub record ComesBack (silo : Silo) (steps : List Step) (index : ℕ) (letter : Letter) (before : List Step) (answer : ℕ) : Type 0 where
+  pub between : List Step
+  pub rest : List Step
+  pub is : steps ≡ before ++ (Receive letter.to index ∷ (between ++ (Receive silo answer ∷ rest)))
 
-pub got_right : {X : Type 0} (xs ys : List X) (x : X) → Contains ys x → (k : ℕ) × (length xs ≤ k) × (slice_get (xs ++ ys) k ≡ Some x)
-got_right [] ys x has = (has.0, omega arith, got_in ys has.0 x has.1 has.2)
-got_right (y ∷ xs) ys x has = let rest = got_right xs ys x has in let low = rest.1 in (suc rest.0, omega (arith, low), rest.2)
+-- the first that was written, or any of all
+abbrev pub first_back : (d : Deployment) (silo : Silo) (steps : List Step) (index : ℕ) (letter : Letter)
+    (a : IsAnswered d silo steps index letter) → ComesBack silo steps index letter a.before (length (after_all d a.before).written)
+first_back d silo steps index letter a = record { between = a.between; rest = a.rest; is = a.is }
+
+-- where something stands in a list, there is what stands before it, and what behind
+pub split_at : {X : Type 0} (xs : List X) (x : X) → Contains xs x → (before : List X) × (behind : List X) × (xs ≡ before ++ x ∷ behind)
+split_at [] x has = absurd (omega (arith, has.1))
+split_at (y ∷ ys) x has =
+    elim (Contains-append_cases (y ∷ []) ys x has) [
+      | inl here ↦ ([], ys, ap (λ z. z ∷ ys) (only_one y x here))
+      | inr later ↦ let rest = split_at ys x later in (y ∷ rest.0, rest.1, ap (λ l. y ∷ l) rest.2)
+    ]
+
+pub each_back : (d : Deployment) (silo : Silo) (steps : List Step) (index : ℕ) (letter : Letter)
+    (a : IsAnsweredWhole d silo steps index letter) (answer : ℕ) → length (after_all d a.before).written ≤ answer
+    → answer < length (after (after_all d a.before) (Receive letter.to index)).written
+    → ComesBack silo steps index letter a.before answer
+each_back d silo steps index letter a answer low below =
+    let its = split_at a.later (Receive silo answer) (a.back answer low below) in
+    record {
+      between = its.0;
+      rest = its.1;
+      is = a.is ∙ ap (λ l. a.before ++ (Receive letter.to index ∷ l)) its.2;
+    }
 
 -- ---- a letter that is answered
 module _ (d : Deployment) (r : IsAtRest d) (silo : Silo) (steps : List Step) (q : IsQuiet steps) (index : ℕ) (letter : Letter)
-    (a : IsAnswered d silo steps index letter) (node : Node) (there : node_at d silo ≡ Some node) where
+    (before : List Step) (answer : ℕ) (a : ComesBack silo steps index letter before answer) (node : Node) (there : node_at d silo ≡ Some node) where
   abbrev b : Deployment
-  b = after_all d a.before
+  b = after_all d before
 
   abbrev back : Step
-  back = Receive silo (length b.written)
+  back = Receive silo answer
 
-  quiet_all : IsQuiet (a.before ++ (Receive letter.to index ∷ (a.between ++ (back ∷ a.rest))))
+  quiet_all : IsQuiet (before ++ (Receive letter.to index ∷ (a.between ++ (back ∷ a.rest))))
   quiet_all = subst IsQuiet a.is q
 
   quiet_later : IsQuiet (a.between ++ (back ∷ a.rest))
   quiet_later =
       quiet_rest (Receive letter.to index) (a.between ++ (back ∷ a.rest))
-      (quiet_last a.before (Receive letter.to index ∷ (a.between ++ (back ∷ a.rest))) quiet_all)
+      (quiet_last before (Receive letter.to index ∷ (a.between ++ (back ∷ a.rest))) quiet_all)
 
-  pub quiet_before : IsQuiet a.before
-  quiet_before = quiet_first a.before (Receive letter.to index ∷ (a.between ++ (back ∷ a.rest))) quiet_all
+  pub quiet_before : IsQuiet before
+  quiet_before = quiet_first before (Receive letter.to index ∷ (a.between ++ (back ∷ a.rest))) quiet_all
 
   pub quiet_between : IsQuiet a.between
   quiet_between = quiet_first a.between (back ∷ a.rest) quiet_later
 
   pub b_rests : IsAtRest b
-  b_rests = rests_after d r a.before quiet_before
+  b_rests = rests_after d r before quiet_before
 
   abbrev l : Deployment
   l = after_all (after b (Receive letter.to index)) a.between
@@ -61,7 +84,7 @@ module _ (d : Deployment) (r : IsAtRest d) (silo : Silo) (steps : List Step) (q 
 
   -- the silo's node when the letter comes, and when the answer does
   pub at_ask : IsLater d r b silo node
-  at_ask = later_so d r a.before quiet_before silo node there
+  at_ask = later_so d r before quiet_before silo node there
 
   pub at_last : IsLater b b_rests l silo at_ask.node
   at_last = then_there b b_rests letter.to index a.between quiet_between silo silo at_ask.node at_ask.there
@@ -81,7 +104,7 @@ module _ (d : Deployment) (r : IsAtRest d) (silo : Silo) (steps : List Step) (q 
   pub end_is : after_all d steps ≡ after_all next a.rest
   unfolding after_all
   end_is =
-      ap (after_all d) a.is ∙ after_append d a.before (Receive letter.to index ∷ (a.between ++ (back ∷ a.rest)))
+      ap (after_all d) a.is ∙ after_append d before (Receive letter.to index ∷ (a.between ++ (back ∷ a.rest)))
       ∙ after_append (after b (Receive letter.to index)) a.between (back ∷ a.rest)
 
   pub to_end : (last : Node) → node_at (after_all d steps) silo ≡ Some last → WaitsForLess at_answer.node last

@@ -1,5 +1,5 @@
 -- Where all ranges of all silos are settled, they stay so, and the owner of a hash has it settled.
-use Rattle.std.proofs.Common.{arith, ◌≡◌, sym, ap, subst, ◌∙◌, ℕ, ◌<◌, List, [], ◌∷◌, inl, inr}
+use Rattle.std.proofs.Common.{arith, ◌≡◌, sym, ap, subst, ◌∙◌, ℕ, ◌<◌, List, [], ◌∷◌, length, inl, inr}
 use Rattle.std.specs.Prelude.{All, Option, Some}
 use Rattle.std.specs.Ordering.{nat_cmp}
 use Rattle.std.specs.BTreeMap.{is_at}
@@ -43,7 +43,7 @@ use Rattle.deployment_progress.proofs.Rest.{node_at, process_with, IsAtRest}
 use Rattle.deployment_progress.proofs.Later.{w, in_world, its_pieces, IsQuiet, quiet_first, rests_after, later_so, same_membership, starts_at_rest}
 use Rattle.deployment_progress.proofs.Awaited.{lives}
 use Rattle.deployment_progress.proofs.Back.{was_there_first}
-use Rattle.deployment_progress.proofs.Letters.{quiet_before}
+use Rattle.deployment_progress.proofs.Letters.{first_back, quiet_before}
 use Rattle.deployment_progress.proofs.Nudged.{quiet_after, nudged_rests, nudged_there}
 use Rattle.deployment_progress.proofs.Ended.{old_requests_end}
 
@@ -125,7 +125,7 @@ module _ (d : Deployment) (r : IsAtRest d) (silo : Silo) (steps : List Step) (q 
     (owns : owner_by node (hash_of node e.1) ≡ Some turn.owner) (all : AreAllSettled d) where
   pub is_served : IsServed d silo node steps e
   is_served =
-      let before = quiet_before d r silo steps q turn.index (letter_of node e turn.owner) turn.answered node there in
+      let before = quiet_before d r silo steps q turn.index (letter_of node e turn.owner) turn.answered.before (length (after_all d turn.answered.before).written) (first_back d silo steps turn.index (letter_of node e turn.owner) turn.answered) node there in
       let b = after_all d turn.answered.before in
       let rests = rests_after d r turn.answered.before before in
       let asking = later_so d r turn.answered.before before silo node there in

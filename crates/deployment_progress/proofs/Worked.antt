@@ -1,5 +1,5 @@
 -- The worked exchange, computed.
-use Rattle.std.proofs.Common.{arith, ◌≡◌, refl, sym, ap, ◌∙◌, ℕ, zero, suc, ◌≤◌, [], ◌∷◌, length}
+use Rattle.std.proofs.Common.{arith, ◌≡◌, refl, sym, ap, subst, ◌∙◌, ℕ, zero, suc, ◌≤◌, [], ◌∷◌, length}
 use Rattle.std.specs.Prelude.{true, cond, not, is_some, All, slice_get, Option, Some, None, Result, Ok, Err}
 use Rattle.std.specs.Fmt.{digits}
 use Rattle.std.specs.Option.{unwrap_or}
@@ -24,7 +24,7 @@ use Rattle.silo_rules.specs.Steps.{barred, unless_barred, does}
 use Rattle.deployment_headline.specs.Deployment.{process_of}
 use Rattle.deployment_headline.specs.Steps.{Do, Receive, after, after_all}
 use Rattle.deployment_headline.specs.Worked.{worked_settings, all_told}
-use Rattle.deployment_progress.specs.Exchanges.{IsAnswered, IsExchange}
+use Rattle.deployment_progress.specs.Exchanges.{IsAnswered, IsSurvey, IsExchange}
 use Rattle.deployment_progress.specs.Worked.{worked, exchanging, WorkedExchange}
 
 all_seen : All (λ (e : Silo × SiloValue). e.1.node.view.version ≡ 2) worked.processes
@@ -99,6 +99,23 @@ its_answer (suc (suc (suc (suc (suc zero))))) letter low found =
     to found = cc (found)
 its_answer (suc (suc (suc (suc (suc (suc k)))))) letter low found = absurd (cc (found))
 
+-- none of its letters is a survey
+abbrev asks_whole : Option Letter → Type 0
+asks_whole None = ⊥
+asks_whole (Some letter) = IsSurvey letter.body
+
+its_survey : (index : ℕ) (letter : Letter) → length worked.written ≤ index
+    → slice_get (after worked (Do silo_b Nudge)).written index ≡ Some letter → IsSurvey letter.body → ⊥
+unfolding after after_all cut_parts stated_hash digits
+its_survey zero letter low found survey = absurd (omega (low, arith))
+its_survey (suc zero) letter low found survey = absurd (omega (low, arith))
+its_survey (suc (suc zero)) letter low found survey = absurd (omega (low, arith))
+its_survey (suc (suc (suc zero))) letter low found survey = absurd (omega (low, arith))
+its_survey (suc (suc (suc (suc zero)))) letter low found survey = absurd (omega (low, arith))
+its_survey (suc (suc (suc (suc (suc zero))))) letter low found survey =
+    subst (λ (o : Option Letter). asks_whole o) (sym found) survey
+its_survey (suc (suc (suc (suc (suc (suc k)))))) letter low found survey = absurd (cc (found))
+
 worked_is : IsExchange worked silo_b exchanging
 worked_is = record {
   part = Nudge;
@@ -112,6 +129,7 @@ worked_is = record {
     begins = refl;
   };
   answered = λ index letter low found want. its_answer index letter low found;
+  surveyed = λ index letter low found survey. absurd (its_survey index letter low found survey);
 }
 
 worked_awaits : all_told worked ≡ (2, 2, Firm ∷ [], (Settled, 0) ∷ []) ∷ (2, 2, [], (Awaiting silo_a, 0) ∷ []) ∷ []

@@ -1,6 +1,6 @@
--- Exchanges: a silo is nudged, of all that it waits for or of its ranges alone, each ask and query that it writes then comes to its
--- receiver, and the answer to each comes back.
-use Rattle.std.specs.Prelude.{⊤, ◌≡◌, ◌⊎◌, ℕ, ◌+◌, ◌<◌, ◌≤◌, List, [], ◌∷◌, ◌++◌, All, length, flat_map, Some, Ok, Err, slice_get}
+-- Exchanges: a silo is nudged, of all that it waits for or of its ranges alone, each ask, query and survey that it writes then comes to its
+-- receiver, and the answers to each come back.
+use Rattle.std.specs.Prelude.{⊤, ◌≡◌, ◌⊎◌, ℕ, ◌+◌, ◌<◌, ◌≤◌, List, [], ◌∷◌, ◌++◌, All, length, flat_map, Contains, Some, Ok, Err, slice_get}
 use Rattle.silo_address.specs.Silo.{Silo, IsSilo}
 use Rattle.ring_range.specs.Range.{Range}
 use Rattle.hash_ring.specs.Hash.{hash_grain}
@@ -32,7 +32,15 @@ pub record IsAnswered (d : Deployment) (silo : Silo) (steps : List Step) (index 
   pub rest : List Step
   pub is : steps ≡ before ++ (Receive letter.to index ∷ (between ++ (Receive silo (length (after_all d before).written) ∷ rest)))
 
--- what a piece wants, as a nudge sends it: an ask or a query
+-- In the steps the letter of that index comes to its receiver, and each letter that this then writes comes to the silo, in whatever order.
+pub record IsAnsweredWhole (d : Deployment) (silo : Silo) (steps : List Step) (index : ℕ) (letter : Letter) : Type 0 where
+  pub before : List Step
+  pub later : List Step
+  pub is : steps ≡ before ++ (Receive letter.to index ∷ later)
+  pub back : (answer : ℕ) → length (after_all d before).written ≤ answer → answer < length (after (after_all d before) (Receive letter.to index)).written
+      → Contains later (Receive silo answer)
+
+-- what a piece wants, as a nudge sends it: an ask or a query, to which there is one answer
 abbrev pub IsWant : Body → Type 0
 IsWant (Request_letter request) = ⊥
 IsWant (Reply_letter number answer) = ⊥
@@ -47,6 +55,11 @@ IsWant (Empty_letter ranges) = ⊥
 IsWant (Behind_letter range) = ⊥
 IsWant (Ahead_letter range) = ⊥
 IsWant (Offer_letter entry) = ⊥
+
+-- and what several pieces want of a silo: a survey, to which there may be more
+abbrev pub IsSurvey : Body → Type 0
+IsSurvey (Survey_letter ranges) = ⊤
+IsSurvey other = ⊥
 
 -- a nudge: of all that the silo waits for, of one grain, or of its ranges
 abbrev pub IsNudge : OwnStep → Type 0
@@ -74,12 +87,13 @@ pub record IsNudged (d : Deployment) (silo : Silo) (part : OwnStep) (steps : Lis
 abbrev pub NudgesAreTaken : Type 0
 NudgesAreTaken = WhileQuiet (λ d later. (silo : Silo) (part : OwnStep) (s : SiloValue) (number : ℕ) → IsNudge part → process_of d silo ≡ Some s → does s (Does part) ≡ Err number → number ≡ 805)
 
--- the steps begin with a nudge that sends what the ranges want, and each ask and query that it writes is answered in them
+-- the steps begin with a nudge that sends what the ranges want, and each ask, query and survey that it writes is answered in them
 pub record IsExchange (d : Deployment) (silo : Silo) (steps : List Step) : Type 0 where
   pub part : OwnStep
   pub wants : SendsWants part
   pub nudge : IsNudged d silo part steps
   pub answered : (index : ℕ) (letter : Letter) → length d.written ≤ index → slice_get (after d (Do silo part)).written index ≡ Some letter → IsWant letter.body → IsAnswered (after d (Do silo part)) silo nudge.rest index letter
+  pub surveyed : (index : ℕ) (letter : Letter) → length d.written ≤ index → slice_get (after d (Do silo part)).written index ≡ Some letter → IsSurvey letter.body → IsAnsweredWhole (after d (Do silo part)) silo nudge.rest index letter
 
 -- wherever such a nudge isn't refused, some steps that begin with it and decide no change are an exchange
 abbrev pub ExchangesCanBe : Type 0

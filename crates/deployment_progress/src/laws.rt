@@ -1,7 +1,7 @@
 //! The laws. Each but that of nudges of a part is of a deployment that any steps made, where each process has seen the last change of
 //! membership that was decided, and of whatever steps follow that decide no change: letters that come late, again, in another order,
 //! astray, or never.
-ghost use Rattle.deployment_progress.specs.Answers.{AsksAreAnswered, QueriesAreAnswered};
+ghost use Rattle.deployment_progress.specs.Answers.{AsksAreAnswered, QueriesAreAnswered, SurveysAreAnswered};
 ghost use Rattle.deployment_progress.specs.Exchanges.{AllRangesSettle, ExchangesCanBe, ExchangesGetOn, NudgesAreTaken, RangesSettle};
 ghost use Rattle.deployment_progress.specs.Parts.{GrainNudgesLeaveOthers, RangeNudgesChangeNoProcess};
 ghost use Rattle.deployment_progress.specs.Requests.{OldRequestsEnd, RequestsEnd, SettledRequestsEnd};
@@ -20,6 +20,12 @@ pub fn queries_are_answered()
     ensures { QueriesAreAnswered }
 {}
 
+/// A survey of the last version is answered whenever it comes, for each of its ranges: by a report, or by the word that there is nothing.
+/// Whenever that comes back to an owner that recovered the range, the silo is struck off there, or has told of a part.
+pub fn surveys_are_answered()
+    ensures { SurveysAreAnswered }
+{}
+
 /// An ask of the last version for a page, by an owner that has all pages before it, is answered whenever it comes, and whenever the
 /// answer comes back the owner has that page then or awaits none from there.
 pub fn asks_are_answered()
@@ -36,7 +42,7 @@ pub fn exchanges_can_be()
     ensures { ExchangesCanBe }
 {}
 
-/// In an exchange, such a nudge, each of whose asks and queries comes to its receiver and is answered, each range of the silo gets on: one
+/// In an exchange, such a nudge, each of whose asks, queries and surveys comes to its receiver and is answered, each range of the silo gets on: one
 /// that recovered is settled, or each silo that is awaited there still has told further; and one that awaits a snapshot still has a page
 /// more.
 pub fn exchanges_get_on()
