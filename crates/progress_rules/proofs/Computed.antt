@@ -6,13 +6,13 @@ use Rattle.silo_address.specs.StatedHash.{stated_hash}
 use Rattle.ring_range.specs.Cut.{cut_parts}
 use Rattle.directory_rules.specs.Happens.{happens}
 use Rattle.directory_rules.specs.Run.{run}
-use Rattle.progress_rules.specs.Worked.{LimitsCompute, PlanComputes}
+use Rattle.progress_rules.specs.Worked.{LimitsCompute, PlanComputes, few_letters}
 use Rattle.progress_rules.specs.Hasty.{HastyNudgesWait, PartNudgesDoNot}
 use Rattle.progress_rules.specs.RoomWorked.{BoundIsReached}
 use Rattle.progress_rules.specs.Reversed.{ReversedNeedsTwo}
 use Rattle.progress_rules.specs.Paged.{PagesReachTheBound}
-use Rattle.progress_rules.specs.Surveyed.{SurveysStayWithinTheBound}
-use Rattle.progress_rules.specs.Wrong.{ComesBackAlone, ComesBackByPages, PageIsNotAskedOn, QueryOfTheVersionIsBehind, ReportIsNotStruckOff, ReportsFromTheStart}
+use Rattle.progress_rules.specs.Surveyed.{SurveysStayWithinTheBound, surveying}
+use Rattle.progress_rules.specs.Wrong.{ComesBackAlone, ComesBackByPages, NothingIsNotStruckOff, PageIsNotAskedOn, QueryOfTheVersionIsBehind, ReportIsNotStruckOff, ReportsFromTheStart, SurveyOfTheVersionIsBehind}
 
 pub plan_computed : PlanComputes
 unfolding run happens cut_parts stated_hash digits sha256 hash_after compress rounds schedule first_words digest_bytes
@@ -38,9 +38,21 @@ pub reversed_computed : ReversedNeedsTwo
 unfolding run happens cut_parts stated_hash digits sha256 hash_after compress rounds schedule first_words digest_bytes
 reversed_computed = record { before = refl; one = refl; two = refl; least_first = refl }
 
-pub comes_back_alone : ComesBackAlone
+pub comes_back_alone : ComesBackAlone few_letters
 unfolding run happens cut_parts stated_hash digits sha256 hash_after compress rounds schedule first_words digest_bytes
 comes_back_alone = record { none = refl; settled = refl }
+
+pub comes_back_surveying : ComesBackAlone surveying
+unfolding run happens cut_parts stated_hash digits sha256 hash_after compress rounds schedule first_words digest_bytes
+comes_back_surveying = record { none = refl; settled = refl }
+
+pub never_surveyed : SurveyOfTheVersionIsBehind
+unfolding run happens cut_parts stated_hash digits sha256 hash_after compress rounds schedule first_words digest_bytes
+never_surveyed = record { none = refl; unsettled = refl }
+
+pub never_emptied : NothingIsNotStruckOff
+unfolding run happens cut_parts stated_hash digits sha256 hash_after compress rounds schedule first_words digest_bytes
+never_emptied = record { none = refl; unsettled = refl }
 
 pub never_reported : QueryOfTheVersionIsBehind
 unfolding run happens cut_parts stated_hash digits sha256 hash_after compress rounds schedule first_words digest_bytes

@@ -2,7 +2,8 @@
 -- come.
 use Rattle.std.specs.Prelude.{◌≡◌, ℕ, zero, suc, ◌+◌, ◌==◌, true, false, if◌then◌else◌, List, [], ◌∷◌, Option, None, Some, Result, Ok, Err}
 use Rattle.directory_rules.specs.declared.effect.Effect.TheVariants.{Behind, More}
-use Rattle.directory_rules.specs.State.{Letter, Body, Query_letter, Report_letter, Behind_letter, Node, World, Accepted}
+use Rattle.directory_rules.specs.Settings.{Settings}
+use Rattle.directory_rules.specs.State.{Letter, Body, Query_letter, Report_letter, Survey_letter, Empty_letter, Behind_letter, Node, World, Accepted}
 use Rattle.directory_rules.specs.Step.{Stepped, silently}
 use Rattle.directory_rules.specs.Receive.{received}
 use Rattle.directory_rules.specs.Transfer.{answering, is_report_awaited}
@@ -13,6 +14,7 @@ use Rattle.directory_rules.specs.Run.{world_after, run_from_start}
 use Rattle.directory_rules.specs.declared.own_step.OwnStep.TheVariants.{Nudge}
 use Rattle.directory_rules.specs.Worked.{silo_a}
 use Rattle.progress_rules.specs.Worked.{few_letters, all_settled}
+use Rattle.progress_rules.specs.Surveyed.{surveying}
 use Rattle.progress_rules.specs.Paged.{small_reports, paged_events}
 
 -- what a silo makes of a letter
@@ -45,6 +47,23 @@ is_behind_at body node letter = received node letter
 abbrev pub query_of_the_version_is_behind : Taking
 query_of_the_version_is_behind node letter = is_behind_at letter.body node letter
 
+-- so is a survey
+abbrev pub all_are_behind_at : Body → Node → Letter → Stepped
+all_are_behind_at (Survey_letter []) node letter = received node letter
+all_are_behind_at (Survey_letter (first ∷ others)) node letter = if letter.version == node.view.version then answering letter node (Behind_letter first) Behind else received node letter
+all_are_behind_at body node letter = received node letter
+
+abbrev pub survey_of_the_version_is_behind : Taking
+survey_of_the_version_is_behind node letter = all_are_behind_at letter.body node letter
+
+-- the word that there is nothing in some ranges is heard, and its silo isn't struck off
+abbrev pub hears_of_nothing : Body → Node → Letter → Stepped
+hears_of_nothing (Empty_letter ranges) node letter = silently node More
+hears_of_nothing body node letter = received node letter
+
+abbrev pub nothing_is_not_struck_off : Taking
+nothing_is_not_struck_off node letter = hears_of_nothing letter.body node letter
+
 -- a report that counts is taken, and its silo isn't struck off
 abbrev pub keeps_awaiting : Body → Node → Letter → Stepped
 keeps_awaiting (Report_letter report) node letter = if is_report_awaited node letter report then silently node More else received node letter
@@ -70,32 +89,40 @@ abbrev pub reports_from_the_start : Taking
 reports_from_the_start node letter = tells_from_the_start letter.body node letter
 
 -- ---- a run that shows it
--- so often a silo that is alone is nudged, and all letters come: its query, and the answer
+-- so often a silo that is alone is nudged, and all letters come: its question, and the answer
 abbrev pub rounds_alone : (often number : ℕ) → List Event
 rounds_alone zero number = []
 rounds_alone (suc often) number = Do silo_a Nudge ∷ Deliver number ∷ Deliver (number + 1) ∷ rounds_alone often (number + 2)
 
-abbrev pub alone : World
-alone = (run_from_start few_letters (Join silo_a (0 ∷ []) ∷ See silo_a 1 ∷ [])).world
+abbrev pub alone : Settings → World
+alone settings = (run_from_start settings (Join silo_a (0 ∷ []) ∷ See silo_a 1 ∷ [])).world
 
 abbrev pub alone_events : List Event
 alone_events = Deliver 1 ∷ Deliver 2 ∷ rounds_alone 12 3
 
 -- no letter is to come, and not all is settled
-pub record ComesNeverBack (take : Taking) : Type 0 where
-  pub none : least_deliverable (run_by take alone alone_events) ≡ None
-  pub unsettled : all_settled (run_by take alone alone_events) ≡ false
+pub record ComesNeverBack (settings : Settings) (take : Taking) : Type 0 where
+  pub none : least_deliverable (run_by take (alone settings) alone_events) ≡ None
+  pub unsettled : all_settled (run_by take (alone settings) alone_events) ≡ false
 
 -- by the rule all is settled then
-pub record ComesBackAlone : Type 0 where
-  pub none : least_deliverable (run_by received alone alone_events) ≡ None
-  pub settled : all_settled (run_by received alone alone_events) ≡ true
+pub record ComesBackAlone (settings : Settings) : Type 0 where
+  pub none : least_deliverable (run_by received (alone settings) alone_events) ≡ None
+  pub settled : all_settled (run_by received (alone settings) alone_events) ≡ true
 
+-- a silo that asks by queries
 abbrev pub QueryOfTheVersionIsBehind : Type 0
-QueryOfTheVersionIsBehind = ComesNeverBack query_of_the_version_is_behind
+QueryOfTheVersionIsBehind = ComesNeverBack few_letters query_of_the_version_is_behind
 
 abbrev pub ReportIsNotStruckOff : Type 0
-ReportIsNotStruckOff = ComesNeverBack report_is_not_struck_off
+ReportIsNotStruckOff = ComesNeverBack few_letters report_is_not_struck_off
+
+-- and one that asks by surveys
+abbrev pub SurveyOfTheVersionIsBehind : Type 0
+SurveyOfTheVersionIsBehind = ComesNeverBack surveying survey_of_the_version_is_behind
+
+abbrev pub NothingIsNotStruckOff : Type 0
+NothingIsNotStruckOff = ComesNeverBack surveying nothing_is_not_struck_off
 
 -- ---- and one of reports that have one entry each
 -- the least letter that may be delivered comes, again and again, so often at most

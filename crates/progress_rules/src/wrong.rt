@@ -1,9 +1,12 @@
 //! Wrong rules: in each, silos take one kind of letter wrongly, and a silo never settles what it owns.
-ghost use Rattle.progress_rules.specs.Wrong.{ComesBackAlone, ComesBackByPages, PageIsNotAskedOn, QueryOfTheVersionIsBehind, ReportIsNotStruckOff, ReportsFromTheStart};
+ghost use Rattle.progress_rules.specs.Worked.{few_letters};
+ghost use Rattle.progress_rules.specs.Surveyed.{surveying};
+ghost use Rattle.progress_rules.specs.Wrong.{ComesBackAlone, ComesBackByPages, NothingIsNotStruckOff, PageIsNotAskedOn, QueryOfTheVersionIsBehind, ReportIsNotStruckOff, ReportsFromTheStart, SurveyOfTheVersionIsBehind};
 
-/// The rule itself settles what the silo owns, by the same events.
+/// The rule itself settles what the silo owns, by the same events, whether the silo asks by queries or by surveys.
 pub fn comes_back_alone()
-    ensures { ComesBackAlone }
+    ensures queries { ComesBackAlone few_letters }
+    ensures surveys { ComesBackAlone surveying }
 {}
 
 /// A query at the version that its receiver has seen is answered `behind`: nothing is ever reported.
@@ -14,6 +17,16 @@ pub fn query_of_the_version_is_behind()
 /// A report that counts leaves its silo among those that are awaited: the recovery never ends.
 pub fn report_is_not_struck_off()
     ensures { ReportIsNotStruckOff }
+{}
+
+/// A survey at the version that its receiver has seen is answered `behind`: nothing is ever told.
+pub fn survey_of_the_version_is_behind()
+    ensures { SurveyOfTheVersionIsBehind }
+{}
+
+/// The word that there is nothing in a range leaves its silo among those that are awaited: the recovery never ends.
+pub fn nothing_is_not_struck_off()
+    ensures { NothingIsNotStruckOff }
 {}
 
 /// By the rule itself a silo settles a range by three reports of one entry each, after one nudge.
