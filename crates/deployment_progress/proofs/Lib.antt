@@ -22,3 +22,4 @@ pub mod Owners
 pub mod Parts
 pub mod Worked
 pub mod WorkedRequest
+pub mod WorkedSurvey

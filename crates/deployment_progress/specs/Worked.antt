@@ -1,9 +1,11 @@
--- Worked: a second silo awaits the first one's snapshot of its range, is nudged, and its ask is answered by the page; and a silo whose
--- activation asks to be entered is nudged, and its request is answered.
+-- Worked: a second silo awaits the first one's snapshot of its range, is nudged, and its ask is answered by the page; a silo that asks by
+-- surveys recovers two ranges, is nudged, and its survey is answered; and a silo whose activation asks to be entered is nudged, and its request
+-- is answered.
 use Rattle.std.specs.Prelude.{◌≡◌, ℕ, List, [], ◌∷◌, ◌++◌}
 use Rattle.directory_rules.specs.declared.act.Act.{Act}
 use Rattle.directory_rules.specs.declared.held.Phase.TheVariants.{Asking, Firm}
-use Rattle.directory_rules.specs.declared.piece_state.PieceState.TheVariants.{Settled, Awaiting}
+use Rattle.directory_rules.specs.declared.piece_state.PieceState.TheVariants.{Settled, Awaiting, Recovering}
+use Rattle.directory_rules.specs.Settings.{Everybody}
 use Rattle.directory_rules.specs.declared.own_step.OwnStep.TheVariants.{Wake, Nudge}
 use Rattle.directory_rules.specs.Worked.{silo_a, silo_b, grain_a}
 use Rattle.directory_rules.specs.Membership.{Join}
@@ -30,6 +32,20 @@ pub record WorkedExchange : Type 0 where
   pub awaits : all_told worked ≡ (2, 2, Firm ∷ [], (Settled, 0) ∷ []) ∷ (2, 2, [], (Awaiting silo_a, 0) ∷ []) ∷ []
   pub is : IsExchange worked silo_b exchanging
   pub settled : all_told (after_all worked exchanging) ≡ (2, 2, Firm ∷ [], (Settled, 0) ∷ []) ∷ (2, 2, [], (Settled, 1) ∷ []) ∷ []
+
+-- a silo by itself that asks by surveys, and owns the circle in two ranges
+abbrev pub surveying : Deployment
+surveying = deployed (record worked_settings { surveyors = Everybody }) (Decide (Join silo_a (0 ∷ 8 ∷ [])) ∷ Tell silo_a 0 ∷ See silo_a 1 ∷ [])
+
+-- the survey that the nudge writes comes, and then the word that there is nothing in either; the first one never comes
+abbrev pub surveyed : List Step
+surveyed = Do silo_a Nudge ∷ Receive silo_a 1 ∷ Receive silo_a 2 ∷ []
+
+pub record WorkedSurvey : Type 0 where
+  pub seen : HaveAllSeen surveying
+  pub recovers : all_told surveying ≡ (1, 1, [], (Recovering, 0) ∷ (Recovering, 0) ∷ []) ∷ []
+  pub is : IsExchange surveying silo_a surveyed
+  pub settled : all_told (after_all surveying surveyed) ≡ (1, 1, [], (Settled, 0) ∷ (Settled, 0) ∷ []) ∷ []
 
 -- a silo by itself, whose activation asks to be entered
 abbrev pub asking : Deployment

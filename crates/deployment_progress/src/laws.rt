@@ -6,7 +6,7 @@ ghost use Rattle.deployment_progress.specs.Exchanges.{AllRangesSettle, Exchanges
 ghost use Rattle.deployment_progress.specs.Parts.{GrainNudgesLeaveOthers, RangeNudgesChangeNoProcess};
 ghost use Rattle.deployment_progress.specs.Requests.{OldRequestsEnd, RequestsEnd, SettledRequestsEnd};
 ghost use Rattle.deployment_progress.specs.Waits.{SilosWaitForLess};
-ghost use Rattle.deployment_progress.specs.Worked.{WorkedExchange, WorkedRequest};
+ghost use Rattle.deployment_progress.specs.Worked.{WorkedExchange, WorkedRequest, WorkedSurvey};
 
 /// A silo only waits for less: who has told all is awaited no more, what others have told stays told, pages that were had stay had, and
 /// what is settled stays settled.
@@ -88,6 +88,11 @@ pub fn part_nudges_leave_the_rest()
 /// There are such deployments, and exchanges in them: one, worked out.
 pub fn worked_exchange()
     ensures { WorkedExchange }
+{}
+
+/// And exchanges of silos that ask by surveys: one, worked out.
+pub fn worked_survey()
+    ensures { WorkedSurvey }
 {}
 
 /// And requests that are served in their turn: one, worked out.
