@@ -11,7 +11,7 @@ use Rattle.progress_rules.specs.Hasty.{HastyNudgesWait, PartNudgesDoNot}
 use Rattle.progress_rules.specs.RoomWorked.{BoundIsReached}
 use Rattle.progress_rules.specs.Reversed.{ReversedNeedsTwo}
 use Rattle.progress_rules.specs.Paged.{PagesReachTheBound}
-use Rattle.progress_rules.specs.Surveyed.{SurveysStayWithinTheBound, surveying}
+use Rattle.progress_rules.specs.Surveyed.{EachWayComesBack, SurveysStayWithinTheBound, surveying}
 use Rattle.progress_rules.specs.Wrong.{ComesBackAlone, ComesBackByPages, NothingIsNotStruckOff, PageIsNotAskedOn, QueryOfTheVersionIsBehind, ReportIsNotStruckOff, ReportsFromTheStart, SurveyOfTheVersionIsBehind}
 
 pub plan_computed : PlanComputes
@@ -76,6 +76,10 @@ survey_computed = record {
   fewer = refl;
   reached = refl;
 }
+
+pub each_way_computed : EachWayComesBack
+unfolding run happens cut_parts stated_hash digits sha256 hash_after compress rounds schedule first_words digest_bytes
+each_way_computed = refl
 
 pub comes_back_by_pages : ComesBackByPages
 unfolding run happens cut_parts stated_hash digits sha256 hash_after compress rounds schedule first_words digest_bytes

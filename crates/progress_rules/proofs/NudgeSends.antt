@@ -25,7 +25,8 @@ use Rattle.progress_rules.proofs.FreshWith.{fresh_after, sent_with}
 use Rattle.progress_rules.proofs.Sums.{le_same}
 use Rattle.progress_rules.proofs.Falls.{need}
 use Rattle.progress_rules.proofs.Questions.{asked_once, questions_offer_none, request_questions, wants_fewer, wants_offer_none}
-use Rattle.progress_rules.proofs.WantSums.{AreOnce, awaited_of, rows_once, wants_few}
+use Rattle.progress_rules.proofs.EachOnce.{AreOnce, rows_once}
+use Rattle.progress_rules.proofs.WantSums.{awaited_of, wants_few}
 use Rattle.progress_rules.proofs.Potential.{due_to, potential, need_less, over_stepped, shelved_less}
 use Rattle.progress_rules.proofs.DeliveryFalls.{all_sent, nodes_sorted}
 

@@ -1,32 +1,24 @@
 -- How many answers there are to what a node's pieces want, by queries or by surveys: no more than it awaits reports and snapshots.
 use Rattle.std.proofs.Common.{arith, ◌≡◌, refl, sym, ap, ◌∙◌, ℕ, zero, suc, ◌+◌, ◌≤◌, List, [], ◌∷◌, ◌++◌, length, take, drop}
-use Rattle.std.specs.Prelude.{⊤, is_none, is_some, Bool, true, false, cond, not, ◌&&◌, ◌||◌, filter, map, flat_map, sum_by, Option, Some, None}
-use Rattle.std.specs.List.Sorted.{IsStrictlySortedBy}
-use Rattle.std.specs.Map.{keys_of, values_of}
+use Rattle.std.specs.Prelude.{is_none, is_some, Bool, true, false, filter, map, flat_map, sum_by, Option, Some, None}
+use Rattle.std.specs.Map.{values_of}
 use Rattle.std.proofs.lemmas.List.{length-append, take-append-drop}
 use Rattle.std.proofs.lemmas.List.Sums.{length-filter, sum_by-append, sum_by-cons, sum_by-le-sum_by}
-use Rattle.silo_address.specs.Silo.{Silo, silo_eq, silo_cmp}
-use Rattle.membership_view.specs.declared.status.Status.{Status}
+use Rattle.silo_address.specs.Silo.{Silo}
 use Rattle.silo_address.specs.Grain.{Grain}
 use Rattle.ring_range.specs.Range.{Range}
 use Rattle.directory_rules.specs.declared.piece_state.PieceState.{PieceState}
 use Rattle.directory_rules.specs.declared.piece_state.PieceState.TheVariants as state
 use Rattle.directory_rules.specs.State.{Piece, Letter, Survey_letter, Node}
-use Rattle.directory_rules.specs.Members.{is_dead_status, members_of}
-use Rattle.directory_rules.specs.Recovery.{is_among, told_by}
+use Rattle.directory_rules.specs.Members.{members_of}
+use Rattle.directory_rules.specs.Recovery.{told_by}
 use Rattle.directory_rules.specs.Sent.{letter_to, recovery_of, query_to, wants_by, queried_wants, all_asks, asks_by, recovering_by, recovering_ranges, has_told_nothing, untold_by, survey_size, parts_of, parts_within, surveys_to, survey_letters, further_queries, surveyed_wants, wants_so, is_surveying, all_wants}
-use Rattle.directory_rules.proofs.Cases.{on_bool}
-use Rattle.directory_headline.proofs.Members.{staying, not_among}
 use Rattle.progress_rules.specs.Room.{answers_of, over_pieces, awaits_one}
+use Rattle.progress_rules.proofs.EachOnce.{AreOnce, among_others, one, sum_zero}
 use Rattle.progress_rules.proofs.FreshWith.{sent_with}
 use Rattle.progress_rules.proofs.Sums.{sum_plus}
-use Rattle.progress_rules.proofs.Waits.{apart_both, is_one}
 
 -- ---- sums
-sum_zero : {X : Type 0} (xs : List X) → sum_by (λ x. 0) xs ≡ 0
-sum_zero [] = refl
-sum_zero (x ∷ xs) = let rest = sum_zero xs in let whole = sum_by-cons (λ y. 0) x xs in omega (arith, rest, whole)
-
 sum_flat : {X Y : Type 0} (g : Y → ℕ) (f : X → List Y) (xs : List X) → sum_by g (flat_map f xs) ≡ sum_by (λ x. sum_by g (f x)) xs
 sum_flat g f [] = refl
 sum_flat g f (x ∷ xs) =
@@ -49,66 +41,6 @@ by_values f [] = refl
 by_values f (e ∷ es) =
     let rest = by_values f es in let one = sum_by-cons (λ x. f x.1) e es in let other = sum_by-cons f e.1 (values_of es) in
     omega (arith, rest, one, other)
-
--- ---- silos, each of which stands there once
-abbrev one : Bool → ℕ
-one b = cond b 1 0
-
-abbrev pub AreOnce : List Silo → Type 0
-AreOnce [] = ⊤
-AreOnce (silo ∷ silos) = (is_among silo silos ≡ false) × AreOnce silos
-
-neither : (a b : Bool) → (a || b) ≡ false → (a ≡ false) × (b ≡ false)
-neither true b is = absurd (cc (is))
-neither false b is = (refl, is)
-
-none_same : (p : Silo → Bool) (y : Silo) (xs : List Silo) → is_among y xs ≡ false → sum_by (λ s. one (silo_eq s y && p s)) xs ≡ 0
-none_same p y [] not = refl
-none_same p y (x ∷ xs) not =
-    let so = neither (silo_eq y x) (is_among y xs) not in
-    let here : one (silo_eq x y && p x) ≡ 0 = ap (λ b. one (b && p x)) (apart_both x y so.0) in
-    let rest = none_same p y xs so.1 in
-    let whole = sum_by-cons (λ s. one (silo_eq s y && p s)) x xs in
-    omega (arith, here, rest, whole)
-
-one_at_most : (p : Silo → Bool) (y : Silo) (xs : List Silo) → AreOnce xs → sum_by (λ s. one (silo_eq s y && p s)) xs ≤ one (p y)
-one_at_most p y [] once = omega arith
-one_at_most p y (x ∷ xs) once =
-    let whole = sum_by-cons (λ s. one (silo_eq s y && p s)) x xs in
-    on_bool (λ b. silo_eq x y ≡ b → sum_by (λ s. one (silo_eq s y && p s)) (x ∷ xs) ≤ one (p y)) (silo_eq x y)
-    (λ t is.
-    let same = is_one x y is in
-    let here : one (silo_eq x y && p x) ≡ one (p y) = ap (λ b. one (b && p x)) is ∙ ap (λ s. one (p s)) same in
-    let rest = none_same p y xs (ap (λ s. is_among s xs) (sym same) ∙ once.0) in
-    omega (arith, whole, here, rest))
-    (λ f is.
-    let here : one (silo_eq x y && p x) ≡ 0 = ap (λ b. one (b && p x)) is in
-    let rest = one_at_most p y xs once.1 in
-    omega (arith, whole, here, rest)) refl
-
-either : (a b c : Bool) → one ((a || b) && c) ≤ one (a && c) + one (b && c)
-either true b c = omega arith
-either false b c = omega arith
-
--- of them no more pass a test and are among others than of those pass it
-among_others : (p : Silo → Bool) (xs : List Silo) → AreOnce xs → (ys : List Silo)
-    → sum_by (λ s. one (is_among s ys && p s)) xs ≤ sum_by (λ s. one (p s)) ys
-among_others p xs once [] = let none = sum_zero xs in omega (arith, none)
-among_others p xs once (y ∷ ys) =
-    let first = one_at_most p y xs once in
-    let rest = among_others p xs once ys in
-    let whole = sum_by-cons (λ s. one (p s)) y ys in
-    let less = sum_by-le-sum_by (λ s. one (is_among s (y ∷ ys) && p s)) (λ s. one (silo_eq s y && p s) + one (is_among s ys && p s)) xs (λ s. either (silo_eq s y) (is_among s ys) (p s)) in
-    let parts = sum_plus (λ s. one (silo_eq s y && p s) + one (is_among s ys && p s)) (λ s. one (silo_eq s y && p s)) (λ s. one (is_among s ys && p s)) (λ s. refl) xs in
-    omega (arith, first, rest, whole, less, parts)
-
--- so do those of a view that aren't Dead
-pub rows_once : (rows : List (Silo × Status)) → IsStrictlySortedBy silo_cmp (keys_of rows) → AreOnce (keys_of (staying rows))
-unfolding IsStrictlySortedBy
-rows_once [] sorted = tt
-rows_once (e ∷ es) sorted =
-    on_bool (λ b. AreOnce (keys_of (cond b (e ∷ staying es) (staying es)))) (not (is_dead_status e.1))
-    (λ t. (not_among e.0 es sorted.0, rows_once es sorted.1)) (λ f. rows_once es sorted.1)
 
 -- ---- letters
 abbrev answers : Letter → ℕ

@@ -1,7 +1,7 @@
 -- Worked: a silo that asks by surveys recovers three ranges at one sight, and asks for all in one letter. Where it has nothing in any, one
 -- letter is the answer; where it has an activation firm in two of them, a report on each, and that letter of the third.
 use Rattle.std.specs.Prelude.{◌≡◌, true, false, List, [], ◌∷◌, ◌++◌}
-use Rattle.directory_rules.specs.Settings.{Settings, Everybody}
+use Rattle.directory_rules.specs.Settings.{Settings, Everybody, Only}
 use Rattle.directory_rules.specs.Event.{Event, Join, Kill, See, Do, Deliver}
 use Rattle.directory_rules.specs.State.{World}
 use Rattle.directory_rules.specs.Run.{run_from_start}
@@ -9,7 +9,7 @@ use Rattle.directory_rules.specs.declared.own_step.OwnStep.TheVariants.{Wake}
 use Rattle.directory_rules.specs.Worked.{silo_a, silo_b, grain_a, grain_c}
 use Rattle.progress_rules.specs.Plan.{synced, plan}
 use Rattle.progress_rules.specs.RoomWorked.{needed_and_sent, waiting_events}
-use Rattle.progress_rules.specs.Worked.{few_letters, all_settled}
+use Rattle.progress_rules.specs.Worked.{few_letters, all_settled, told, waits_of}
 
 abbrev pub surveying : Settings
 surveying = record few_letters { surveyors = Everybody }
@@ -41,3 +41,17 @@ pub record SurveysStayWithinTheBound : Type 0 where
   pub surveyed_is_not : all_settled surveyed ≡ false
   pub fewer : needed_and_sent (synced surveyed) (plan surveyed) ≡ (9 ∷ 7 ∷ [])
   pub reached : needed_and_sent (synced (run_from_start surveying waiting_events).world) (plan (run_from_start surveying waiting_events).world) ≡ (6 ∷ 6 ∷ [])
+
+-- Two silos in one cluster, of which one asks by surveys and the other by queries. The first one installs a version late, so it recovers its
+-- two ranges, and asks each silo for both in one letter; the other one asks it for the snapshots of its own, gets none, and queries. After
+-- the plan both have settled all.
+abbrev pub either_way : Settings
+either_way = record few_letters { surveyors = Only (silo_a ∷ []) }
+
+abbrev pub late_events : List Event
+late_events = Join silo_a (0 ∷ 16 ∷ []) ∷ Join silo_b (8 ∷ 24 ∷ []) ∷ See silo_a 2 ∷ See silo_b 2 ∷ []
+
+abbrev pub EachWayComesBack : Type 0
+EachWayComesBack =
+    ((waits_of (run_from_start either_way late_events).world, all_settled (run_from_start either_way late_events).world) ∷ told (plan (run_from_start either_way late_events).world))
+    ≡ ((0, false) ∷ (0, true) ∷ [])

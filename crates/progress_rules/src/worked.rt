@@ -4,7 +4,7 @@ ghost use Rattle.progress_rules.specs.Worked.{LimitsCompute, PlanComputes};
 ghost use Rattle.progress_rules.specs.Hasty.{HastyNudgesWait, PartNudgesDoNot};
 ghost use Rattle.progress_rules.specs.RoomWorked.{BoundIsReached};
 ghost use Rattle.progress_rules.specs.Paged.{PagesReachTheBound};
-ghost use Rattle.progress_rules.specs.Surveyed.{SurveysStayWithinTheBound};
+ghost use Rattle.progress_rules.specs.Surveyed.{EachWayComesBack, SurveysStayWithinTheBound};
 ghost use Rattle.progress_rules.specs.Reversed.{ReversedNeedsTwo};
 
 /// Two silos, of which one has a range that isn't settled, an activation that asks, and a find that waits, its first letter lost: after
@@ -36,9 +36,10 @@ pub fn pages_reach_the_bound()
 
 /// A silo that recovers three ranges asks for all in one letter, by a survey. Where it has nothing in any, one letter settles all; where it has
 /// an activation in two of them, three letters answer, and the plan sends fewer letters than the bound lets. By a survey of one range it
-/// sends just as many.
+/// sends just as many. And two silos come back of which one asks by surveys and the other by queries.
 pub fn surveys_stay_within_the_bound()
-    ensures { SurveysStayWithinTheBound }
+    ensures bound { SurveysStayWithinTheBound }
+    ensures mixed { EachWayComesBack }
 {}
 
 /// A silo with two registrations outstanding at one owner, of which the later comes first: after a round one waits still, and after another
