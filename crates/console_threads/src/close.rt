@@ -14,7 +14,7 @@ use crate::driver::Driver;
 use cluster_board::{Board, Charter};
 use cluster_journal::CloseRefusal;
 use line_loop::{Sink, send};
-use silo_threads::{EndedCluster, PARTS};
+use silo_threads::{Causes, EndedCluster, PARTS};
 use silo_workers::OpenGate;
 use std::alloc::{AllocError, Global};
 use std::sync::Wait;
@@ -44,11 +44,15 @@ impl<L: Charter> Driver<L, OpenGate> {
             receipts,
             lacks,
         } = self;
-        let Ok(ended) = cluster.end(rt, hand, receipts) else {
-            return Err(ThreadsEnded::Lacking);
+        let ended = match cluster.end(rt, hand, receipts) {
+            Ok(ended) => ended,
+            Err(unended) => {
+                tell_causes(rt, alloc, unended.causes, errors);
+                return Err(ThreadsEnded::Lacking);
+            }
         };
         if lacks || ended.gave_up() || ended.board.gave_up() {
-            tell_causes(alloc, &ended, errors);
+            tell_causes(rt, alloc, ended.causes, errors);
             return Err(ThreadsEnded::Lacking);
         }
         closed(ended)
@@ -72,10 +76,10 @@ fn closed<L: Charter>(ended: EndedCluster<L>) -> Result<Board<L>, ThreadsEnded>
 }
 
 // Tells why workers gave up.
-fn tell_causes<L: Charter, E: Sink>(alloc: Global, ended: &EndedCluster<L>, errors: &mut E)
+fn tell_causes<R: Wait, E: Sink>(rt: &R, alloc: Global, causes: Causes, errors: &mut E)
     ensures { (text : List ℕ) × IsSent E.writes E.contents text errors.old errors.new }
 {
-    match causes(alloc, ended) {
+    match lines_of(rt, alloc, causes) {
         Ok(text) => {
             let _whole = send(errors, &text);
         }
@@ -85,13 +89,12 @@ fn tell_causes<L: Charter, E: Sink>(alloc: Global, ended: &EndedCluster<L>, erro
     }
 }
 
-// A line for each worker that gave up, in words.
-fn causes<L: Charter>(alloc: Global, ended: &EndedCluster<L>) -> Result<Vec<u8>, AllocError> {
+// A line for each cause, in words.
+fn lines_of<R: Wait>(rt: &R, alloc: Global, causes: Causes) -> Result<Vec<u8>, AllocError> {
+    let mut causes = causes;
     let mut text = Vec::new(alloc);
-    for ending in &ended.endings {
-        if let Some(cause) = ending.cause() {
-            text.extend_from_slice(format!(in alloc; "error: {cause}\n")?.as_bytes())?;
-        }
+    while let Some(cause) = causes.next(rt) {
+        text.extend_from_slice(format!(in alloc; "error: {cause}\n")?.as_bytes())?;
     }
     Ok(text)
 }

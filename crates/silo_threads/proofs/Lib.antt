@@ -4,3 +4,4 @@ pub mod VersionsMade
 pub mod Rings
 pub mod Sights
 pub mod Tallies
+pub mod Senders

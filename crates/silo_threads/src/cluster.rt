@@ -4,6 +4,7 @@ ghost use Rattle.published_rings.specs.Ends.{first_reader, published_by};
 ghost use Rattle.published_rings.specs.Rule.{Begins};
 ghost use Rattle.silo_threads.specs.Cluster.{first_cluster};
 
+use crate::Causes;
 use crate::publication::newest;
 use crate::start::Worker;
 use cluster_board::{Board, Charter, Hand, Tokens};
@@ -26,6 +27,7 @@ pub struct Cluster<L: Charter, G: Gate + Drop> {
     pub(crate) alloc: Global,
     pub(crate) site: Arc<Site<L, G>>,
     pub(crate) workers: Vec<Worker<L>>,
+    pub(crate) causes: Causes,
     pub(crate) publisher: Publisher,
 }
 
@@ -77,6 +79,7 @@ impl<L: Charter, G: Gate + Drop> Cluster<L, G> {
             alloc,
             site,
             workers: Vec::new(alloc),
+            causes: Causes::new(alloc),
             publisher,
         };
         Ok((cluster, hand))

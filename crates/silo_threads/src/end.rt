@@ -34,6 +34,7 @@ impl<L: Charter, G: Gate + Drop> Cluster<L, G> {
             alloc,
             site,
             workers,
+            causes,
             publisher,
         } = self;
         stop(rt, &site, &hand);
@@ -51,11 +52,19 @@ impl<L: Charter, G: Gate + Drop> Cluster<L, G> {
         } = all;
         let Some(site) = Arc::into_inner(site) else {
             let fault = EndFault::StillShared;
-            return Err(Unended { fault, hand });
+            return Err(Unended {
+                fault,
+                hand,
+                causes,
+            });
         };
         if taken.is_err() {
             let fault = EndFault::OutOfMemory;
-            return Err(Unended { fault, hand });
+            return Err(Unended {
+                fault,
+                hand,
+                causes,
+            });
         }
         let Site {
             board,
@@ -67,6 +76,7 @@ impl<L: Charter, G: Gate + Drop> Cluster<L, G> {
             hand,
             receipts,
             endings,
+            causes,
         })
     }
 }
@@ -127,7 +137,7 @@ fn take_one<L: Charter, G: Gate + Drop, R: Wait>(
 
 // What a silo's worker did, once its thread has ended.
 fn worked_by<L: Charter, R: Threads>(rt: &R, worker: Worker<L>) -> Worked<L>
-    ensures { result ≡ worker }
+    ensures { result.silo ≡ worker }
 {
     let Worker { silo: _, thread } = worker;
     match thread {

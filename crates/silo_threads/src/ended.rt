@@ -6,26 +6,28 @@ ghost use Rattle.cluster_journal.specs.Agreement.{Agree};
 ghost use Rattle.cluster_journal.specs.Journal.{IsJournaled};
 ghost use Rattle.silo_workers.specs.Endings.{HasGivenUp};
 
-use crate::EndFault;
+use crate::{Causes, EndFault};
 use cluster_board::{Board, Charter, Hand};
 use cluster_journal::{CloseRefusal, Receipt, compare};
 use silo_workers::Ending;
 
 /// A cluster that has ended: its board, the whole share with what was seen of the journal, the receipts of all who posted and
-/// committed, and how each worker ended.
+/// committed, how each worker ended, and the causes that they sent.
 #[derive(Drop)]
 pub struct EndedCluster<L: Charter> {
     pub board: Board<L>,
     pub hand: Hand<L>,
     pub receipts: Vec<Receipt>,
     pub endings: Vec<Ending<L>>,
+    pub causes: Causes,
 }
 
-/// A cluster whose threads were all joined, and which can't be closed: why, and the whole share.
+/// A cluster whose threads were all joined, and which can't be closed: why, the whole share, and the causes that workers sent.
 #[derive(Drop)]
 pub struct Unended<L: Charter> {
     pub fault: EndFault,
     pub hand: Hand<L>,
+    pub causes: Causes,
 }
 
 impl<L: Charter> EndedCluster<L> {
@@ -55,6 +57,7 @@ impl<L: Charter> EndedCluster<L> {
             hand,
             mut receipts,
             endings: _,
+            causes: _,
         } = self;
         let Hand { mut share, seen } = hand;
         let mut board = board;

@@ -2,6 +2,7 @@
 //! its calls take and give is named here too, so that a user needs no other crate.
 #![tactic(auto)]
 
+mod causes;
 mod cluster;
 mod end;
 mod ended;
@@ -12,6 +13,7 @@ mod run;
 mod start;
 mod sync;
 
+pub use causes::Causes;
 pub use cluster::{Cluster, MOST_WORKERS, PARTS};
 pub use cluster_board::{Board, Charter, Dismissal, Hand, Tokens};
 pub use cluster_journal::{CloseRefusal, JournalEntry, Receipt};

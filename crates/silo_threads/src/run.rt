@@ -6,16 +6,18 @@ ghost use Rattle.cluster_journal.specs.Posted.{IsReceiptOf};
 ghost use Rattle.silo_threads.specs.Followed.{HasChanged, HasFollowed, HasJoined, Joins};
 ghost use Rattle.silo_threads.specs.Replies.{IsRefusalOf};
 
+use crate::causes::place_for_cause;
 use crate::cluster::{MOST_WORKERS, PARTS};
 use crate::posted::post_change;
 use crate::start::{Desk, start};
 use crate::{Cluster, Lack};
 use cluster_board::{Board, Charter, Hand};
 use cluster_journal::Receipt;
+use crossbeam_channel::Receiver;
 use directory_core::EventRefusal;
 use directory_rules::Event;
 use silo_address::SiloAddress;
-use silo_workers::{Gate, Site};
+use silo_workers::{Cause, Gate, Site};
 use std::alloc::AllocError;
 use std::sync::{Arc, Wait};
 use std::thread::Threads;
@@ -79,14 +81,18 @@ impl<L: Charter + Send + 'static, G: Gate + Drop + Send + Sync + 'static> Cluste
         ensures counted { OnOk result (hand.new.share.amount ≡ hand.old.share.amount + 1) }
         ensures not_counted { OnErr result (hand.new.share.amount ≡ hand.old.share.amount) }
     {
-        let Ok(desk) = self.desk_for(silo) else {
+        let Ok((desk, from)) = self.desk_for(silo) else {
             return Err(EventRefusal::OutOfMemory);
         };
         if self.workers.reserve(1).is_err() {
             return Err(EventRefusal::OutOfMemory);
         }
+        if self.causes.make_room().is_err() {
+            return Err(EventRefusal::OutOfMemory);
+        }
         let published = self.publisher.version();
         let posted = post_change(rt, self.alloc, &self.site, hand, event, published)?;
+        self.causes.keep(from);
         let lack = match start(rt, &self.site, &mut self.workers, hand, desk) {
             Ok(()) => self.publish(rt, &posted.newest).err(),
             Err(lack) => Some(lack),
@@ -156,15 +162,18 @@ impl<L: Charter + Send + 'static, G: Gate + Drop + Send + Sync + 'static> Cluste
         let _workers = self.workers.len();
     }
 
-    // What the worker of a silo takes with it.
-    fn desk_for(&self, silo: SiloAddress) -> Result<Desk<L, G>, AllocError>
-        ensures { IfOk result (λ desk. desk.silo ≡ silo) }
+    // What the worker of a silo takes with it, and where its cause arrives.
+    fn desk_for(&self, silo: SiloAddress) -> Result<(Desk<L, G>, Receiver<Cause>), AllocError>
+        ensures { IfOk result (λ made. made.0.silo ≡ silo) }
     {
-        Ok(Desk {
+        let (to, from) = place_for_cause(self.alloc)?;
+        let desk = Desk {
             alloc: self.alloc,
             silo,
             site: Arc::try_clone(&self.site)?,
-        })
+            to,
+        };
+        Ok((desk, from))
     }
 }
 

@@ -5,8 +5,9 @@ ghost use Rattle.silo_threads.specs.Followed.{LacksThread, with_worker};
 use crate::Lack;
 use crate::cluster::MOST_WORKERS;
 use cluster_board::{Charter, Hand};
+use crossbeam_channel::Sender;
 use silo_address::SiloAddress;
-use silo_workers::{Gate, Site, Tally, Worked, work};
+use silo_workers::{Cause, Gate, Site, Tally, Worked, work};
 use std::alloc::Global;
 use std::marker::Model;
 use std::sync::{Arc, Wait};
@@ -27,7 +28,7 @@ impl<L: Charter> Model for Worker<L> {
 
     ghost view = { λ w. w.silo };
 
-    ghost invariant = { λ w. MatchResult w.thread (λ running. running.promise.0 ≡ w.silo) (λ worked. worked ≡ w.silo) };
+    ghost invariant = { λ w. MatchResult w.thread (λ running. running.promise.0 ≡ w.silo) (λ worked. worked.silo ≡ w.silo) };
 }
 
 /// What a worker's thread promises: what it did is that silo's.
@@ -37,7 +38,7 @@ pub(crate) struct DeliversTo(SiloAddress);
 impl<L: Charter> Promise<Worked<L>> for DeliversTo {
     ghost use Rattle.std.specs.Prelude.{◌≡◌};
 
-    ghost kept_by = { λ promise worked. worked ≡ promise.0 };
+    ghost kept_by = { λ promise worked. worked.silo ≡ promise.0 };
 }
 
 /// What a worker takes with it.
@@ -46,6 +47,8 @@ pub(crate) struct Desk<L: Charter, G: Gate + Drop> {
     pub(crate) alloc: Global,
     pub(crate) silo: SiloAddress,
     pub(crate) site: Arc<Site<L, G>>,
+    // Where its cause goes, if it gives up.
+    pub(crate) to: Sender<Cause>,
 }
 
 /// Starts the worker of a silo, which takes a part of the share. There is room for it. Where no thread can be made, all are told to
@@ -105,13 +108,17 @@ pub(crate) fn stop<L: Charter, G: Gate + Drop, R: Wait>(rt: &R, site: &Site<L, G
     site.bell.notify_all();
 }
 
-// A worker, with what it takes with it.
+// A worker, with what it takes with it. If it gives up it sends its cause, for which there is a place.
 fn employ<L: Charter, G: Gate + Drop, R: Wait + Drop>(
     rt: R,
     desk: Desk<L, G>,
     tally: Tally<L>,
 ) -> Worked<L>
-    ensures { result ≡ tally.silo }
+    ensures { result.silo ≡ tally.silo }
 {
-    work(&rt, desk.alloc, &desk.site, tally)
+    let worked = work(&rt, desk.alloc, &desk.site, tally);
+    if let Some(cause) = worked.cause() {
+        let _sent = desk.to.try_send(&rt, cause);
+    }
+    worked
 }

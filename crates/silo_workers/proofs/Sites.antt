@@ -33,20 +33,20 @@ use Rattle.silo_workers.specs.contracts.tally.Tally.TheInside as tally_inside
 use Rattle.silo_workers.specs.contracts.tally.Worked as worked
 use Rattle.silo_workers.specs.contracts.tally.Worked.TheInside as worked_inside
 
-word_crosses : Crosses word.the_row
+pub word_crosses : Crosses word.the_row
 word_crosses = record { moved = Atomic-send; shared = Atomic-sync }
 
 bell_crosses : Crosses (bell.the_field).row
 bell_crosses = fields bell.the_type (word_crosses, (word_crosses, tt))
 
-locked : (R : RattleType) → IsSend R → Crosses (mutex.the_row R)
+pub locked : (R : RattleType) → IsSend R → Crosses (mutex.the_row R)
 locked R s = record { moved = Mutex-send R s; shared = Mutex-sync R s }
 
 -- ---- sites and tallies
 cause_crosses : Crosses (cause.the_field).row
 cause_crosses = variants cause.the_type (tt, (tt, (tt, tt)))
 
-whole_cause_crosses : Crosses cause.the_row
+pub whole_cause_crosses : Crosses cause.the_row
 whole_cause_crosses = choice cause.the_type cause_crosses
 
 module _ (T : RattleType) (c : charter.Ghosts T.Denot) (l : ledger.Ghosts T.Denot) (g : names.Ghosts T.Denot) (n : log.Ghosts T.Denot)

@@ -4,7 +4,7 @@ ghost use Rattle.cluster_journal.specs.Journal.{world_of};
 ghost use Rattle.silo_workers.specs.Delivered.{AreDeliveriesTo};
 ghost use Rattle.silo_workers.specs.Endings.{Ends};
 
-use crate::Ending;
+use crate::{Cause, Ending};
 use cluster_board::{Board, Charter, Hand, Prepared, Uncommitted};
 use cluster_journal::Receipt;
 use silo_address::SiloAddress;
@@ -98,7 +98,7 @@ impl<L: Charter> Tally<L> {
     }
 }
 
-/// What a worker did up to its end, and how it ended: clauses see it as its silo.
+/// What a worker did up to its end, and how it ended: clauses see its silo, and why it gave up, if it did.
 #[derive(Drop)]
 pub struct Worked<L: Charter> {
     tally: Tally<L>,
@@ -106,12 +106,11 @@ pub struct Worked<L: Charter> {
 }
 
 impl<L: Charter> Model for Worked<L> {
-    ghost use Rattle.silo_address.specs.Silo.{Silo};
-    ghost use Rattle.silo_workers.specs.Endings.{Ends};
+    ghost use Rattle.silo_workers.specs.Endings.{EndingValue, Ends};
 
-    ghost Value = { Silo };
+    ghost Value = { EndingValue };
 
-    ghost view = { λ w. w.tally.silo };
+    ghost view = { λ w. record { silo = w.tally.silo; cause = w.ending.cause } };
 
     ghost invariant = { λ w. Ends L.settings w.tally.silo w.tally.seen w.ending };
 }
@@ -120,9 +119,16 @@ impl<L: Charter> Worked<L> {
     // The worker ended so.
     pub(crate) fn new(tally: Tally<L>, ending: Ending<L>) -> Worked<L>
         requires { Ends L.settings tally.silo tally.seen ending }
-        ensures { result ≡ tally.silo }
+        ensures { result ≡ record { silo = tally.silo; cause = ending.cause } }
     {
         Worked { tally, ending }
+    }
+
+    /// Why it gave up, if it did.
+    pub fn cause(&self) -> Option<Cause>
+        ensures { result ≡ self.now.cause }
+    {
+        self.ending.cause()
     }
 
     /// The worker's hand, with its part of the share and what it saw of the journal; the receipts of what it committed, as many as the
@@ -130,8 +136,9 @@ impl<L: Charter> Worked<L> {
     pub fn whole(self) -> (Hand<L>, Vec<Receipt>, Ending<L>)
         ensures part { result.0.share.parts ≡ 1 }
         ensures counted { result.0.share.amount ≡ vec_len result.1 }
-        ensures delivered { AreDeliveriesTo L.settings self result.0.seen result.1.items }
-        ensures ended { Ends L.settings self result.0.seen result.2 }
+        ensures delivered { AreDeliveriesTo L.settings self.silo result.0.seen result.1.items }
+        ensures ended { Ends L.settings self.silo result.0.seen result.2 }
+        ensures why { result.2.cause ≡ self.cause }
     {
         let Worked { tally, ending } = self;
         let (hand, receipts) = tally.whole();

@@ -16,7 +16,7 @@ pub fn work<L: Charter, G: Gate + Drop, R: Wait>(
     site: &Site<L, G>,
     tally: Tally<L>,
 ) -> Worked<L>
-    ensures { result ≡ tally.silo }
+    ensures { result.silo ≡ tally.silo }
 {
     let mut tally = tally;
     for _ in rt.forever() {

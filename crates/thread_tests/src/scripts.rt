@@ -85,6 +85,25 @@ show
 
 const BROKEN: &str = "error: a read or a write failed\n";
 
+// What is told where the mail is full for the silo's second letter.
+const MAIL_FULL: &str = "error: a worker gave up: more letters would be sent than ever may be
+error: memory, a thread or a ring to publish is lacking, or a worker gave up
+";
+
+// What a play is given: so many reads and so many writes are well, and so many letters may ever be sent.
+#[derive(Clone, Copy)]
+struct Limits {
+    reads: usize,
+    writes: usize,
+    letters: u64,
+}
+
+const MANY: Limits = Limits {
+    reads: usize::MAX,
+    writes: usize::MAX,
+    letters: 1_000_000,
+};
+
 // Gives a byte at a time; the read behind so many fails.
 #[derive(Drop)]
 struct FrailReader<'a> {
@@ -133,21 +152,21 @@ impl Write for FrailWriter {
 // What comes of a script: its status, what is printed and what is told.
 type Course<'a> = (u8, &'a str, &'a str);
 
-// Whether that comes of the script, where so many reads and so many writes are well.
+// Whether that comes of the script.
 fn comes<R: Threads + Wait + Copy + Drop + Send + 'static>(
     rt: &R,
     alloc: Global,
     script: &str,
-    (reads, writes): (usize, usize),
+    limits: Limits,
     (status, printed, told): Course<'_>,
 ) -> bool {
     let mut source = FrailReader {
         rest: script.as_bytes(),
-        reads,
+        reads: limits.reads,
     };
     let mut output = FrailWriter {
         taken: Vec::new(alloc),
-        writes,
+        writes: limits.writes,
     };
     let mut errors = Vec::new(alloc);
     let Ok(tokens) = Tokens::new(alloc, PARTS, MARK_BLOCKS) else {
@@ -156,6 +175,9 @@ fn comes<R: Threads + Wait + Copy + Drop + Send + 'static>(
     let exit = match run_words(alloc, &WORDS, &mut source, &mut output, &mut errors) {
         Run::Ended(exit) => exit,
         Run::OnThreads(settings) => {
+            let Some(settings) = settings.with_letters(limits.letters) else {
+                return false;
+            };
             let ended = play_on_threads::<Brand, R, _, _, _>(
                 rt,
                 alloc,
@@ -175,26 +197,26 @@ fn comes<R: Threads + Wait + Copy + Drop + Send + 'static>(
 
 #[test]
 fn worked_scripts(rt: HostRuntime) {
-    let all = (usize::MAX, usize::MAX);
-    assert!(rt; comes(&rt, rt.alloc(), ONE, all, (0, PRINTED_OF_ONE, "")));
-    assert!(rt; comes(&rt, rt.alloc(), TWO, all, (0, PRINTED_OF_TWO, "")));
-    assert!(rt; comes(&rt, rt.alloc(), SILENT, all, (0, PRINTED_OF_SILENT, "")));
+    assert!(rt; comes(&rt, rt.alloc(), ONE, MANY, (0, PRINTED_OF_ONE, "")));
+    assert!(rt; comes(&rt, rt.alloc(), TWO, MANY, (0, PRINTED_OF_TWO, "")));
+    assert!(rt; comes(&rt, rt.alloc(), SILENT, MANY, (0, PRINTED_OF_SILENT, "")));
     let nothing = "journal 0\ncheck ok\nversion 0\nno owner\n";
-    assert!(rt; comes(&rt, rt.alloc(), "", all, (0, nothing, "")));
+    assert!(rt; comes(&rt, rt.alloc(), "", MANY, (0, nothing, "")));
 }
 
 #[test]
 fn a_fault(rt: HostRuntime) {
     let told = "error: line 4: a policy is prefer_local, hash_based or least_held\n";
     let course = (2, "line 4 fault 926\n", told);
-    assert!(rt; comes(&rt, rt.alloc(), FAULTY, (usize::MAX, usize::MAX), course));
+    assert!(rt; comes(&rt, rt.alloc(), FAULTY, MANY, course));
 }
 
 // Each read fails in turn: nothing is printed.
 #[test]
 fn reads_that_fail(rt: HostRuntime) {
     for reads in 0..=ONE.len() {
-        assert!(rt; comes(&rt, rt.alloc(), ONE, (reads, usize::MAX), (5, "", BROKEN)));
+        let limits = Limits { reads, ..MANY };
+        assert!(rt; comes(&rt, rt.alloc(), ONE, limits, (5, "", BROKEN)));
     }
 }
 
@@ -202,9 +224,17 @@ fn reads_that_fail(rt: HostRuntime) {
 #[test]
 fn writes_that_fail(rt: HostRuntime) {
     for writes in 0..PRINTED_OF_ONE.len() {
+        let limits = Limits { writes, ..MANY };
         let course = (5, front(PRINTED_OF_ONE, writes), BROKEN);
-        assert!(rt; comes(&rt, rt.alloc(), ONE, (usize::MAX, writes), course));
+        assert!(rt; comes(&rt, rt.alloc(), ONE, limits, course));
     }
+}
+
+// The mail has room for one letter, so the worker that is to answer it gives up, and says why.
+#[test]
+fn a_worker_that_gives_up(rt: HostRuntime) {
+    let limits = Limits { letters: 1, ..MANY };
+    assert!(rt; comes(&rt, rt.alloc(), ONE, limits, (3, "", MAIL_FULL)));
 }
 
 // So many bytes from the front of a text, which is ASCII.

@@ -1,15 +1,10 @@
 use Rattle.std.proofs.Common.{subst, sym}
 use Rattle.std.proofs.lemmas.Result.{IfErr-weaker, IfOk-weaker}
 use Rattle.cluster_journal.proofs.Beginnings.{prefix_then}
-use Rattle.threaded_play.specs.declared.ended.ThreadsEnded.TheVariants.{Lacking}
-use Rattle.threaded_play.proofs.Nothing.{nothing_told}
 use Rattle.console_threads.specs.Endings.{IsUnclosed}
 use Rattle.console_threads.proofs.Closed.{closed_silently}
 use Rattle.console_threads.proofs.Entered.{deliveries_beside}
 use Rattle.console_threads.proofs.close.Driver+L+OpenGate.close.Goals as goal
-
-pub returns-in_default-clause-told : goal.returns-in_default-clause-told
-returns-in_default-clause-told g c = nothing_told g.E.Sink.writes g.E.Sink.contents Lacking c.args.errors.now
 
 pub returns-clause-told : goal.returns-clause-told
 returns-clause-told g c = closed_silently g.E.Sink.writes g.E.Sink.contents c.closed.result c.args.errors.now
