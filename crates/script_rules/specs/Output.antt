@@ -11,6 +11,7 @@ use Rattle.directory_rules.specs.State.{Node, World, Accepted}
 use Rattle.directory_rules.specs.World.{first_world}
 use Rattle.directory_rules.specs.Happens.{happens, least_deliverable}
 use Rattle.texts.specs.Printed.{Output, text_of_lines}
+use Rattle.script_rules.specs.declared.command_set.CommandSet.{CommandSet}
 use Rattle.script_rules.specs.Script.{Command, Happen, Sync, Settle, Owner, Place, Show, Mail, Dump, Check, lines_of, read_line}
 use Rattle.script_rules.specs.Lines.{outcome_line, refusal_line, fault_line}
 use Rattle.script_rules.specs.Show.{show_lines, mail_lines, owner_line, place_line}
@@ -114,16 +115,16 @@ line_played (Ok None) number session next = next session
 line_played (Ok (Some command)) number session next = after_command (performed session command) next
 line_played (Err fault) number session next = record { text = text_of_lines (fault_line number fault ∷ []); status = 2 }
 
--- lines, the first of which has this number
-unfoldable pub played : ℕ → Session → List (List ℕ) → Output
-played number session [] = record { text = []; status = end_status session }
-played number session (line ∷ lines) =
-    line_played (read_line line) number session (λ next. played (number + 1) next lines)
+-- lines, the first of which has this number, of a script that knows the commands of the set
+unfoldable pub played : CommandSet → ℕ → Session → List (List ℕ) → Output
+played set number session [] = record { text = []; status = end_status session }
+played set number session (line ∷ lines) =
+    line_played (read_line set line) number session (λ next. played set (number + 1) next lines)
 
 -- before the first line
 abbrev pub first_session : Settings → Session
 first_session settings = record { world = first_world settings; faulted = false }
 
--- the output of a script, by the settings
-abbrev pub output_of : Settings → List ℕ → Output
-output_of settings script = played 1 (first_session settings) (lines_of script)
+-- the output of a script, by the commands that it knows and the settings
+abbrev pub output_of : CommandSet → Settings → List ℕ → Output
+output_of set settings script = played set 1 (first_session settings) (lines_of script)

@@ -19,6 +19,8 @@ use Rattle.directory_rules.specs.declared.own_step.OwnStep.TheVariants as own
 use Rattle.directory_rules.specs.Event.{Event}
 use Rattle.directory_rules.specs.Event as event
 use Rattle.texts.specs.Words.{line_feed, carriage_return, space, semicolon, tilde, pieces_at, words_in}
+use Rattle.script_rules.specs.declared.command_set.CommandSet.{CommandSet}
+use Rattle.script_rules.specs.declared.command_set.CommandSet.TheVariants.{Standard, Full}
 
 -- what a line may ask for
 pub data Command : Type 0 where
@@ -182,17 +184,30 @@ a_part [] = Ok own.Nudge
 a_part (part ∷ []) = part_word part
 a_part words = Err 922
 
--- each such step under its name, with what stands behind the name
-abbrev pub own_steps : List (List ℕ × Grammar OwnStep)
-own_steps =
+-- in the standard set each nudge is of all
+abbrev pub nudge_words : CommandSet → Grammar OwnStep
+nudge_words Standard = no_word own.Nudge
+nudge_words Full = a_part
+
+-- the steps that the standard set lacks
+abbrev pub added_steps : CommandSet → List (List ℕ × Grammar OwnStep)
+added_steps Standard = []
+added_steps Full = (codes "cancel", a_grain own.Cancel) ∷ []
+
+-- each step of a set under its name, with what stands behind the name
+abbrev pub steps_in : CommandSet → List (List ℕ × Grammar OwnStep)
+steps_in set =
     (codes "wake", a_grain own.Wake)
     ∷ (codes "close", a_grain own.Close)
-    ∷ (codes "cancel", a_grain own.Cancel)
     ∷ (codes "find", a_grain own.Find)
     ∷ (codes "forget", a_grain own.Forget)
-    ∷ (codes "nudge", a_part)
+    ∷ (codes "nudge", nudge_words set)
     ∷ (codes "offer", a_grain_and_a_silo own.Offer)
-    ∷ []
+    ∷ added_steps set
+
+-- all steps
+abbrev pub own_steps : List (List ℕ × Grammar OwnStep)
+own_steps = steps_in Full
 
 -- whether there are too many words or too few
 abbrev pub is_miscounted : {A : Type 0} → Result A ℕ → Bool
@@ -212,8 +227,8 @@ behind_a_silo grammar [] = Err 922
 behind_a_silo grammar (silo ∷ words) = with_a_silo silo (grammar words)
 
 -- in a script the silo stands in front
-abbrev pub step_commands : List (List ℕ × Grammar Command)
-step_commands = map (λ row. (row.0, behind_a_silo row.1)) own_steps
+abbrev pub step_commands : CommandSet → List (List ℕ × Grammar Command)
+step_commands set = map (λ row. (row.0, behind_a_silo row.1)) (steps_in set)
 
 -- ---- Commands.
 
@@ -236,9 +251,9 @@ other_commands =
     ∷ (codes "check", no_word Check)
     ∷ []
 
--- each command under its name
-abbrev pub commands : List (List ℕ × Grammar Command)
-commands = other_commands ++ step_commands
+-- each command of a set under its name
+abbrev pub commands_in : CommandSet → List (List ℕ × Grammar Command)
+commands_in set = other_commands ++ step_commands set
 
 -- ---- Lines.
 
@@ -267,14 +282,14 @@ command_if_known (Some grammar) words = do
   command ← grammar words
   Ok (Some command)
 
--- the command that the words make; none where there is no word or they are a remark
-abbrev pub command_of_words : List (List ℕ) → Result (Option Command) ℕ
-command_of_words [] = Ok None
-command_of_words (name ∷ words) = if is_remark name then Ok None else command_if_known (lookup (bytes_eq name) commands) words
+-- the command of the set that the words make; none where there is no word or they are a remark
+abbrev pub command_of_words : CommandSet → List (List ℕ) → Result (Option Command) ℕ
+command_of_words set [] = Ok None
+command_of_words set (name ∷ words) = if is_remark name then Ok None else command_if_known (lookup (bytes_eq name) (commands_in set)) words
 
--- what a line says: a command, nothing, or its first fault. 924 where it is too long, then 925 where a byte isn't text, then
--- 921 where its first word names no command, then those of the words behind it
-unfoldable pub read_line : List ℕ → Result (Option Command) ℕ
-read_line line =
+-- what a line says where a script knows the commands of the set: a command, nothing, or its first fault. 924 where it is too long, then
+-- 925 where a byte isn't text, then 921 where its first word names no command, then those of the words behind it
+unfoldable pub read_line : CommandSet → List ℕ → Result (Option Command) ℕ
+read_line set line =
     if nat_lt longest_line (length line) then Err 924
-    else (if list_all is_text line then command_of_words (words_in line) else Err 925)
+    else (if list_all is_text line then command_of_words set (words_in line) else Err 925)

@@ -2,4 +2,7 @@
 //! no behaviour here.
 #![tactic(auto)]
 
+mod command_set;
 pub mod laws;
+
+pub use command_set::CommandSet;

@@ -17,4 +17,8 @@ returns c = record {
   not_a_number = refl;
   not_text = refl;
   unknown_policy = refl;
+  no_cancel = refl;
+  no_nudge_of_a_part = refl;
+  cancel = refl;
+  nudge_of_a_part = refl;
 }
