@@ -9,6 +9,7 @@ ghost use Rattle.process_lines.specs.AskedModel.{asked_of};
 
 use crate::{Asked, LineFault, number_word};
 use script_lines::{only_word, own_step};
+use script_rules::CommandSet;
 
 /// A version.
 pub(crate) fn see(words: &[u8]) -> Result<Asked<'_>, LineFault>
@@ -25,7 +26,7 @@ pub(crate) fn see(words: &[u8]) -> Result<Asked<'_>, LineFault>
 pub(crate) fn step_under<'a>(name: &[u8], words: &'a [u8]) -> Result<Asked<'a>, LineFault>
     ensures { told (λ asked. Some (asked_of asked)) result ≡ rule.asked_if_known (lookup (bytes_eq name.now) rule.step_commands) (words_in words.now) }
 {
-    match own_step(name, words) {
+    match own_step(CommandSet::Full, name, words) {
         Some(Ok(step)) => Ok(Asked::Do(step)),
         Some(Err(fault)) => Err(LineFault::of_script(fault)),
         None => Err(LineFault::UnknownCommand),

@@ -209,14 +209,14 @@ module _ (hashing : Hashing) where
     (
       grain_step_asks own.Close (λ g is. is),
       (
-        grain_step_asks own.Cancel (λ g is. is),
+        grain_step_asks own.Find (λ g is. is),
         (
-          grain_step_asks own.Find (λ g is. is),
+          grain_step_asks own.Forget (λ g is. is),
           (
-            grain_step_asks own.Forget (λ g is. is),
+            step_asks a_part part_makes,
             (
-              step_asks a_part part_makes,
-              (step_asks (a_grain_and_a_silo own.Offer) (offer_makes IsOwnStep own.Offer (λ g s first second. (first, second))), tt),
+              step_asks (a_grain_and_a_silo own.Offer) (offer_makes IsOwnStep own.Offer (λ g s first second. (first, second))),
+              (grain_step_asks own.Cancel (λ g is. is), tt),
             ),
           ),
         ),

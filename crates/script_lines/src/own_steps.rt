@@ -1,8 +1,8 @@
-//! What an application asks of its silo: the one table of the code, as `own_steps` of `Script.antt` is that of the rule, and below it
+//! What an application asks of its silo: the one table of the code, as `steps_in` of `Script.antt` is that of the rule, and below it
 //! what reads the words behind each name.
 
 ghost use Rattle.std.specs.Map.{lookup};
-ghost use Rattle.std.specs.Prelude.{◌≡◌, bytes_eq, option_map};
+ghost use Rattle.std.specs.Prelude.{◌≡◌, ◌∷◌, bytes_eq, codes, option_map};
 ghost use Rattle.directory_rules.specs.declared.own_step.OwnStep.{OwnStep};
 ghost use Rattle.directory_rules.specs.declared.own_step.OwnStep.TheVariants as own;
 ghost use Rattle.silo_address.specs.Grain.{Grain};
@@ -14,21 +14,26 @@ use crate::ScriptFault;
 use crate::grammar::{grain_word, silo_word};
 use crate::words::{only_two_words, only_word, split_word};
 use directory_rules::OwnStep;
+use script_rules::CommandSet;
 use silo_address::GrainId;
 
-/// What an application asks of its silo under that name, with the words behind it, or their first fault; nothing where no step has
-/// the name (`docs/RULES.md#scripts`).
-pub fn own_step(name: &[u8], words: &[u8]) -> Option<Result<OwnStep, ScriptFault>>
-    ensures { option_map (told (λ step. step)) result ≡ option_map (λ grammar. grammar (words_in words.now)) (lookup (bytes_eq name.now) script.own_steps) }
+/// What an application asks of its silo under that name, with the words behind it, or their first fault; nothing where no step of the
+/// set has the name (`docs/RULES.md#scripts`).
+pub fn own_step(
+    commands: CommandSet,
+    name: &[u8],
+    words: &[u8],
+) -> Option<Result<OwnStep, ScriptFault>>
+    ensures { option_map (told (λ step. step)) result ≡ option_map (λ grammar. grammar (words_in words.now)) (lookup (bytes_eq name.now) (script.steps_in commands)) }
 {
     match name {
         b"wake" => Some(wake(words)),
         b"close" => Some(close(words)),
-        b"cancel" => Some(cancel(words)),
         b"find" => Some(find(words)),
         b"forget" => Some(forget(words)),
-        b"nudge" => Some(nudge(words)),
+        b"nudge" => Some(nudge(commands, words)),
         b"offer" => Some(offer(words)),
+        b"cancel" => added_cancel(commands, words),
         _ => None,
     }
 }
@@ -45,6 +50,16 @@ fn close(words: &[u8]) -> Result<OwnStep, ScriptFault>
 {
     let grain = a_grain(words)?;
     Ok(OwnStep::Close(grain))
+}
+
+/// That of `cancel`, which the standard set lacks.
+fn added_cancel(commands: CommandSet, words: &[u8]) -> Option<Result<OwnStep, ScriptFault>>
+    ensures { option_map (told (λ step. step)) result ≡ option_map (λ grammar. grammar (words_in words.now)) (lookup (bytes_eq (codes "cancel")) (script.added_steps commands)) }
+{
+    match commands {
+        CommandSet::Standard => None,
+        CommandSet::Full => Some(cancel(words)),
+    }
 }
 
 fn cancel(words: &[u8]) -> Result<OwnStep, ScriptFault>
@@ -68,12 +83,22 @@ fn forget(words: &[u8]) -> Result<OwnStep, ScriptFault>
     Ok(OwnStep::Forget(grain))
 }
 
-fn nudge(words: &[u8]) -> Result<OwnStep, ScriptFault>
-    ensures { told (λ step. step) result ≡ script.a_part (words_in words.now) }
+fn nudge(commands: CommandSet, words: &[u8]) -> Result<OwnStep, ScriptFault>
+    ensures { told (λ step. step) result ≡ script.nudge_words commands (words_in words.now) }
 {
     let Some((part, more)) = split_word(words) else {
         return Ok(OwnStep::Nudge);
     };
+    match commands {
+        CommandSet::Standard => Err(ScriptFault::WordCount),
+        CommandSet::Full => only_part(part, more),
+    }
+}
+
+/// Of what part a nudge is, where no word stands behind that one.
+fn only_part(part: &[u8], more: &[u8]) -> Result<OwnStep, ScriptFault>
+    ensures { told (λ step. step) result ≡ script.a_part (part.now ∷ words_in more.now) }
+{
     match split_word(more) {
         None => part_word(part),
         Some(_) => Err(ScriptFault::WordCount),

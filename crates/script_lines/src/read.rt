@@ -7,17 +7,23 @@ ghost use Rattle.script_lines.specs.ReadAs.{IsJoinWithPlaces, Reads};
 use crate::verbs::command_named;
 use crate::words::split_word;
 use crate::{Command, ReadError, ScriptFault};
+use script_rules::CommandSet;
 use std::alloc::Global;
 
 /// How many bytes a line may have.
 pub const LONGEST_LINE: usize = 8192;
 
-/// Reads a line, given without its end: a command, nothing, or the first fault of the line. Memory is taken for the places
-/// of a join alone, and that it runs out is told only of a join with places, where the line has no fault. (`docs/RULES.md#scripts`)
+/// Reads a line, given without its end, of a script that knows these commands: a command, nothing, or the first fault of the line.
+/// Memory is taken for the places of a join alone, and that it runs out is told only of a join with places, where the line has no
+/// fault. (`docs/RULES.md#scripts`)
 #[tactic(auto, unfolding(script_rules::specs::Script::read_line))]
-pub fn read_command(alloc: Global, line: &[u8]) -> Result<Option<Command>, ReadError>
-    ensures reads { Reads (option_map command_of) result (script.read_line line.now) }
-    ensures memory { IsErrOf result ReadError.OutOfMemory → IsJoinWithPlaces (script.read_line line.now) }
+pub fn read_command(
+    alloc: Global,
+    commands: CommandSet,
+    line: &[u8],
+) -> Result<Option<Command>, ReadError>
+    ensures reads { Reads (option_map command_of) result (script.read_line commands line.now) }
+    ensures memory { IsErrOf result ReadError.OutOfMemory → IsJoinWithPlaces (script.read_line commands line.now) }
 {
     if line.len() > LONGEST_LINE {
         return Err(ReadError::Fault(ScriptFault::LineTooLong));
@@ -31,7 +37,7 @@ pub fn read_command(alloc: Global, line: &[u8]) -> Result<Option<Command>, ReadE
     if is_remark(name) {
         return Ok(None);
     }
-    let command = command_named(alloc, name, words)?;
+    let command = command_named(alloc, commands, name, words)?;
     Ok(Some(command))
 }
 

@@ -1,5 +1,5 @@
-//! The verbs of commands: the one table of the code but for the steps that an application asks of its silo, as `commands` of
-//! `Script.antt` is that of the rule, and below it what reads the words behind each verb.
+//! The verbs of commands: the one table of the code but for the steps that an application asks of its silo, as `commands_in`
+//! of `Script.antt` is that of the rule, and below it what reads the words behind each verb.
 
 ghost use Rattle.std.specs.Map.{lookup};
 ghost use Rattle.std.specs.Prelude.{◌≡◌, ◌≢◌, IsErrOf, Some, bytes_eq, codes, option_map};
@@ -17,32 +17,42 @@ use crate::own_steps::own_step;
 use crate::words::split_word;
 use crate::{Command, ReadError, ScriptFault};
 use directory_rules::{Event, OwnStep};
+use script_rules::CommandSet;
 use std::alloc::Global;
 
-/// What each command is written as.
+/// What each command is written as, the standard ones first.
 pub(crate) const COMMANDS: &str =
-    "join SILO PLACE.., leave SILO, kill SILO, nudge SILO, nudge SILO GRAIN, nudge SILO ranges, see SILO VERSION, sync, wake SILO GRAIN, close SILO GRAIN, cancel SILO GRAIN, find SILO GRAIN, forget SILO GRAIN, offer SILO GRAIN SILO, deliver LETTER, lose LETTER, settle, owner HASH, place SILO POLICY GRAIN, show, mail, dump or check";
+    "join SILO PLACE.., leave SILO, kill SILO, nudge SILO, see SILO VERSION, sync, wake SILO GRAIN, close SILO GRAIN, find SILO GRAIN, forget SILO GRAIN, offer SILO GRAIN SILO, deliver LETTER, lose LETTER, settle, owner HASH, place SILO POLICY GRAIN, show, mail, dump or check, and with --commands all also cancel SILO GRAIN, nudge SILO GRAIN or nudge SILO ranges";
 
-/// The command of that verb, with the words behind it.
-pub(crate) fn command_named(alloc: Global, verb: &[u8], words: &[u8]) -> Result<Command, ReadError>
-    ensures reads { Reads (λ command. Some (command_of command)) result (script.command_if_known (lookup (bytes_eq verb.now) script.commands) (words_in words.now)) }
-    ensures memory { IsErrOf result ReadError.OutOfMemory → IsJoinWithPlaces (script.command_if_known (lookup (bytes_eq verb.now) script.commands) (words_in words.now)) }
+/// The command of the set that has that verb, with the words behind it.
+pub(crate) fn command_named(
+    alloc: Global,
+    commands: CommandSet,
+    verb: &[u8],
+    words: &[u8],
+) -> Result<Command, ReadError>
+    ensures reads { Reads (λ command. Some (command_of command)) result (script.command_if_known (lookup (bytes_eq verb.now) (script.commands_in commands)) (words_in words.now)) }
+    ensures memory { IsErrOf result ReadError.OutOfMemory → IsJoinWithPlaces (script.command_if_known (lookup (bytes_eq verb.now) (script.commands_in commands)) (words_in words.now)) }
 {
     if verb == b"join".as_slice() {
         return join(alloc, words);
     }
-    let command = command_without_memory(verb, words)?;
+    let command = command_without_memory(commands, verb, words)?;
     Ok(command)
 }
 
 /// The command of a verb other than that of a join.
-fn command_without_memory(verb: &[u8], words: &[u8]) -> Result<Command, ScriptFault>
+fn command_without_memory(
+    commands: CommandSet,
+    verb: &[u8],
+    words: &[u8],
+) -> Result<Command, ScriptFault>
     requires other { verb.now ≢ codes "join" }
-    ensures { told (λ command. Some (command_of command)) result ≡ script.command_if_known (lookup (bytes_eq verb.now) script.commands) (words_in words.now) }
+    ensures { told (λ command. Some (command_of command)) result ≡ script.command_if_known (lookup (bytes_eq verb.now) (script.commands_in commands)) (words_in words.now) }
 {
     match other_command(verb, words) {
         Some(read) => read,
-        None => step_of_a_silo(verb, words),
+        None => step_of_a_silo(commands, verb, words),
     }
 }
 
@@ -70,16 +80,20 @@ fn other_command(verb: &[u8], words: &[u8]) -> Option<Result<Command, ScriptFaul
 }
 
 /// What a silo's application asks of it, where the verb is that of such a step.
-fn step_of_a_silo(verb: &[u8], words: &[u8]) -> Result<Command, ScriptFault>
-    ensures { told (λ command. Some (command_of command)) result ≡ script.command_if_known (lookup (bytes_eq verb.now) script.step_commands) (words_in words.now) }
+fn step_of_a_silo(
+    commands: CommandSet,
+    verb: &[u8],
+    words: &[u8],
+) -> Result<Command, ScriptFault>
+    ensures { told (λ command. Some (command_of command)) result ≡ script.command_if_known (lookup (bytes_eq verb.now) (script.step_commands commands)) (words_in words.now) }
 {
     let Some((silo, behind)) = split_word(words) else {
-        return match own_step(verb, words) {
+        return match own_step(commands, verb, words) {
             Some(_) => Err(ScriptFault::WordCount),
             None => Err(ScriptFault::UnknownCommand),
         };
     };
-    match own_step(verb, behind) {
+    match own_step(commands, verb, behind) {
         Some(read) => with_a_silo(silo, read),
         None => Err(ScriptFault::UnknownCommand),
     }

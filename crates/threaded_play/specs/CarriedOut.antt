@@ -8,6 +8,7 @@ use Rattle.directory_rules.specs.State.{World}
 use Rattle.cluster_journal.specs.Entry.{EntryValue}
 use Rattle.cluster_journal.specs.Journal.{entry_at, world_of}
 use Rattle.script_rules.specs.Output.{sync_events}
+use Rattle.script_rules.specs.declared.command_set.CommandSet.{CommandSet}
 use Rattle.script_rules.specs.Script.{Command, Happen, Sync, read_line}
 
 -- ---- The commands of a script.
@@ -18,9 +19,9 @@ command_in (Ok (Some command)) = command ∷ []
 command_in (Ok None) = []
 command_in (Err fault) = []
 
--- the commands of lines, in their order
-abbrev pub commands_of : (lines : List (List ℕ)) → List Command
-commands_of lines = flat_map (λ line. command_in (read_line line)) lines
+-- the commands of lines, in their order, of a script that knows those of the set
+abbrev pub commands_of : CommandSet → (lines : List (List ℕ)) → List Command
+commands_of set lines = flat_map (λ line. command_in (read_line set line)) lines
 
 -- ---- What they post. Whoever posts knows a beginning of the journal, which only grows.
 

@@ -2,6 +2,7 @@
 use Rattle.std.specs.Prelude.{◌≡◌, ◌⊎◌, ℕ, Bool, true, false, List, Option, None}
 use Rattle.std.specs.Io.KnownBytes.{Appends, Keeps}
 use Rattle.directory_rules.specs.Settings.{Settings}
+use Rattle.script_rules.specs.declared.command_set.CommandSet.{CommandSet}
 use Rattle.script_rules.specs.Script.{lines_of}
 use Rattle.line_loop.specs.Calls.{ReadsInTurn, WritesText}
 use Rattle.line_loop.specs.Endings as play
@@ -22,20 +23,20 @@ status_of ReceiptDiffers = 1
 status_of Lacking = 3
 
 -- what is written behind what the sink had: all that the script comes to; where a write breaks the play a beginning of it; else nothing
-abbrev pub Writes : Settings → (script : List ℕ) → (begun written : Option (List ℕ)) → Ended ScriptLineFault → Type 0
-Writes settings script begun written ended.AtEnd = (text : List ℕ) × TellsWorld settings script text × Appends begun written text
-Writes settings script begun written (ended.Stopped fault) = Appends begun written (faults_alone 1 (lines_of script)).text
-Writes settings script begun written ended.TooLong = Keeps begun written
-Writes settings script begun written ended.OutOfMemory = ⊥
-Writes settings script begun written ended.Broken =
-    Keeps begun written ⊎ ((text : List ℕ) × IsPrinted settings script text × WritesFront text begun written)
+abbrev pub Writes : CommandSet → Settings → (script : List ℕ) → (begun written : Option (List ℕ)) → Ended ScriptLineFault → Type 0
+Writes set settings script begun written ended.AtEnd = (text : List ℕ) × TellsWorld set settings script text × Appends begun written text
+Writes set settings script begun written (ended.Stopped fault) = Appends begun written (faults_alone set 1 (lines_of script)).text
+Writes set settings script begun written ended.TooLong = Keeps begun written
+Writes set settings script begun written ended.OutOfMemory = ⊥
+Writes set settings script begun written ended.Broken =
+    Keeps begun written ⊎ ((text : List ℕ) × IsPrinted set settings script text × WritesFront text begun written)
 
--- a script is played: it is read as one whose lines print their first fault alone, and its output is written once all has ended. Where
--- a receipt differs, or something lacks, nothing is written.
-abbrev pub Ends : Settings → (script : List ℕ) → (rest begun written : Option (List ℕ)) → ThreadsEnded → Type 0
-Ends settings script rest begun written (Played ended) =
-    WritesScript (faults_alone 1) script rest None None ended × Writes settings script begun written ended
-Ends settings script rest begun written other = Keeps begun written
+-- a script is played, which knows the commands of the set: it is read as one whose lines print their first fault alone, and its output is
+-- written once all has ended. Where a receipt differs, or something lacks, nothing is written.
+abbrev pub Ends : CommandSet → Settings → (script : List ℕ) → (rest begun written : Option (List ℕ)) → ThreadsEnded → Type 0
+Ends set settings script rest begun written (Played ended) =
+    WritesScript (faults_alone set 1) script rest None None ended × Writes set settings script begun written ended
+Ends set settings script rest begun written other = Keeps begun written
 
 -- some text is written, whole or not
 abbrev pub WritesSome : {W : Type 0} → (writes : W → List ℕ → Option ℕ → W → Type 0) → (old new : W) → (well : Bool) → Type 0
