@@ -22,14 +22,14 @@ pub fn scripts_without_events()
         ≡ record { text = codes "line 1 fault 925\n"; status = 2 } }
     ensures unknown_policy { output_of Standard (directory_settings Stated 30 1024) (codes "place 10.0.0.1:1000@1 best user/a\n")
         ≡ record { text = codes "line 1 fault 926\n"; status = 2 } }
-    ensures no_cancel { output_of Standard (directory_settings Stated 30 1024) (codes "cancel 10.0.0.1:1000@1 user/a\n")
+    ensures no_cancel { output_of Standard (directory_settings Stated 30 1024) (codes "cancel 10.0.0.1:1000 user/a\n")
         ≡ record { text = codes "line 1 fault 921\n"; status = 2 } }
+    ensures cancel { output_of Full (directory_settings Stated 30 1024) (codes "cancel 10.0.0.1:1000 user/a\n")
+        ≡ record { text = codes "line 1 fault 101\n"; status = 2 } }
     ensures no_nudge_of_a_part { output_of Standard (directory_settings Stated 30 1024) (codes "nudge 10.0.0.1:1000 ranges\n")
         ≡ record { text = codes "line 1 fault 922\n"; status = 2 } }
-    ensures cancel { output_of Full (directory_settings Stated 30 1024) (codes "cancel 10.0.0.1:1000@1 user/a\n")
-        ≡ record { text = codes "refused 901\n"; status = 0 } }
-    ensures nudge_of_a_part { output_of Full (directory_settings Stated 30 1024) (codes "nudge 10.0.0.1:1000@1 ranges\n")
-        ≡ record { text = codes "refused 901\n"; status = 0 } }
+    ensures nudge_of_a_part { output_of Full (directory_settings Stated 30 1024) (codes "nudge 10.0.0.1:1000 ranges\n")
+        ≡ record { text = codes "line 1 fault 101\n"; status = 2 } }
 {}
 
 /// A settle ends by itself: with more deliveries than there may be letters it prints and makes the same.
