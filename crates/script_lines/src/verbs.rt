@@ -80,11 +80,7 @@ fn other_command(verb: &[u8], words: &[u8]) -> Option<Result<Command, ScriptFaul
 }
 
 /// What a silo's application asks of it, where the verb is that of such a step.
-fn step_of_a_silo(
-    commands: CommandSet,
-    verb: &[u8],
-    words: &[u8],
-) -> Result<Command, ScriptFault>
+fn step_of_a_silo(commands: CommandSet, verb: &[u8], words: &[u8]) -> Result<Command, ScriptFault>
     ensures { told (λ command. Some (command_of command)) result ≡ script.command_if_known (lookup (bytes_eq verb.now) (script.step_commands commands)) (words_in words.now) }
 {
     let Some((silo, behind)) = split_word(words) else {
