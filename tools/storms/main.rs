@@ -10,7 +10,7 @@
 //!   storms views|offers SEED EVENTS        those of a seeded storm
 //!
 //! In the folder NAME.script is the script of a storm, and NAME.plain what the plain cluster prints for it. Once both are there, a line
-//! on standard output has NAME, the number of hints that each cache keeps, and that of the entries that a report has at most. Scripts of worlds are to be deleted once they are played.
+//! on standard output has NAME and the words behind `play` for that script. Scripts of worlds are to be deleted once they are played.
 
 mod before;
 mod bound;
@@ -118,7 +118,7 @@ fn keep(storm: &Storm, name: &str, folder: &Path) -> io::Result<()> {
     let write = |ending: &str, bytes: &[u8]| fs::write(folder.join(format!("{name}.{ending}")), bytes);
     write("script", storm.stage.script.as_bytes())?;
     write("plain", &storm.stage.printed.0)?;
-    writeln!(io::stdout(), "{name} {} {}", storm.hints, storm.report_size)
+    writeln!(io::stdout(), "{name} {}", storm.words)
 }
 
 /// How many scripts are in the folder.
@@ -187,6 +187,6 @@ fn seeded(folder: &Path, ends_quietly: bool) -> Ended {
 /// The script of a storm, up to its end or to the first fault.
 fn script(mut storm: Storm) -> Ended {
     let ran = run(&mut storm, &mut Tally::default(), "this storm", 0);
-    let written = write!(io::stdout(), "; each cache keeps {} hints, and a report has {} entries at most\n{}", storm.hints, storm.report_size, storm.stage.script);
+    let written = write!(io::stdout(), "; play {}\n{}", storm.words, storm.stage.script);
     ran.and(written.map_err(told))
 }

@@ -12,9 +12,6 @@ use crate::tally::Tally;
 use crate::turn::Turn;
 use crate::world::{Happening, Outcome, Settings, World};
 
-/// How many points a silo has where they are hashed, as the program has it without another word. Here it is only told in dumps.
-const POINTS: u64 = 30;
-
 pub struct Stage {
     pub world: World,
     pub grains: Vec<Grain>,
@@ -33,9 +30,9 @@ pub struct Stage {
 }
 
 impl Stage {
-    /// A world before its first event, with these grains, whose silos keep so many hints each and tell so many entries in a report.
-    pub fn new(grains: Vec<Grain>, hints: usize, report_size: usize) -> Stage {
-        let mut world = World::new(Settings { is_stated: true, points: POINTS, cache: hints, report_size });
+    /// A world before its first event, with these grains.
+    pub fn new(grains: Vec<Grain>, settings: Settings) -> Stage {
+        let mut world = World::new(settings);
         for (index, grain) in grains.iter().enumerate() {
             let number = world.names().1.read(grain.text.as_bytes());
             assert_eq!(number, Ok(index as u32), "grains are numbered as they are read");

@@ -8,6 +8,7 @@ use crate::seeded::{Course, Seeded};
 use crate::stage::Stage;
 use crate::tally::Tally;
 use crate::turn::Turn;
+use crate::world::{MOST_ACTIVATIONS, Settings};
 
 /// How many events a world takes.
 pub const WORLD: u64 = 20_000;
@@ -15,8 +16,13 @@ pub const WORLD: u64 = 20_000;
 /// When this many silos have joined a world, hardly any more ever may, and its storm ends.
 const WORLD_SILOS: usize = 250;
 
-/// How many entries a report has at most in a world: which of these, its seed decides.
-const REPORT_SIZES: [usize; 4] = [1, 2, 3, 64];
+/// How many points a silo has where they are hashed, as the program has it without another word. Here it is only told in dumps.
+const POINTS: u64 = 30;
+
+/// How many entries a report has at most in a world, and how many activations a silo may hold: which of these, its seed decides, as whether
+/// silos ask by surveys.
+const REPORT_SIZES: [usize; 5] = [1, 2, 3, 64, MOST_ACTIVATIONS];
+const ACTIVATIONS: [usize; 4] = [65_536, 65_536, 65_536, 24];
 
 /// After so many turns, or with that version, a seeded storm ends.
 const SEEDED_TURNS: u64 = 2_000;
@@ -24,9 +30,6 @@ const SEEDED_VERSION: u64 = 40;
 
 /// How many hints each silo keeps in a seeded storm.
 const SEEDED_HINTS: usize = 1_024;
-
-/// How many entries a report has at most in a seeded storm.
-const SEEDED_REPORT: usize = 64;
 
 /// After so many accepted events a world's dump is printed.
 const DUMPED: u64 = 10_000;
@@ -47,10 +50,8 @@ struct End {
 
 pub struct Storm {
     pub stage: Stage,
-    /// How many hints each silo's cache keeps.
-    pub hints: usize,
-    /// How many entries a report has at most.
-    pub report_size: usize,
+    /// The words behind `play` by which a program plays its script.
+    pub words: String,
     /// How many turns there were.
     pub turns: u64,
     /// Whether it ends with a quiet end.
@@ -59,6 +60,25 @@ pub struct Storm {
     of_quiet_ends: u64,
     source: Source,
     end: End,
+}
+
+/// What the world of a seed is set up with.
+fn world_settings(seed: usize, hints: usize) -> Settings {
+    let (drawn, seed) = (seed % REPORT_SIZES.len(), seed / REPORT_SIZES.len());
+    Settings {
+        report_size: REPORT_SIZES[drawn],
+        surveys: seed % 2 == 1,
+        activations: ACTIVATIONS[seed / 2 % ACTIVATIONS.len()],
+        ..Settings::of_directory(true, POINTS, hints)
+    }
+}
+
+/// The words that set a directory up so, with all commands of scripts.
+fn world_words(settings: &Settings) -> String {
+    let Settings { cache, activations, report_size, surveys, .. } = *settings;
+    let size = if report_size == MOST_ACTIVATIONS { "whole".to_string() } else { report_size.to_string() };
+    let surveys = if surveys { "on" } else { "off" };
+    format!("--hashing stated --cache {cache} --activations {activations} --report-size {size} --surveys {surveys} --commands all")
 }
 
 impl Storm {
@@ -70,19 +90,20 @@ impl Storm {
         let hints = (random.index(3) * 8).max(1);
         let end = End { turns: events.saturating_mul(8), events, silos: WORLD_SILOS, version: u64::MAX };
         let source = Source::World(Climate::new(random, home));
-        let report_size = REPORT_SIZES[seed as usize % REPORT_SIZES.len()];
-        Storm::new(Stage::new(grains, hints, report_size), (hints, report_size), source, end)
+        let settings = world_settings(seed as usize, hints);
+        Storm::new(Stage::new(grains, settings), world_words(&settings), source, end)
     }
 
     /// The seeded storm of a course and a seed, up to so many events.
     pub fn of_seed(course: Course, seed: u64, events: u64) -> Storm {
         let end = End { turns: SEEDED_TURNS, events, silos: usize::MAX, version: SEEDED_VERSION };
         let source = Source::Seeded(Seeded::new(course, seed));
-        Storm::new(Stage::new(eighths(), SEEDED_HINTS, SEEDED_REPORT), (SEEDED_HINTS, SEEDED_REPORT), source, end)
+        let settings = Settings::of_directory(true, POINTS, SEEDED_HINTS);
+        Storm::new(Stage::new(eighths(), settings), "--hashing stated".to_string(), source, end)
     }
 
-    fn new(stage: Stage, (hints, report_size): (usize, usize), source: Source, end: End) -> Storm {
-        Storm { stage, hints, report_size, turns: 0, ends_quietly: true, of_quiet_ends: 0, source, end }
+    fn new(stage: Stage, words: String, source: Source, end: End) -> Storm {
+        Storm { stage, words, turns: 0, ends_quietly: true, of_quiet_ends: 0, source, end }
     }
 
     /// How many events were drawn and accepted.

@@ -20,10 +20,10 @@ mod world;
 
 use judging::judged;
 use output::Output;
-use script::{Command, LONGEST_LINE, read_line};
+use script::{Command, Commands, LONGEST_LINE, read_line};
 use std::io::{self, BufRead, Read, Write};
 use std::process::ExitCode;
-use world::{Event, Settings, World};
+use world::{Event, MOST_ACTIVATIONS, Settings, World};
 
 /// How many bytes a script may have.
 const MOST_READ: usize = 268_435_456;
@@ -35,6 +35,7 @@ const WRITTEN_AT: usize = 32_768;
 /// A script on its way.
 struct Session {
     world: World,
+    commands: Commands,
     out: Output,
     /// How many lines were read.
     lines: u64,
@@ -89,7 +90,7 @@ impl Session {
     /// Plays a line, without its end; or prints its fault, and tells that the script has ended.
     fn play_line(&mut self, line: &[u8], writer: &mut impl Write) -> io::Result<bool> {
         self.lines += 1;
-        match read_line(&mut self.world, line) {
+        match read_line(&mut self.world, self.commands, line) {
             Ok(None) => {}
             Ok(Some(command)) => self.perform(command, writer)?,
             Err(fault) => {
@@ -159,9 +160,9 @@ fn play_lines(session: &mut Session, bytes: &[u8], writer: &mut impl Write) -> i
 }
 
 /// Plays a script, with everything that the lines read so far print written before more is read; the answer is the exit status.
-fn play(settings: Settings) -> io::Result<u8> {
+fn play(settings: Settings, commands: Commands) -> io::Result<u8> {
     let (mut reader, mut writer) = (io::stdin().lock(), io::stdout().lock());
-    let mut session = Session { world: World::new(settings), out: Output::default(), lines: 0, faulted: false };
+    let mut session = Session { world: World::new(settings), commands, out: Output::default(), lines: 0, faulted: false };
     let mut bytes = vec![0; READ_AT_ONCE + LONGEST_LINE + 2];
     let (mut kept, mut read) = (0, 0);
     loop {
@@ -185,30 +186,43 @@ fn play(settings: Settings) -> io::Result<u8> {
     }
 }
 
-/// The settings that the words choose, if they are known: `play [--hashing sha256|stated] [--points N] [--cache N] [--report-size N]`.
-fn settings(words: &[String]) -> Option<Settings> {
-    let mut settings = Settings { is_stated: false, points: 30, cache: 1024, report_size: 64 };
+const USAGE: &str = "usage: play [--hashing sha256|stated] [--points N] [--cache N] [--activations N] [--report-size N|whole] \
+[--surveys on|off] [--commands standard|all]";
+
+/// The number that a word is, from 1 up to that one.
+fn number_up_to(word: &str, most: usize) -> Option<usize> {
+    word.parse().ok().filter(|number| (1..=most).contains(number))
+}
+
+/// The settings and the commands that the words choose, if they are known.
+fn chosen(words: &[String]) -> Option<(Settings, Commands)> {
+    let mut settings = Settings::of_directory(false, 30, 1024);
+    let mut commands = Commands::Standard;
     let (first, options) = words.split_first()?;
     let options: Vec<&str> = options.iter().flat_map(|word| word.splitn(2, '=')).collect();
     for option in options.chunks(2) {
         match option {
             ["--hashing", hashing @ ("sha256" | "stated")] => settings.is_stated = *hashing == "stated",
-            ["--points", points] => settings.points = points.parse().ok().filter(|points| (1..=128).contains(points))?,
-            ["--cache", cache] => settings.cache = cache.parse().ok().filter(|cache| (1..=65_536).contains(cache))?,
-            ["--report-size", size] => settings.report_size = size.parse().ok().filter(|size| (1..=64).contains(size))?,
+            ["--points", points] => settings.points = number_up_to(points, 128)? as u64,
+            ["--cache", cache] => settings.cache = number_up_to(cache, 65_536)?,
+            ["--activations", activations] => settings.activations = number_up_to(activations, MOST_ACTIVATIONS)?,
+            ["--report-size", "whole"] => settings.report_size = MOST_ACTIVATIONS,
+            ["--report-size", size] => settings.report_size = number_up_to(size, MOST_ACTIVATIONS)?,
+            ["--surveys", surveys @ ("on" | "off")] => settings.surveys = *surveys == "on",
+            ["--commands", set @ ("standard" | "all")] => commands = if *set == "all" { Commands::All } else { Commands::Standard },
             _ => return None,
         }
     }
-    (first == "play").then_some(settings)
+    (first == "play").then_some((settings, commands))
 }
 
 fn main() -> ExitCode {
     let words: Vec<String> = std::env::args().skip(1).collect();
-    let Some(settings) = settings(&words) else {
-        eprintln!("usage: play [--hashing sha256|stated] [--points N] [--cache N] [--report-size N]");
+    let Some((settings, commands)) = chosen(&words) else {
+        eprintln!("{USAGE}");
         return ExitCode::from(4);
     };
-    match play(settings) {
+    match play(settings, commands) {
         Ok(status) => ExitCode::from(status),
         Err(error) => {
             eprintln!("{error}");

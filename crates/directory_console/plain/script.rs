@@ -17,11 +17,19 @@ pub enum Command {
     Check,
 }
 
+/// Which commands a script has.
+#[derive(Clone, Copy, PartialEq, Eq)]
+pub enum Commands {
+    /// All but those that give an activation up, and that send a part of what is outstanding again.
+    Standard,
+    All,
+}
+
 /// What is read of a word, or the number of its fault.
 type Read<T> = Result<T, u16>;
 
 /// What a line says; nothing where it has no word or is a remark.
-pub fn read_line(world: &mut World, line: &[u8]) -> Read<Option<Command>> {
+pub fn read_line(world: &mut World, commands: Commands, line: &[u8]) -> Read<Option<Command>> {
     if line.len() > LONGEST_LINE {
         return Err(924);
     }
@@ -34,7 +42,7 @@ pub fn read_line(world: &mut World, line: &[u8]) -> Read<Option<Command>> {
         None => Ok(None),
         Some(name) if name[0] == b';' => Ok(None),
         Some(b"join") => join(world, words).map(Some),
-        Some(name) => command(world, name, words).map(Some),
+        Some(name) => command(world, commands, name, words).map(Some),
     }
 }
 
@@ -53,7 +61,7 @@ fn exactly<'a, const N: usize>(mut words: impl Iterator<Item = &'a [u8]>) -> Rea
     if words.next().is_some() { Err(922) } else { Ok(those) }
 }
 
-fn command<'a>(world: &mut World, name: &[u8], words: impl Iterator<Item = &'a [u8]>) -> Read<Command> {
+fn command<'a>(world: &mut World, commands: Commands, name: &[u8], words: impl Iterator<Item = &'a [u8]>) -> Read<Command> {
     Ok(match name {
         b"settle" => exactly::<0>(words).map(|_| Command::Settle)?,
         b"sync" => exactly::<0>(words).map(|_| Command::Sync)?,
@@ -71,12 +79,13 @@ fn command<'a>(world: &mut World, name: &[u8], words: impl Iterator<Item = &'a [
             let policy = policy_word(policy)?;
             Command::Place(silo, policy, grain_word(world, grain)?)
         }
-        _ => Command::Happen(event(world, name, words)?),
+        _ => Command::Happen(event(world, commands, name, words)?),
     })
 }
 
-fn event<'a>(world: &mut World, name: &[u8], words: impl Iterator<Item = &'a [u8]>) -> Read<Event> {
+fn event<'a>(world: &mut World, commands: Commands, name: &[u8], words: impl Iterator<Item = &'a [u8]>) -> Read<Event> {
     Ok(match name {
+        b"cancel" if commands == Commands::Standard => return Err(921),
         b"wake" | b"close" | b"cancel" | b"find" | b"forget" => {
             let [silo, grain] = exactly(words)?;
             let silo = silo_word(world, silo)?;
@@ -105,11 +114,15 @@ fn event<'a>(world: &mut World, name: &[u8], words: impl Iterator<Item = &'a [u8
             let letter = number_word(letter)?;
             if name == b"lose" { Event::Lose { letter } } else { Event::Deliver { letter } }
         }
-        b"nudge" => nudge(world, words)?,
-        b"leave" | b"kill" => {
+        b"nudge" if commands == Commands::All => nudge(world, words)?,
+        b"leave" | b"kill" | b"nudge" => {
             let [silo] = exactly(words)?;
             let silo = silo_word(world, silo)?;
-            if name == b"leave" { Event::Leave { silo } } else { Event::Kill { silo } }
+            match name[0] {
+                b'l' => Event::Leave { silo },
+                b'k' => Event::Kill { silo },
+                _ => Event::Nudge { silo },
+            }
         }
         _ => return Err(921),
     })

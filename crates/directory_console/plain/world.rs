@@ -17,6 +17,7 @@ mod sight;
 mod surveys;
 mod transfer;
 mod views;
+mod wants;
 mod words;
 
 pub use host::{Held, Phase};
@@ -41,6 +42,9 @@ const _: () = assert!(MOST_EVENTS < 1 << 24);
 /// How many places a join may name.
 const MOST_PLACES: usize = 128;
 
+/// How many activations a silo may hold at most: a report of so many entries is whole.
+pub const MOST_ACTIVATIONS: usize = 1 << 24;
+
 /// What a directory is set up with.
 #[derive(Clone, Copy)]
 pub struct Settings {
@@ -50,8 +54,12 @@ pub struct Settings {
     pub points: u64,
     /// How many hints a silo's cache keeps.
     pub cache: usize,
+    /// How many activations a silo may hold.
+    pub activations: usize,
     /// How many entries a report has at most.
     pub report_size: usize,
+    /// Whether a silo asks the others by surveys for what recovers; otherwise by queries, range by range.
+    pub surveys: bool,
 }
 
 pub enum Event {
@@ -146,6 +154,13 @@ pub struct World {
     current_ring: (Version, Rc<Ring>),
 }
 
+impl Settings {
+    /// A directory's own settings, where three are chosen.
+    pub fn of_directory(is_stated: bool, points: u64, cache: usize) -> Settings {
+        Settings { is_stated, points, cache, activations: 65_536, report_size: MOST_ACTIVATIONS, surveys: false }
+    }
+}
+
 impl World {
     pub fn new(settings: Settings) -> World {
         let commons = Commons {
@@ -156,6 +171,7 @@ impl World {
             sealed: Vec::new(),
             reports: Vec::new(),
             report_size: settings.report_size,
+            surveys: settings.surveys,
         };
         let current_ring = (0, Rc::default());
         World { settings, silos: Silos::default(), nodes: Vec::new(), commons, accepted: 0, current_ring }
@@ -231,7 +247,7 @@ impl World {
         if let Some(old) = replaced {
             self.nodes[usize::from(old)] = None;
         }
-        self.nodes.push(Some(Box::new(Node::new(silo, self.settings.cache))));
+        self.nodes.push(Some(Box::new(Node::new(silo, &self.settings))));
         Ok(Happening::Joined { version: self.version(), silo, replaced })
     }
 

@@ -25,7 +25,7 @@ pub struct Cluster {
 impl Cluster {
     /// A world before its first event, whose caches keep so many hints.
     pub fn new(hints: usize) -> Cluster {
-        let settings = Settings { is_stated: true, points: 1, cache: hints, report_size: 64 };
+        let settings = Settings::of_directory(true, 1, hints);
         Cluster { world: World::new(settings), silos: Vec::new(), points: 0, accepted: 0, sent: 0 }
     }
 

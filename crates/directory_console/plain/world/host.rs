@@ -6,8 +6,7 @@ use super::pieces::Entry;
 use super::ring::Range;
 use std::collections::{BTreeMap, VecDeque};
 
-/// How many activations a silo may hold, and how many finds it may have outstanding.
-const MOST_ACTIVATIONS: usize = 1_000_000;
+/// How many finds a silo may have outstanding.
 const MOST_FINDS: usize = 65_536;
 
 /// Of fewer activations than these a report is made by looking at each.
@@ -47,6 +46,8 @@ pub enum Request {
 /// million events come nowhere near 2^60.
 pub struct Host {
     silo: Silo,
+    /// How many activations it may hold.
+    most_held: usize,
     next_count: u32,
     held: Vec<Held>,
     free: Vec<Slot>,
@@ -61,9 +62,10 @@ pub struct Host {
 }
 
 impl Host {
-    pub fn new(silo: Silo) -> Host {
+    pub fn new(silo: Silo, most_held: usize) -> Host {
         Host {
             silo,
+            most_held,
             next_count: 1,
             held: Vec::new(),
             free: Vec::new(),
@@ -81,7 +83,7 @@ impl Host {
     }
 
     pub fn is_full(&self) -> bool {
-        self.held_count() >= MOST_ACTIVATIONS
+        self.held_count() >= self.most_held
     }
 
     pub fn is_full_of_finds(&self) -> bool {

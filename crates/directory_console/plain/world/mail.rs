@@ -148,9 +148,11 @@ impl Mail {
         self.letters.push(letter);
     }
 
-    /// The number under which letters name these ranges.
-    pub fn list(&mut self, ranges: Rc<[Range]>) -> u32 {
-        self.ranges.push(ranges);
+    /// The number under which letters name these ranges; where they are those that were named last, that one.
+    pub fn list(&mut self, ranges: &[Range]) -> u32 {
+        if self.ranges.last().is_none_or(|last| **last != *ranges) {
+            self.ranges.push(ranges.into());
+        }
         self.ranges.len() as u32 - 1
     }
 

@@ -5,10 +5,11 @@ use super::cache::Cache;
 use super::host::{Host, Phase, Request, Slot};
 use super::identities::{Activation, Grain, Grains, Silo};
 use super::mail::{Body, Letter, Mail};
-use super::pieces::{Entry, Pieces, Sealed, Shelf, State, Table};
+use super::pieces::{Entry, Pieces, Sealed, Shelf, Table};
 use super::ring::{Range, Ring, Rings};
 use super::views::{Version, Views};
-use super::{Effect, Happening};
+use super::wants::wanted;
+use super::{Effect, Happening, Settings};
 use std::collections::btree_map;
 use std::rc::Rc;
 
@@ -22,6 +23,8 @@ pub struct Commons {
     pub reports: Vec<Report>,
     /// How many entries a report has at most.
     pub report_size: usize,
+    /// Whether silos ask by surveys.
+    pub surveys: bool,
 }
 
 /// The first firm activations of a silo that are hashed into a range and stand there behind a grain, if one is named, and whether those
@@ -51,7 +54,7 @@ pub type Step<T> = Result<T, u16>;
 
 impl Node {
     /// The node of a silo that has just joined.
-    pub fn new(silo: Silo, cache: usize) -> Node {
+    pub fn new(silo: Silo, settings: &Settings) -> Node {
         Node {
             silo,
             seen: 0,
@@ -60,8 +63,8 @@ impl Node {
             pieces: Pieces::default(),
             table: Table::new(),
             shelf: Shelf::new(),
-            host: Host::new(silo),
-            cache: Cache::new(cache),
+            host: Host::new(silo, settings.activations),
+            cache: Cache::new(settings.cache),
         }
     }
 
@@ -168,7 +171,7 @@ impl Node {
     }
 
     pub fn nudge(&mut self, commons: &mut Commons) -> Step<Happening> {
-        commons.mail.has_room_for(self.wanted() + self.asked(self.host.outstanding()))?;
+        commons.mail.has_room_for(wanted(&self.pieces.0, commons) + self.asked(self.host.outstanding()))?;
         self.host.renew();
         self.post_requests(commons, 0);
         self.post_wants(commons);
@@ -183,14 +186,9 @@ impl Node {
     }
 
     pub fn nudge_ranges(&mut self, commons: &mut Commons) -> Step<Happening> {
-        commons.mail.has_room_for(self.wanted())?;
+        commons.mail.has_room_for(wanted(&self.pieces.0, commons))?;
         self.post_wants(commons);
         Ok(Happening::Nudged { silo: self.silo })
-    }
-
-    /// How many letters its pieces want sent.
-    fn wanted(&self) -> usize {
-        self.pieces.0.iter().map(|piece| piece.state.wants()).sum()
     }
 
     /// How many of so many requests are sent: none where nobody owns a hash.
@@ -217,22 +215,6 @@ impl Node {
         match held.phase {
             Phase::Asking => (grain, Body::Register { grain, activation, previous }),
             _ => (grain, Body::Deregister { grain, activation }),
-        }
-    }
-
-    /// Asks for what the pieces want, piece by piece.
-    pub fn post_wants(&self, commons: &mut Commons) {
-        for piece in &self.pieces.0 {
-            let range = piece.range;
-            match &piece.state {
-                State::Settled => {}
-                State::Awaiting { from, page } => commons.mail.post(self.letter(*from, 0, Body::Ask { range, page: *page })),
-                State::Recovering { of, told, .. } => {
-                    let Commons { views, mail, .. } = &mut *commons;
-                    let awaited = views.by_address.iter().filter(|silo| of.contains(**silo));
-                    awaited.for_each(|silo| mail.post(self.letter(*silo, 0, Body::Query { range, after: told.get(silo).copied() })));
-                }
-            }
         }
     }
 

@@ -81,13 +81,11 @@ impl State {
         matches!(self, State::Settled)
     }
 
-    /// How many letters it takes to ask for what is wanted.
-    pub fn wants(&self) -> usize {
-        match self {
-            State::Settled => 0,
-            State::Awaiting { .. } => 1,
-            State::Recovering { of, .. } => of.len(),
-        }
+}
+
+impl Piece {
+    pub fn is_recovering(&self) -> bool {
+        matches!(self.state, State::Recovering { .. })
     }
 }
 

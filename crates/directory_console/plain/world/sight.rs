@@ -5,8 +5,8 @@ use super::identities::Silo;
 use super::node::{Commons, Node, Step};
 use super::pieces::{Piece, Sealed, State, take_out};
 use super::ring::{Range, Ring};
-use super::surveys::newly_wanted;
 use super::views::Version;
+use super::wants::wanted;
 use std::rc::Rc;
 
 /// What a sight is of, and what it will make of the pieces.
@@ -31,12 +31,12 @@ impl Node {
             return Err(904);
         }
         let sight = self.plan(commons, version as Version, joined);
-        let wanted = newly_wanted(&sight.pieces);
+        let wanted = wanted(&sight.pieces, commons);
         let asked = if sight.new.points.is_empty() { 0 } else { self.host.outstanding() };
         commons.mail.has_room_for(wanted + asked)?;
         let (version, is_next) = (sight.version, sight.is_next);
         self.carry_out(commons, sight);
-        self.post_new_wants(commons);
+        self.post_wants(commons);
         self.post_requests(commons, 0);
         Ok(Happening::Saw { silo: self.silo, version, is_next })
     }

@@ -1,53 +1,11 @@
-//! Several ranges that recover at once: a silo is asked for all of them by one letter, and tells by one in which of them it has nothing.
+//! Several ranges that recover at once: a silo that is asked for all of them by one letter tells by one in which of them it has nothing.
 
 use super::Effect;
 use super::mail::{Body, Letter};
 use super::node::{Commons, Node, Report, Step};
-use super::pieces::{Piece, State};
-use super::ring::Range;
-use std::rc::Rc;
-
-/// Up to so many ranges are asked for one by one.
-const MOST_QUERIED: usize = 2;
-
-/// How many letters it takes to ask for what new pieces want.
-pub fn newly_wanted(pieces: &[Piece]) -> usize {
-    let wants = |piece: &Piece| piece.state.wants();
-    let recovering: Vec<usize> = pieces.iter().filter(|piece| is_recovering(piece)).map(wants).collect();
-    let asks: usize = pieces.iter().filter(|piece| !is_recovering(piece)).map(wants).sum();
-    asks + if recovering.len() > MOST_QUERIED { recovering[0] } else { recovering.iter().sum() }
-}
-
-fn is_recovering(piece: &Piece) -> bool {
-    matches!(piece.state, State::Recovering { .. })
-}
+use super::pieces::State;
 
 impl Node {
-    /// Asks for what new pieces want: for the pages of those that await a snapshot, piece by piece, and then all silos for the others.
-    pub fn post_new_wants(&self, commons: &mut Commons) {
-        let ranges: Rc<[Range]> = self.pieces.0.iter().filter(|piece| is_recovering(piece)).map(|piece| piece.range).collect();
-        for piece in &self.pieces.0 {
-            if let State::Awaiting { from, page } = piece.state {
-                commons.mail.post(self.letter(from, 0, Body::Ask { range: piece.range, page }));
-            }
-        }
-        if ranges.len() > MOST_QUERIED {
-            let survey = Body::Survey { ranges: commons.mail.list(ranges) };
-            return self.post_to_members(commons, survey);
-        }
-        for range in ranges.iter() {
-            self.post_to_members(commons, Body::Query { range: *range, after: None });
-        }
-    }
-
-    pub fn post_to_members(&self, commons: &mut Commons, body: Body) {
-        let members = commons.views.members(self.seen);
-        let Commons { views, mail, .. } = commons;
-        for silo in views.by_address.iter().filter(|silo| members.contains(**silo)) {
-            mail.post(self.letter(*silo, 0, body));
-        }
-    }
-
     /// A report on each range in which something is firm, and before them one letter of all the others.
     pub fn answer_survey(&mut self, commons: &mut Commons, letter: &Letter, ranges: u32) -> Step<Effect> {
         if self.seen != letter.version {
@@ -68,7 +26,7 @@ impl Node {
         }
         commons.mail.has_room_for(reports.len() + usize::from(!empty.is_empty()))?;
         if !empty.is_empty() {
-            let ranges = commons.mail.list(empty.into());
+            let ranges = commons.mail.list(&empty);
             commons.mail.post(letter.answer(Body::Empty { ranges }));
         }
         for report in reports {

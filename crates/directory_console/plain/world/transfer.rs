@@ -74,7 +74,10 @@ impl Node {
         };
         commons.mail.has_room_for(of.len())?;
         piece.state = State::recovering(of);
-        self.post_to_members(commons, Body::Query { range, after: None });
+        let Commons { views, mail, .. } = commons;
+        for silo in views.by_address.iter().filter(|silo| of.contains(**silo)) {
+            mail.post(self.letter(*silo, 0, Body::Query { range, after: None }));
+        }
         Ok(Effect::Recovering)
     }
 
