@@ -3,7 +3,6 @@
 use crate::host::{Held, Phase, Request};
 use crate::identities::{Activation, Address};
 use crate::letters::Told;
-use crate::pieces::{Piece, State};
 use crate::process::{Process, Step};
 use crate::text::Act;
 
@@ -155,29 +154,6 @@ impl Process {
             };
             if let Some(owner) = ring.owner(hash) {
                 out.request(*name, views.row(owner).address, *seen, number, grain, act);
-            }
-        }
-    }
-
-    /// Asks for what the pieces want, piece by piece.
-    pub fn post_wants(&mut self) {
-        self.post_wants_of(|_| true);
-    }
-
-    /// Asks for what these of the pieces want, piece by piece.
-    pub fn post_wants_of(&mut self, is_meant: impl Fn(&Piece) -> bool) {
-        for piece in self.pieces.0.iter().filter(|piece| is_meant(piece)) {
-            match &piece.state {
-                State::Settled => {}
-                State::Awaiting { from, gathered } => {
-                    self.out.letter(self.name, *from, self.seen, "ask").span(piece.range);
-                    self.out.word(" ").number(gathered.next).word("\n");
-                }
-                State::Recovering { awaited, told, .. } => {
-                    for silo in awaited {
-                        self.out.query(self.name, *silo, self.seen, piece.range, told.get(silo));
-                    }
-                }
             }
         }
     }

@@ -5,8 +5,7 @@ use crate::mixer::Map;
 use crate::pieces::Span;
 use std::collections::BTreeMap;
 
-/// How many activations a silo may hold, and how many finds it may have outstanding.
-const MOST_ACTIVATIONS: usize = 65_536;
+/// How many finds a silo may have outstanding.
 const MOST_FINDS: usize = 65_536;
 
 #[derive(Clone, Copy, PartialEq, Eq)]
@@ -38,6 +37,8 @@ pub enum Request {
 /// Numbers and counts begin at 1, and none is used twice.
 pub struct Host {
     silo: Address,
+    /// How many activations it may hold.
+    most_held: usize,
     next_count: u64,
     next_number: u64,
     /// The activations under their counts, so in the order in which they began.
@@ -48,9 +49,10 @@ pub struct Host {
 }
 
 impl Host {
-    pub fn new(silo: Address) -> Host {
+    pub fn new(silo: Address, most_held: usize) -> Host {
         Host {
             silo,
+            most_held,
             next_count: 1,
             next_number: 1,
             held: BTreeMap::new(),
@@ -61,7 +63,7 @@ impl Host {
     }
 
     pub fn is_full(&self) -> bool {
-        self.held.len() >= MOST_ACTIVATIONS
+        self.held.len() >= self.most_held
     }
 
     pub fn is_full_of_finds(&self) -> bool {

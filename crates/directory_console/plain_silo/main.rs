@@ -29,12 +29,14 @@ mod surveys;
 mod text;
 mod transfers;
 mod views;
+mod wants;
 #[path = "../plain/world/words.rs"]
 mod words;
 
 use identities::Address;
 use process::{Process, Settings};
 use reading::LONGEST_LINE;
+use std::collections::BTreeMap;
 use std::io::{self, BufRead, Read, Write};
 use std::process::ExitCode;
 
@@ -91,41 +93,54 @@ fn write_out(process: &mut Process, writer: &mut impl Write) -> io::Result<()> {
     writer.flush()
 }
 
-/// What the words choose, if they are known: `silo ADDR [--hashing sha256|stated] [--points N] [--cache N] [--report-size N] [--join TOKEN]`, the options
-/// before the address or behind it, each once at most. Of several `=` in a word only the first ends an option's name.
+const USAGE: &str = "usage: silo ADDR [--hashing sha256|stated] [--points N] [--cache N] [--activations N] [--report-size N] \
+[--surveys on|off] [--join TOKEN]";
+
+/// The options, of which each has a word behind it.
+const OPTIONS: [&str; 7] = ["--hashing", "--points", "--cache", "--activations", "--report-size", "--surveys", "--join"];
+
+/// What the words choose, if they are known: the options stand before the address or behind it, each once at most. Of several `=` in a word
+/// only the first ends an option's name.
 fn chosen(words: &[String]) -> Option<Process> {
-    let (mut hashing, mut points, mut cache, mut size, mut token, mut address) = (None, None, None, None, None, None);
+    let (mut options, mut address) = (BTreeMap::new(), None);
     let (first, words) = words.split_first()?;
     let mut words = words.iter().flat_map(|word| word.splitn(if word.starts_with("--") { 2 } else { 1 }, '='));
     while let Some(word) = words.next() {
         let is_first = match word {
-            "--hashing" => hashing.replace(words.next()?).is_none(),
-            "--points" => points.replace(words.next()?).is_none(),
-            "--cache" => cache.replace(words.next()?).is_none(),
-            "--report-size" => size.replace(words.next()?).is_none(),
-            "--join" => token.replace(words.next()?).is_none(),
+            option if OPTIONS.contains(&option) => options.insert(option, words.next()?).is_none(),
             word => address.replace(word).is_none(),
         };
         if !is_first {
             return None;
         }
     }
-    let hashing = hashing.unwrap_or("sha256");
-    let number = |word: Option<&str>, absent: u64| word.map_or(Some(absent), |word| word.parse().ok());
-    let points = number(points, 30).filter(|points| (1..=128).contains(points))?;
-    let cache = number(cache, 1024).filter(|cache| (1..=65_536).contains(cache))?;
-    let size = number(size, 64).filter(|size| (1..=64).contains(size))?;
-    let is_token = |token: &str| (1..=64).contains(&token.len()) && token.bytes().all(|byte| byte.is_ascii_graphic());
-    let is_known = first == "silo" && ["sha256", "stated"].contains(&hashing) && token.is_none_or(is_token);
-    let settings = Settings { is_stated: hashing == "stated", points, cache: cache as usize, report_size: size as usize };
-    let address = Address::read(address?.as_bytes()).ok().filter(|_| is_known)?;
+    let number = |option: &str, absent: usize, most: usize| {
+        let number = options.get(option).map_or(Some(absent), |word| word.parse().ok());
+        number.filter(|number| (1..=most).contains(number))
+    };
+    let settings = Settings {
+        is_stated: one_of(options.get("--hashing"), ["sha256", "stated"])?,
+        points: number("--points", 30, 128)? as u64,
+        cache: number("--cache", 1024, 65_536)?,
+        activations: number("--activations", 1_000_000, 1 << 24)?,
+        report_size: number("--report-size", 64, 64)?,
+        surveys: !one_of(options.get("--surveys"), ["on", "off"])?,
+    };
+    let is_token = |token: &&str| (1..=64).contains(&token.len()) && token.bytes().all(|byte| byte.is_ascii_graphic());
+    let token = options.get("--join").copied();
+    let address = Address::read(address?.as_bytes()).ok().filter(|_| first == "silo" && token.as_ref().is_none_or(is_token))?;
     Some(Process::new(address, token.map(|token| token.as_bytes().to_vec()), settings))
+}
+
+/// Whether a word is the second of two, of which the first stands where there is none.
+fn one_of(word: Option<&&str>, names: [&str; 2]) -> Option<bool> {
+    names.iter().position(|name| word.is_none_or(|word| word == name)).map(|index| index == 1)
 }
 
 fn main() -> ExitCode {
     let words: Vec<String> = std::env::args().skip(1).collect();
     let Some(mut process) = chosen(&words) else {
-        eprintln!("usage: silo ADDR [--hashing sha256|stated] [--points N] [--cache N] [--report-size N] [--join TOKEN]");
+        eprintln!("{USAGE}");
         return ExitCode::from(4);
     };
     match play(&mut process) {

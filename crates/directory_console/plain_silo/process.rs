@@ -22,8 +22,12 @@ pub struct Settings {
     pub points: u64,
     /// How many hints the cache keeps.
     pub cache: usize,
+    /// How many activations the silo may hold.
+    pub activations: usize,
     /// How many entries a report has at most.
     pub report_size: usize,
+    /// Whether it asks the others by surveys for what recovers; otherwise by queries, range by range.
+    pub surveys: bool,
 }
 
 pub struct Process {
@@ -76,7 +80,7 @@ impl Process {
             pieces: Pieces::default(),
             table: Table::default(),
             shelf: Vec::new(),
-            host: Host::new(name),
+            host: Host::new(name, settings.activations),
             cache: Cache::new(settings.cache),
             out: Output::default(),
             is_dead: false,

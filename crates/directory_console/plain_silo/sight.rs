@@ -36,7 +36,7 @@ impl Process {
         self.carry_out(Sight { me, version, is_next, old, new });
         let word = if is_next { " next\n" } else { " skip\n" };
         self.out.address(self.name).word(" sees ").number(version).word(word);
-        self.post_new_wants();
+        self.post_wants();
         self.post_requests(0);
         Ok(())
     }

@@ -1,30 +1,11 @@
-//! Several ranges that recover at once: a silo is asked for all of them by one letter, and tells by one in which of them it has nothing.
+//! Several ranges that recover at once: a silo that is asked for all of them by one letter tells by one in which of them it has nothing.
 
 use crate::identities::Address;
 use crate::pieces::{Piece, Span, State};
 use crate::process::Process;
 
-/// Up to so many ranges are asked for one by one.
-const MOST_QUERIED: usize = 2;
-
-fn is_recovering(piece: &Piece) -> bool {
-    matches!(piece.state, State::Recovering { .. })
-}
-
 impl Process {
-    /// Asks for what new pieces want: for the pages of those that await a snapshot, piece by piece, and then all silos for the others.
-    pub fn post_new_wants(&mut self) {
-        let ranges: Vec<Span> = self.pieces.0.iter().filter(|piece| is_recovering(piece)).map(|piece| piece.range.into()).collect();
-        self.post_wants_of(|piece| !is_recovering(piece));
-        if ranges.len() <= MOST_QUERIED {
-            return self.post_wants_of(is_recovering);
-        }
-        for silo in self.views.members(self.seen) {
-            self.tell_ranges(silo, self.seen.into(), "survey", &ranges);
-        }
-    }
-
-    fn tell_ranges(&mut self, to: Address, version: u64, kind: &str, ranges: &[Span]) {
+    pub fn tell_ranges(&mut self, to: Address, version: u64, kind: &str, ranges: &[Span]) {
         self.out.letter(self.name, to, version, kind).span(ranges[0]);
         for range in &ranges[1..] {
             self.out.word(" ").span(*range);

@@ -20,7 +20,7 @@ a_grain_given_up = record {
       ∷ codes "wake user/ann#7"
       ∷ codes "cancel user/ann#7"
       ∷ codes "cancel user/ann#7"
-      ∷ codes "letter 10.0.0.1:1000@1 10.0.0.1:1000@1 1 report 0+4294967296 last"
+      ∷ codes "letter 10.0.0.1:1000@1 10.0.0.1:1000@1 1 empty 0+4294967296"
       ∷ codes "letter 10.0.0.1:1000@1 10.0.0.1:1000@1 1 deregister 2 user/ann#7 10.0.0.1:1000@1!1"
       ∷ codes "letter 10.0.0.1:1000@1 10.0.0.1:1000@1 1 register 1 user/ann#7 10.0.0.1:1000@1!1"
       ∷ codes "letter 10.0.0.1:1000@1 10.0.0.1:1000@1 1 registered 1 user/ann#7 10.0.0.1:1000@1!1"
@@ -33,14 +33,14 @@ a_grain_given_up = record {
       ∷ codes "refused 901"
       ∷ codes "view 1 joined 10.0.0.1:1000@1"
       ∷ codes "10.0.0.1:1000@1 sees 1 next"
-      ∷ codes "letter 10.0.0.1:1000@1 10.0.0.1:1000@1 1 query 0+4294967296"
+      ∷ codes "letter 10.0.0.1:1000@1 10.0.0.1:1000@1 1 survey 0+4294967296"
       ∷ codes "refused 802"
       ∷ codes "started 10.0.0.1:1000@1!1 user/ann#7"
       ∷ codes "letter 10.0.0.1:1000@1 10.0.0.1:1000@1 1 register 1 user/ann#7 10.0.0.1:1000@1!1"
       ∷ codes "cancelled 10.0.0.1:1000@1!1 user/ann#7"
       ∷ codes "letter 10.0.0.1:1000@1 10.0.0.1:1000@1 1 deregister 2 user/ann#7 10.0.0.1:1000@1!1"
       ∷ codes "refused 808"
-      ∷ codes "delivered report complete"
+      ∷ codes "delivered empty complete"
       ∷ codes "delivered deregister absent"
       ∷ codes "letter 10.0.0.1:1000@1 10.0.0.1:1000@1 1 absent 2"
       ∷ codes "delivered register retry 603"
@@ -52,7 +52,7 @@ a_grain_given_up = record {
 }
 
 -- a grain's activation and the search for it get new numbers, 5 and 6, and nothing else does: replies to 1 and 4 count, replies to 2 and 3
--- don't. What is firm has nothing to send again; a nudge of all sends the query too
+-- don't. What is firm has nothing to send again; a nudge of all sends the survey too
 abbrev pub one_grain_nudged : ProcessRow
 one_grain_nudged = record {
   silo = codes "10.0.0.1:1000@1";
@@ -79,7 +79,7 @@ one_grain_nudged = record {
   text = text_of_lines
       (codes "view 1 joined 10.0.0.1:1000@1"
       ∷ codes "10.0.0.1:1000@1 sees 1 next"
-      ∷ codes "letter 10.0.0.1:1000@1 10.0.0.1:1000@1 1 query 0+4294967296"
+      ∷ codes "letter 10.0.0.1:1000@1 10.0.0.1:1000@1 1 survey 0+4294967296"
       ∷ codes "nudged 10.0.0.1:1000@1"
       ∷ codes "started 10.0.0.1:1000@1!1 user/ann#7"
       ∷ codes "letter 10.0.0.1:1000@1 10.0.0.1:1000@1 1 register 1 user/ann#7 10.0.0.1:1000@1!1"
@@ -102,7 +102,7 @@ one_grain_nudged = record {
       ∷ codes "found 10.0.0.1:1000@1!2 user/bob#9"
       ∷ codes "nudged 10.0.0.1:1000@1"
       ∷ codes "nudged 10.0.0.1:1000@1"
-      ∷ codes "letter 10.0.0.1:1000@1 10.0.0.1:1000@1 1 query 0+4294967296"
+      ∷ codes "letter 10.0.0.1:1000@1 10.0.0.1:1000@1 1 survey 0+4294967296"
       ∷ []);
 }
 

@@ -1,4 +1,5 @@
--- A silo whose range is reported part by part, and which tells what stands behind a grain.
+-- A silo whose range is reported part by part, and which tells what stands behind a grain. Sending again, it asks the silo that has told
+-- nothing by a survey, and then the other one behind what it has told.
 use Rattle.std.specs.Prelude.{[], ◌∷◌, codes, None}
 use Rattle.texts.specs.Printed.{text_of_lines}
 use Rattle.worked_rows.specs.ProcessRow.{ProcessRow}
@@ -19,8 +20,8 @@ a_range_told_in_parts = record {
       ∷ codes "letter 10.0.0.1:1000@1 10.0.0.2:1000@1 2 report 2147483648+2147483648 more user/eve#2147483650 10.0.0.1:1000@1!1"
       ∷ codes "letter 10.0.0.1:1000@1 10.0.0.2:1000@1 2 report 2147483648+2147483648 last user/eve#2147483650 10.0.0.1:1000@1!1"
       ∷ codes "nudge"
-      ∷ codes "letter 10.0.0.2:1000@1 10.0.0.2:1000@1 2 query 2147483648+2147483648"
-      ∷ codes "letter 10.0.0.2:1000@1 10.0.0.2:1000@1 2 report 2147483648+2147483648 last"
+      ∷ codes "letter 10.0.0.2:1000@1 10.0.0.2:1000@1 2 survey 2147483648+2147483648"
+      ∷ codes "letter 10.0.0.2:1000@1 10.0.0.2:1000@1 2 empty 2147483648+2147483648"
       ∷ codes "letter 10.0.0.1:1000@1 10.0.0.2:1000@1 2 report 2147483648+2147483648 user/eve#2147483650 more user/bob#3000000000 10.0.0.1:1000@1!2"
       ∷ codes "show"
       ∷ codes "letter 10.0.0.1:1000@1 10.0.0.2:1000@1 2 report 2147483648+2147483648 user/bob#3000000000 last"
@@ -50,11 +51,11 @@ a_range_told_in_parts = record {
       ∷ codes "delivered report ignored"
       ∷ codes "delivered report ignored"
       ∷ codes "nudged 10.0.0.2:1000@1"
+      ∷ codes "letter 10.0.0.2:1000@1 10.0.0.2:1000@1 2 survey 2147483648+2147483648"
       ∷ codes "letter 10.0.0.2:1000@1 10.0.0.1:1000@1 2 query 2147483648+2147483648 user/eve#2147483650"
-      ∷ codes "letter 10.0.0.2:1000@1 10.0.0.2:1000@1 2 query 2147483648+2147483648"
-      ∷ codes "delivered query report"
-      ∷ codes "letter 10.0.0.2:1000@1 10.0.0.2:1000@1 2 report 2147483648+2147483648 last"
-      ∷ codes "delivered report more"
+      ∷ codes "delivered survey report"
+      ∷ codes "letter 10.0.0.2:1000@1 10.0.0.2:1000@1 2 empty 2147483648+2147483648"
+      ∷ codes "delivered empty more"
       ∷ codes "delivered report more"
       ∷ codes "letter 10.0.0.2:1000@1 10.0.0.1:1000@1 2 query 2147483648+2147483648 user/bob#3000000000"
       ∷ codes "version 2"
