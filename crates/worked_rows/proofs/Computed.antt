@@ -1,6 +1,6 @@
 -- The rows compute.
 use Rattle.std.proofs.Common.{refl}
-use Rattle.worked_rows.specs.Row.{Prints, PrintsWithOneSilo, PrintsWithReportsOfOne, PrintsHashed, IsWritten, IsJudged}
+use Rattle.worked_rows.specs.Row.{Prints, PrintsByAllCommands, PrintsWithOneSilo, PrintsWithReportsOfOne, PrintsWithReportsOf64, PrintsBySurveys, PrintsHoldingOne, PrintsHashed, IsWritten, IsJudged}
 use Rattle.worked_rows.specs.FirstScripts as first_scripts
 use Rattle.worked_rows.specs.Rings as rings
 use Rattle.worked_rows.specs.Transfers as transfers
@@ -71,6 +71,14 @@ pub two_pages : Prints pages.two_pages
 unfolding all_opened
 two_pages = refl
 
+pub sixty_five_reported : Prints pages.sixty_five_reported
+unfolding all_opened
+sixty_five_reported = refl
+
+pub sixty_five_reported_in_parts : PrintsWithReportsOf64 pages.sixty_five_reported_in_parts
+unfolding all_opened
+sixty_five_reported_in_parts = refl
+
 pub two_asks : Prints transfers.two_asks
 unfolding all_opened
 two_asks = refl
@@ -87,7 +95,7 @@ pub lost_letter : Prints transfers.lost_letter
 unfolding all_opened
 lost_letter = refl
 
-pub asked_again : Prints transfers.asked_again
+pub asked_again : PrintsByAllCommands transfers.asked_again
 unfolding all_opened
 asked_again = refl
 
@@ -103,17 +111,21 @@ pub old_number_no_entry : Prints requests.old_number_no_entry
 unfolding all_opened
 old_number_no_entry = refl
 
-pub given_up : Prints requests.given_up
+pub given_up : PrintsByAllCommands requests.given_up
 unfolding all_opened
 given_up = refl
 
-pub given_up_late : Prints requests.given_up_late
+pub given_up_late : PrintsByAllCommands requests.given_up_late
 unfolding all_opened
 given_up_late = refl
 
-pub nudged_again : Prints requests.nudged_again
+pub nudged_again : PrintsByAllCommands requests.nudged_again
 unfolding all_opened
 nudged_again = refl
+
+pub one_activation_held : PrintsHoldingOne requests.one_activation_held
+unfolding all_opened
+one_activation_held = refl
 
 pub reply_of_an_older_view : Prints requests.reply_of_an_older_view
 unfolding all_opened
@@ -126,6 +138,10 @@ cache_and_forget = refl
 pub recovery : Prints recoveries.recovery
 unfolding all_opened
 recovery = refl
+
+pub an_ask_between_queries : Prints recoveries.an_ask_between_queries
+unfolding all_opened
+an_ask_between_queries = refl
 
 pub reports_of_one : PrintsWithReportsOfOne recoveries.reports_of_one
 unfolding all_opened
@@ -147,9 +163,21 @@ pub kept_skip : Prints recoveries.kept_skip
 unfolding all_opened
 kept_skip = refl
 
-pub several_ranges : Prints surveys.several_ranges
+pub several_ranges : PrintsBySurveys surveys.several_ranges
 unfolding all_opened
 several_ranges = refl
+
+pub five_ranges : Prints surveys.five_ranges
+unfolding all_opened
+five_ranges = refl
+
+pub five_ranges_surveyed : PrintsBySurveys surveys.five_ranges_surveyed
+unfolding all_opened
+five_ranges_surveyed = refl
+
+pub five_ranges_surveyed_again : PrintsBySurveys surveys.five_ranges_surveyed_again
+unfolding all_opened
+five_ranges_surveyed_again = refl
 
 pub no_report_of_a_skipped_version : Prints recoveries.no_report_of_a_skipped_version
 unfolding all_opened
@@ -198,6 +226,30 @@ fault_not_a_number = refl
 pub fault_unknown_policy : Prints faults.fault_unknown_policy
 unfolding all_opened
 fault_unknown_policy = refl
+
+pub a_cancel : Prints faults.a_cancel
+unfolding all_opened
+a_cancel = refl
+
+pub a_cancel_known : PrintsByAllCommands faults.a_cancel_known
+unfolding all_opened
+a_cancel_known = refl
+
+pub a_nudge_of_a_grain : Prints faults.a_nudge_of_a_grain
+unfolding all_opened
+a_nudge_of_a_grain = refl
+
+pub a_nudge_of_a_grain_known : PrintsByAllCommands faults.a_nudge_of_a_grain_known
+unfolding all_opened
+a_nudge_of_a_grain_known = refl
+
+pub a_nudge_of_ranges : Prints faults.a_nudge_of_ranges
+unfolding all_opened
+a_nudge_of_ranges = refl
+
+pub a_nudge_of_ranges_known : PrintsByAllCommands faults.a_nudge_of_ranges_known
+unfolding all_opened
+a_nudge_of_ranges_known = refl
 
 pub hashed_points : PrintsHashed hashed.hashed_points
 unfolding all_opened

@@ -4,6 +4,7 @@ use Rattle.worked_rows.specs.ProcessRow.{Writes}
 use Rattle.worked_rows.specs.FirstSilo as first
 use Rattle.worked_rows.specs.SecondSilo as second
 use Rattle.worked_rows.specs.Recovery as recovering
+use Rattle.worked_rows.specs.Surveyed as surveyed
 use Rattle.worked_rows.specs.MissingSnapshot as missing
 use Rattle.worked_rows.specs.Parts as parts
 use Rattle.worked_rows.specs.Refused as refused
@@ -26,6 +27,10 @@ second_silo = (record { ip = 10 ∷ 0 ∷ 0 ∷ 2 ∷ []; port = 1000; generatio
 pub a_view_skipped : Writes recovering.a_view_skipped
 unfolding all_opened
 a_view_skipped = (record { ip = 10 ∷ 0 ∷ 0 ∷ 1 ∷ []; port = 1000; generation = 1 }, refl, refl)
+
+pub three_ranges_surveyed : Writes surveyed.three_ranges_surveyed
+unfolding all_opened
+three_ranges_surveyed = (record { ip = 10 ∷ 0 ∷ 0 ∷ 2 ∷ []; port = 1000; generation = 1 }, refl, refl)
 
 pub a_snapshot_missing : Writes missing.a_snapshot_missing
 unfolding all_opened

@@ -51,3 +51,39 @@ fault_unknown_policy = record {
   text = text_of_lines (codes "line 1 fault 926" ∷ []);
   status = 2;
 }
+
+-- a cancel, which isn't among the standard commands
+abbrev pub a_cancel : Row
+a_cancel = record {
+  script = text_of_lines (codes "cancel 10.0.0.1:1000@1 user/a#1" ∷ []);
+  text = text_of_lines (codes "line 1 fault 921" ∷ []);
+  status = 2;
+}
+
+-- among all commands it is, and no silo has joined
+abbrev pub a_cancel_known : Row
+a_cancel_known = record { script = a_cancel.script; text = text_of_lines (codes "refused 901" ∷ []); status = 0 }
+
+-- behind a nudge's silo nothing stands among the standard commands
+abbrev pub a_nudge_of_a_grain : Row
+a_nudge_of_a_grain = record {
+  script = text_of_lines (codes "nudge 10.0.0.1:1000@1 user/a#1" ∷ []);
+  text = text_of_lines (codes "line 1 fault 922" ∷ []);
+  status = 2;
+}
+
+-- among all commands a grain does
+abbrev pub a_nudge_of_a_grain_known : Row
+a_nudge_of_a_grain_known = record { script = a_nudge_of_a_grain.script; text = text_of_lines (codes "refused 901" ∷ []); status = 0 }
+
+-- nor the word for the ranges
+abbrev pub a_nudge_of_ranges : Row
+a_nudge_of_ranges = record {
+  script = text_of_lines (codes "nudge 10.0.0.1:1000@1 ranges" ∷ []);
+  text = text_of_lines (codes "line 1 fault 922" ∷ []);
+  status = 2;
+}
+
+-- among all commands it does
+abbrev pub a_nudge_of_ranges_known : Row
+a_nudge_of_ranges_known = record { script = a_nudge_of_ranges.script; text = text_of_lines (codes "refused 901" ∷ []); status = 0 }

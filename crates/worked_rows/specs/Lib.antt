@@ -16,6 +16,7 @@ pub mod ProcessRow
 pub mod FirstSilo
 pub mod SecondSilo
 pub mod Recovery
+pub mod Surveyed
 pub mod MissingSnapshot
 pub mod Parts
 pub mod Refused

@@ -369,3 +369,36 @@ nudged_again = record {
       ∷ []);
   status = 0;
 }
+
+-- a silo that may hold one activation has no room for a second one until the first has ended
+abbrev pub one_activation_held : Row
+one_activation_held = record {
+  script = text_of_lines
+      (codes "join 10.0.0.1:1000@1 0"
+      ∷ codes "see 10.0.0.1:1000@1 1"
+      ∷ codes "settle"
+      ∷ codes "wake 10.0.0.1:1000@1 user/a#1"
+      ∷ codes "wake 10.0.0.1:1000@1 user/b#2"
+      ∷ codes "settle"
+      ∷ codes "close 10.0.0.1:1000@1 user/a#1"
+      ∷ codes "wake 10.0.0.1:1000@1 user/b#2"
+      ∷ codes "settle"
+      ∷ codes "wake 10.0.0.1:1000@1 user/b#2"
+      ∷ []);
+  text = text_of_lines
+      (codes "view 1 joined 10.0.0.1:1000@1"
+      ∷ codes "10.0.0.1:1000@1 sees 1 next sent 1..1"
+      ∷ codes "delivered 1 query report sent 2..2"
+      ∷ codes "delivered 2 report complete"
+      ∷ codes "started 10.0.0.1:1000@1!1 user/a#1 sent 3..3"
+      ∷ codes "refused 806"
+      ∷ codes "delivered 3 register registered sent 4..4"
+      ∷ codes "delivered 4 registered firm"
+      ∷ codes "closing 10.0.0.1:1000@1!1 user/a#1 sent 5..5"
+      ∷ codes "refused 806"
+      ∷ codes "delivered 5 deregister removed sent 6..6"
+      ∷ codes "delivered 6 removed ended"
+      ∷ codes "started 10.0.0.1:1000@1!2 user/b#2 sent 7..7"
+      ∷ []);
+  status = 0;
+}

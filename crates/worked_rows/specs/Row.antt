@@ -1,10 +1,12 @@
--- What a worked row says: what a script prints, and what is said of a dump. Hashing is stated unless said, and the
--- settings else are those that a program takes by itself.
+-- What a worked row says: what a script prints, and what is said of a dump. Hashing is stated unless said, and the settings and the commands
+-- else are those that a program takes by itself.
 use Rattle.std.specs.Prelude.{◌≡◌, ℕ, true, List, [], ◌∷◌, codes}
 use Rattle.hash_ring.specs.declared.hashing.Hashing.TheVariants.{Sha256, Stated}
-use Rattle.directory_rules.specs.Settings.{Settings, directory_settings}
+use Rattle.directory_rules.specs.Settings.{Settings, Everybody, directory_settings, page_size}
 use Rattle.dump_rules.specs.Dump.{DumpValue, dump_text}
 use Rattle.dump_rules.specs.DumpShape.{is_dump}
+use Rattle.script_rules.specs.declared.command_set.CommandSet.{CommandSet}
+use Rattle.script_rules.specs.declared.command_set.CommandSet.TheVariants.{Standard, Full}
 use Rattle.script_rules.specs.Output.{output_of}
 use Rattle.texts.specs.Printed.{text_of_lines}
 use Rattle.dump_rules.specs.Judgement.{judgement_of, judged}
@@ -18,12 +20,19 @@ pub record Row : Type 0 where
 abbrev pub settings : Settings
 settings = directory_settings Stated 30 1024
 
-abbrev pub PrintsUnder : Settings → Row → Type 0
-PrintsUnder settings row = output_of settings row.script ≡ record { text = row.text; status = row.status }
+-- by these commands and settings the whole script prints this text, and ends with this status
+abbrev pub PrintsBy : CommandSet → Settings → Row → Type 0
+PrintsBy set settings row = output_of set settings row.script ≡ record { text = row.text; status = row.status }
 
--- the whole script prints this text, and ends with this status
+abbrev pub PrintsUnder : Settings → Row → Type 0
+PrintsUnder = PrintsBy Standard
+
 abbrev pub Prints : Row → Type 0
 Prints = PrintsUnder settings
+
+-- so it does where scripts know all commands
+abbrev pub PrintsByAllCommands : Row → Type 0
+PrintsByAllCommands = PrintsBy Full settings
 
 -- so it does in a directory with room for one silo with one place
 abbrev pub PrintsWithOneSilo : Row → Type 0
@@ -32,6 +41,18 @@ PrintsWithOneSilo = PrintsUnder (record settings { silos = 1; places = 1 })
 -- so it does where each report tells one entry
 abbrev pub PrintsWithReportsOfOne : Row → Type 0
 PrintsWithReportsOfOne = PrintsUnder (record settings { report_size = 1 })
+
+-- or 64
+abbrev pub PrintsWithReportsOf64 : Row → Type 0
+PrintsWithReportsOf64 = PrintsUnder (record settings { report_size = page_size })
+
+-- so it does where silos ask by surveys
+abbrev pub PrintsBySurveys : Row → Type 0
+PrintsBySurveys = PrintsUnder (record settings { surveyors = Everybody })
+
+-- so it does where a silo may hold one activation
+abbrev pub PrintsHoldingOne : Row → Type 0
+PrintsHoldingOne = PrintsUnder (record settings { activations = 1 })
 
 -- so it does where points and grains are hashed, with two points a silo
 abbrev pub PrintsHashed : Row → Type 0

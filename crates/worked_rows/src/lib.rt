@@ -13,7 +13,7 @@ ghost use Rattle.worked_rows.specs.Pages as pages;
 ghost use Rattle.worked_rows.specs.Recoveries as recoveries;
 ghost use Rattle.worked_rows.specs.Requests as requests;
 ghost use Rattle.worked_rows.specs.Rings as rings;
-ghost use Rattle.worked_rows.specs.Row.{Prints, PrintsWithOneSilo, PrintsWithReportsOfOne, PrintsHashed, IsWritten, IsJudged, IsAnswered, IsNoDump, IsADump};
+ghost use Rattle.worked_rows.specs.Row.{Prints, PrintsByAllCommands, PrintsWithOneSilo, PrintsWithReportsOfOne, PrintsWithReportsOf64, PrintsBySurveys, PrintsHoldingOne, PrintsHashed, IsWritten, IsJudged, IsAnswered, IsNoDump, IsADump};
 ghost use Rattle.worked_rows.specs.Shapes as shapes;
 ghost use Rattle.worked_rows.specs.Surveys as surveys;
 ghost use Rattle.worked_rows.specs.Transfers as transfers;
@@ -103,6 +103,18 @@ pub fn two_pages()
     ensures { Prints pages.two_pages }
 {}
 
+/// A report has all firm activations of its range.
+#[tactic(auto, using(crate::proofs::Computed::sixty_five_reported))]
+pub fn sixty_five_reported()
+    ensures { Prints pages.sixty_five_reported }
+{}
+
+/// Where reports have 64 entries at most, the silo is asked on behind these.
+#[tactic(auto, using(crate::proofs::Computed::sixty_five_reported_in_parts))]
+pub fn sixty_five_reported_in_parts()
+    ensures { PrintsWithReportsOf64 pages.sixty_five_reported_in_parts }
+{}
+
 /// A silo with two places gathers from two owners.
 #[tactic(auto, using(crate::proofs::Computed::two_asks))]
 pub fn two_asks()
@@ -130,7 +142,7 @@ pub fn lost_letter()
 /// The ask of a range is lost, and a nudge of the ranges sends it again, but no request.
 #[tactic(auto, using(crate::proofs::Computed::asked_again))]
 pub fn asked_again()
-    ensures { Prints transfers.asked_again }
+    ensures { PrintsByAllCommands transfers.asked_again }
 {}
 
 /// Of two activations of one grain the second yields.
@@ -154,19 +166,25 @@ pub fn old_number_no_entry()
 /// An activation that asks is given up: its Register, which comes late, isn't served. One that is firm or closes can't be given up.
 #[tactic(auto, using(crate::proofs::Computed::given_up))]
 pub fn given_up()
-    ensures { Prints requests.given_up }
+    ensures { PrintsByAllCommands requests.given_up }
 {}
 
 /// An activation is given up whose Register was served already: its entry is taken out again.
 #[tactic(auto, using(crate::proofs::Computed::given_up_late))]
 pub fn given_up_late()
-    ensures { Prints requests.given_up_late }
+    ensures { PrintsByAllCommands requests.given_up_late }
 {}
 
 /// One grain is nudged faster than its replies come; another grain's reply counts.
 #[tactic(auto, using(crate::proofs::Computed::nudged_again))]
 pub fn nudged_again()
-    ensures { Prints requests.nudged_again }
+    ensures { PrintsByAllCommands requests.nudged_again }
+{}
+
+/// A silo that may hold one activation has no room for a second one.
+#[tactic(auto, using(crate::proofs::Computed::one_activation_held))]
+pub fn one_activation_held()
+    ensures { PrintsHoldingOne requests.one_activation_held }
 {}
 
 /// A reply of an older view is ignored.
@@ -185,6 +203,12 @@ pub fn cache_and_forget()
 #[tactic(auto, using(crate::proofs::Computed::recovery))]
 pub fn recovery()
     ensures { Prints recoveries.recovery }
+{}
+
+/// Of a silo's pieces one awaits a snapshot between two that recover: each is asked for in its turn, and a nudge puts the request first.
+#[tactic(auto, using(crate::proofs::Computed::an_ask_between_queries))]
+pub fn an_ask_between_queries()
+    ensures { Prints recoveries.an_ask_between_queries }
 {}
 
 /// A silo that reports one entry at a time is asked on, grain by grain. One grain closes on the way, and what was told before is asked for
@@ -221,7 +245,25 @@ pub fn kept_skip()
 /// Three ranges of a silo recover at once: each silo is asked for all by one message, and tells by one in which of them it has nothing.
 #[tactic(auto, using(crate::proofs::Computed::several_ranges))]
 pub fn several_ranges()
-    ensures { Prints surveys.several_ranges }
+    ensures { PrintsBySurveys surveys.several_ranges }
+{}
+
+/// Five ranges recover, and are asked for one after the other.
+#[tactic(auto, using(crate::proofs::Computed::five_ranges))]
+pub fn five_ranges()
+    ensures { Prints surveys.five_ranges }
+{}
+
+/// The same by surveys.
+#[tactic(auto, using(crate::proofs::Computed::five_ranges_surveyed))]
+pub fn five_ranges_surveyed()
+    ensures { PrintsBySurveys surveys.five_ranges_surveyed }
+{}
+
+/// A nudge surveys those ranges of which a silo has told nothing yet.
+#[tactic(auto, using(crate::proofs::Computed::five_ranges_surveyed_again))]
+pub fn five_ranges_surveyed_again()
+    ensures { PrintsBySurveys surveys.five_ranges_surveyed_again }
 {}
 
 /// A silo that skipped a version makes no report for it.
@@ -294,6 +336,42 @@ pub fn fault_not_a_number()
 #[tactic(auto, using(crate::proofs::Computed::fault_unknown_policy))]
 pub fn fault_unknown_policy()
     ensures { Prints faults.fault_unknown_policy }
+{}
+
+/// A cancel is no standard command.
+#[tactic(auto, using(crate::proofs::Computed::a_cancel))]
+pub fn a_cancel()
+    ensures { Prints faults.a_cancel }
+{}
+
+/// It is one of all commands.
+#[tactic(auto, using(crate::proofs::Computed::a_cancel_known))]
+pub fn a_cancel_known()
+    ensures { PrintsByAllCommands faults.a_cancel_known }
+{}
+
+/// Among the standard commands no grain stands behind a nudge's silo.
+#[tactic(auto, using(crate::proofs::Computed::a_nudge_of_a_grain))]
+pub fn a_nudge_of_a_grain()
+    ensures { Prints faults.a_nudge_of_a_grain }
+{}
+
+/// Among all commands one does.
+#[tactic(auto, using(crate::proofs::Computed::a_nudge_of_a_grain_known))]
+pub fn a_nudge_of_a_grain_known()
+    ensures { PrintsByAllCommands faults.a_nudge_of_a_grain_known }
+{}
+
+/// Among the standard commands no word for the ranges stands there.
+#[tactic(auto, using(crate::proofs::Computed::a_nudge_of_ranges))]
+pub fn a_nudge_of_ranges()
+    ensures { Prints faults.a_nudge_of_ranges }
+{}
+
+/// Among all commands it does.
+#[tactic(auto, using(crate::proofs::Computed::a_nudge_of_ranges_known))]
+pub fn a_nudge_of_ranges_known()
+    ensures { PrintsByAllCommands faults.a_nudge_of_ranges_known }
 {}
 
 /// Points and grains hashed by SHA-256: a join that names a place, a ring of two points, an entry, the dump and its verdict.

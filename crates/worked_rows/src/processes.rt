@@ -4,6 +4,7 @@ ghost use Rattle.worked_rows.specs.ProcessRow.{Writes};
 ghost use Rattle.worked_rows.specs.FirstSilo as first;
 ghost use Rattle.worked_rows.specs.SecondSilo as second;
 ghost use Rattle.worked_rows.specs.Recovery as recovering;
+ghost use Rattle.worked_rows.specs.Surveyed as surveyed;
 ghost use Rattle.worked_rows.specs.MissingSnapshot as missing;
 ghost use Rattle.worked_rows.specs.Parts as parts;
 ghost use Rattle.worked_rows.specs.Refused as refused;
@@ -30,6 +31,12 @@ pub fn second_silo()
 #[tactic(auto, using(crate::proofs::ProcessesComputed::a_view_skipped))]
 pub fn a_view_skipped()
     ensures { Writes recovering.a_view_skipped }
+{}
+
+/// Three ranges recover by surveys, and are told by reports and by messages that have none; then the silo is surveyed itself.
+#[tactic(auto, using(crate::proofs::ProcessesComputed::three_ranges_surveyed))]
+pub fn three_ranges_surveyed()
+    ensures { Writes surveyed.three_ranges_surveyed }
 {}
 
 /// The snapshot of a silo's range is gone: it asks all silos, and takes what they report. A request that comes again is answered by 603.
