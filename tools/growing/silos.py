@@ -13,10 +13,10 @@ def name_of(number):
 
 
 class Silo:
-    def __init__(self, program, name):
+    def __init__(self, program, name, *words):
         self.name = name
         self.pings = 0
-        self.process = subprocess.Popen([program, "silo", name], stdin=subprocess.PIPE, stdout=subprocess.PIPE, bufsize=1 << 20)
+        self.process = subprocess.Popen([program, "silo", name, *words], stdin=subprocess.PIPE, stdout=subprocess.PIPE, bufsize=1 << 20)
 
     def say(self, lines):
         """Hands lines over and returns what they are answered, once all are."""
@@ -57,9 +57,16 @@ class Silo:
             fields = dict(line.split(":", 1) for line in file)
         return tuple(int(fields[name].split()[0]) / 1024 for name in ("VmRSS", "VmHWM"))
 
+    def ranges(self):
+        """The words of each range's line."""
+        return [line.split(" ") for line in self.say(["show"]) if line.startswith("range ")]
+
+    def is_settled(self):
+        return all(words[2] == "settled" for words in self.ranges())
+
     def entries(self):
         """How many it has, in ranges that all have settled."""
-        ranges = [line.split(" ") for line in self.say(["show"]) if line.startswith("range ")]
+        ranges = self.ranges()
         if any(words[2] != "settled" for words in ranges):
             raise SystemExit(f"{self.name}: not all ranges have settled")
         return sum(int(words[4]) for words in ranges)
