@@ -22,7 +22,7 @@ const POINTS: u64 = 30;
 /// How many entries a report has at most in a world, and how many activations a silo may hold: which of these, its seed decides, as whether
 /// silos ask by surveys.
 const REPORT_SIZES: [usize; 5] = [1, 2, 3, 64, MOST_ACTIVATIONS];
-const ACTIVATIONS: [usize; 4] = [65_536, 65_536, 65_536, 24];
+const ACTIVATIONS: [usize; 8] = [24, 65_536, 65_536, 65_536, 65_536, 65_536, 65_536, 65_536];
 
 /// After so many turns, or with that version, a seeded storm ends.
 const SEEDED_TURNS: u64 = 2_000;

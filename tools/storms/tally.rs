@@ -30,10 +30,11 @@ enum Thing {
     Restart,
     Yielded,
     GivenUp,
+    Surveyed,
 }
 
 /// What is said of each thing, in the order in which things are told.
-const WORDS: [&str; 22] = [
+const WORDS: [&str; 23] = [
     "snapshots with entries installed",
     "snapshots of several pages installed",
     "ranges recovered with entries",
@@ -56,6 +57,7 @@ const WORDS: [&str; 22] = [
     "silos replaced by a higher generation",
     "activations that yield",
     "activations given up that ask",
+    "surveys answered by what the silo has",
 ];
 
 /// A letter that comes so many events after it was sent is late.
@@ -135,6 +137,7 @@ impl Tally {
             Effect::Retry(602) => self.one(Thing::RetryUnsettled),
             Effect::Retry(603) => self.one(Thing::RetryOldNumber),
             Effect::Missing => self.one(Thing::Missing),
+            Effect::Report if matches!(kind, Kind::Survey) => self.one(Thing::Surveyed),
             Effect::Behind => self.one(Thing::Behind),
             Effect::Ahead => self.one(Thing::Ahead),
             Effect::Yielded => self.one(Thing::Yielded),
