@@ -7,21 +7,21 @@ use Rattle.console_command.specs.LineRefusal.{IsAnswer}
 use Rattle.console_command.specs.declared.line_error.CommandLineError.{CommandLineError}
 use Rattle.console_command.specs.declared.line_error.CommandLineError.TheVariants as errors
 use Rattle.console_command.specs.Exits.{MakesCalls, WritesAnswer}
-use Rattle.console_command.specs.Program.{AreMistaken, DoesInTurn, by_fault, by_process}
+use Rattle.console_command.specs.Program.{AreMistaken, DoesInTurn, by_fault, by_text}
 use Rattle.console_command.specs.declared.exit.Exit.{Exit}
 use Rattle.console_command.specs.declared.exit.Exit.TheVariants.{Played, Threaded, Checked, Silo}
 
 -- they ask for help or for the version
 pub asked : (error : CommandLineError) → IsAnswer error → (words : List Text) → Reads words (Err error) → AskToBeTold words
 asked (errors.Usage e) is words read = (kind_of e, is, read)
-asked (errors.NoProcess e) is words read = absurd is
+asked (errors.Mistake e) is words read = absurd is
 asked errors.OutOfMemory is words read = absurd is
 
 -- they are a mistake
 pub mistaken : (error : CommandLineError) → ¬ (IsAnswer error) → error ≢ errors.OutOfMemory → (words : List Text) → Reads words (Err error)
     → AreMistaken words
 mistaken (errors.Usage e) not there words read = by_fault (kind_of e) read not
-mistaken (errors.NoProcess e) not there words read = by_process e read
+mistaken (errors.Mistake e) not there words read = by_text e read
 mistaken errors.OutOfMemory not there words read = absurd (there refl)
 
 -- what is answered, or refused, is all that is called

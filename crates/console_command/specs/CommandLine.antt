@@ -1,5 +1,5 @@
 -- What an accepted command line asks for, as a function of what clap read.
-use Rattle.std.specs.Prelude.{◌≡◌, ◌≤◌, ◌&&◌, ℕ, nat_lt, List, [], length, Option, Some, None, Result, Ok, Err, option_and_then, unwrap_or, codes, ⊤, if◌then◌else◌}
+use Rattle.std.specs.Prelude.{◌≡◌, ◌≤◌, ◌&&◌, ℕ, nat_le, nat_lt, Bool, false, List, [], length, Option, Some, None, Result, Ok, Err, option_and_then, unwrap_or, codes, ⊤, if◌then◌else◌}
 use Rattle.std.specs.Option.{option_map_or}
 use Rattle.std.specs.Char.{digit_value}
 use Rattle.std.specs.List.{list_all}
@@ -20,8 +20,12 @@ use Rattle.silo_address.specs.declared.silo.SiloError.{SiloError}
 use Rattle.process_answers.specs.JoinToken.{read_token}
 use Rattle.console_command.specs.declared.command_line.Line.TheVariants.{Play, Threads, Check, Silo}
 use Rattle.console_command.specs.declared.command_line.Options.{Options}
-use Rattle.console_command.specs.declared.line_error.ProcessMistake.{ProcessMistake}
-use Rattle.console_command.specs.declared.line_error.ProcessMistake.TheVariants.{Address, Token}
+use Rattle.console_command.specs.declared.command_line.Script.{Script}
+use Rattle.directory_rules.specs.Settings.{most_activations}
+use Rattle.script_rules.specs.declared.command_set.CommandSet.{CommandSet}
+use Rattle.script_rules.specs.declared.command_set.CommandSet.TheVariants.{Full, Standard}
+use Rattle.console_command.specs.declared.line_error.LineMistake.{LineMistake}
+use Rattle.console_command.specs.declared.line_error.LineMistake.TheVariants.{Address, ReportSize, Token}
 use Rattle.console_command.specs.declared.line_error.CommandLineError.{CommandLineError}
 use Rattle.console_command.specs.declared.line_error.CommandLineError.TheVariants as error
 use Rattle.console_command.specs.ClapCommand.{OfCommand}
@@ -46,67 +50,113 @@ number_or_zero text =
 abbrev pub number_of : Text → List Row → ℕ
 number_of option rows = option_map_or number_or_zero (one_of option rows) 0
 
--- what the options choose that the matches of a subcommand give
-abbrev pub options_in : List Row → Options
-options_in rows = record {
+-- whether what the matches of a subcommand give for `--surveys` is on
+abbrev pub surveys_of : List Row → Bool
+surveys_of rows = option_map_or (λ name. bytes_eq name (codes "on")) (first_of (codes "surveys") rows) false
+
+-- the set of commands of a name
+abbrev pub set_named : Text → CommandSet
+set_named name = if bytes_eq name (codes "all") then Full else Standard
+
+-- the set of commands that the matches of a subcommand give
+abbrev pub set_of : List Row → CommandSet
+set_of rows = option_map_or set_named (first_of (codes "commands") rows) Standard
+
+-- the text that the matches of a subcommand give for an option, or for what stands without a name, where clap asks for it or puts a
+-- default, so that it is never left out
+abbrev pub text_of : Text → List Row → Text
+text_of name rows = unwrap_or (first_of name rows) []
+
+-- what the options choose that the matches of a subcommand give, with that report size
+abbrev pub options_with : (report_size : ℕ) → List Row → Options
+options_with report_size rows = record {
   hashing = hashing_of rows;
   points = number_of (codes "points") rows;
   cache = number_of (codes "cache") rows;
   activations = number_of (codes "activations") rows;
-  report_size = number_of (codes "report-size") rows;
+  report_size = report_size;
+  surveys = surveys_of rows;
 }
 
+-- ---- A script to be played.
+
+-- a number of entries, if it is one from 1 to 64
+abbrev pub few_entries : ℕ → Result ℕ LineMistake
+few_entries number = if nat_lt 0 number && nat_le number 64 then Ok number else Err ReportSize
+
+-- how many entries a report has: all, or the number that the text says
+abbrev pub report_size_told : Text → Result ℕ LineMistake
+report_size_told text = if bytes_eq text (codes "whole") then Ok most_activations else few_entries (number_or_zero text)
+
+-- the script that the matches of a subcommand give with that report size, if it is one
+abbrev pub script_with : (report_size : Result ℕ LineMistake) → List Row → Result Script LineMistake
+script_with (Err mistake) rows = Err mistake
+script_with (Ok report_size) rows = Ok (record { commands = set_of rows; options = options_with report_size rows })
+
+-- the script that the matches of a subcommand give
+abbrev pub script_in : List Row → Result Script LineMistake
+script_in rows = script_with (report_size_told (text_of (codes "report-size") rows)) rows
+
+-- the line for it
+abbrev pub line_for : (Script → Line) → Result Script LineMistake → Result Line LineMistake
+line_for line (Ok script) = Ok (line script)
+line_for line (Err mistake) = Err mistake
+
+-- ---- A process of a silo.
+
+-- what its options choose that the matches of a subcommand give
+abbrev pub process_options_in : List Row → Options
+process_options_in rows = options_with (number_of (codes "report-size") rows) rows
+
 -- the process of a silo with its token, if that is a silo, and then, if the token is one
-abbrev pub process_of : Result SiloValue SiloError → (token : Result (Option (List ℕ)) ProcessMistake) → Options → Result Line ProcessMistake
+abbrev pub process_of : Result SiloValue SiloError → (token : Result (Option (List ℕ)) LineMistake) → Options → Result Line LineMistake
 process_of (Err error) token options = Err (Address error)
 process_of (Ok silo) (Err mistake) options = Err mistake
 process_of (Ok silo) (Ok token) options = Ok (Silo silo token options)
 
 -- a token that was read
-abbrev pub token_or_mistake : Option (List ℕ) → Result (Option (List ℕ)) ProcessMistake
+abbrev pub token_or_mistake : Option (List ℕ) → Result (Option (List ℕ)) LineMistake
 token_or_mistake None = Err Token
 token_or_mistake (Some token) = Ok (Some token)
 
 -- the token that a text tells, if there is a text
-abbrev pub token_told : Option Text → Result (Option (List ℕ)) ProcessMistake
+abbrev pub token_told : Option Text → Result (Option (List ℕ)) LineMistake
 token_told None = Ok None
 token_told (Some text) = token_or_mistake (read_token text)
 
 -- the token that a process is started with, by the matches of a subcommand
-abbrev pub token_in : List Row → Result (Option (List ℕ)) ProcessMistake
+abbrev pub token_in : List Row → Result (Option (List ℕ)) LineMistake
 token_in rows = token_told (first_of (codes "join") rows)
 
--- what should name the silo, by the matches of a subcommand; clap asks for it, so it is never left out
-abbrev pub silo_text_in : List Row → Text
-silo_text_in rows = unwrap_or (first_of (codes "ADDR") rows) []
-
 -- the process of the silo that the matches of a subcommand name
-abbrev pub silo_in : List Row → Result Line ProcessMistake
-silo_in rows = process_of (read_silo (silo_text_in rows)) (token_in rows) (options_in rows)
+abbrev pub silo_in : List Row → Result Line LineMistake
+silo_in rows = process_of (read_silo (text_of (codes "ADDR") rows)) (token_in rows) (process_options_in rows)
 
--- the line that a subcommand with its matches asks for, or why its process is none: a row for each subcommand
-abbrev pub line_in : Text × List Row → Option (Result Line ProcessMistake)
+-- ---- Lines.
+
+-- the line that a subcommand with its matches asks for, or the mistake in a text of it: a row for each subcommand
+abbrev pub line_in : Text × List Row → Option (Result Line LineMistake)
 line_in (name, rows) =
-    if bytes_eq name (codes "play") then Some (Ok (Play (options_in rows)))
-    else if bytes_eq name (codes "threads") then Some (Ok (Threads (options_in rows)))
+    if bytes_eq name (codes "play") then Some (line_for Play (script_in rows))
+    else if bytes_eq name (codes "threads") then Some (line_for Threads (script_in rows))
     else if bytes_eq name (codes "check") then Some (Ok Check)
     else if bytes_eq name (codes "silo") then Some (silo_in rows) else None
 
 -- the line that clap reads from the words
-abbrev pub line_of : App → List Text → Option (Result Line ProcessMistake)
+abbrev pub line_of : App → List Text → Option (Result Line LineMistake)
 line_of command words = option_and_then line_in (subcommand_of command words)
 
 -- clap finds no fault in the words, and reads that from them; the words begin with the program's name
-abbrev pub Say : List Text → Result Line ProcessMistake → Type 0
+abbrev pub Say : List Text → Result Line LineMistake → Type 0
 Say words read = OfCommand (λ command. (line_of command words ≡ Some read) × (fault_of command words ≡ []))
 
 -- they ask for that line
 abbrev pub AskFor : List Text → Line → Type 0
 AskFor words line = Say words (Ok line)
 
--- they ask for the process of a silo, and name it by a text that is none, or give it a token that is none
-abbrev pub NameNoProcess : List Text → ProcessMistake → Type 0
-NameNoProcess words mistake = Say words (Err mistake)
+-- a text in them should be a silo, a token or a report's size, and is none
+abbrev pub HaveMistake : List Text → LineMistake → Type 0
+HaveMistake words mistake = Say words (Err mistake)
 
 -- clap finds a fault of that kind in the words; a request for help or for the version is one
 abbrev pub HaveFault : List Text → ErrorKind → Type 0
@@ -116,11 +166,11 @@ HaveFault words kind = OfCommand (λ command. IsAmong kind (fault_of command wor
 abbrev pub AskToBeTold : List Text → Type 0
 AskToBeTold words = (kind : ErrorKind) × IsRequest kind × HaveFault words kind
 
--- an accepted line is what the words ask for; a refusal has one of their faults, or the process that they ask for is none, or memory ran out
+-- an accepted line is what the words ask for; a refusal has one of their faults, or a mistake in one of their texts, or memory ran out
 abbrev pub Reads : List Text → Result Line CommandLineError → Type 0
 Reads words (Ok line) = AskFor words line
 Reads words (Err (error.Usage e)) = HaveFault words (kind_of e)
-Reads words (Err (error.NoProcess mistake)) = NameNoProcess words mistake
+Reads words (Err (error.Mistake mistake)) = HaveMistake words mistake
 Reads words (Err error.OutOfMemory) = ⊤
 
 -- the points and activations are as many as a silo may have, the hints as many as a cache may keep, and the entries as many as a report
@@ -131,18 +181,18 @@ pub record AreInRange (options : Options) : Type 0 where
   pub cache_above : 1 ≤ options.cache
   pub cache_within : options.cache ≤ 65536
   pub activations_above : 1 ≤ options.activations
-  pub activations_within : options.activations ≤ 16777216
+  pub activations_within : options.activations ≤ most_activations
   pub report_above : 1 ≤ options.report_size
-  pub report_within : options.report_size ≤ 64
+  pub report_within : options.report_size ≤ most_activations
 
--- the options of the line are in their ranges
+-- the options of the line are in their ranges; a process tells 64 entries in a report at most
 abbrev pub IsInRange : Line → Type 0
-IsInRange (Play options) = AreInRange options
-IsInRange (Threads options) = AreInRange options
+IsInRange (Play script) = AreInRange script.options
+IsInRange (Threads script) = AreInRange script.options
 IsInRange Check = ⊤
-IsInRange (Silo silo token options) = AreInRange options
+IsInRange (Silo silo token options) = AreInRange options × (options.report_size ≤ 64)
 
 -- so they are where a line is read
-abbrev pub AreReadInRange : Result Line ProcessMistake → Type 0
+abbrev pub AreReadInRange : Result Line LineMistake → Type 0
 AreReadInRange (Ok line) = IsInRange line
 AreReadInRange (Err mistake) = ⊤

@@ -20,6 +20,6 @@ IsAnswer other = ⊥
 
 -- the refusal is clap's error, unless that says that memory ran out
 abbrev pub Refuses : Error → CommandLineError → Type 0
-Refuses e (error.NoProcess told) = ⊥
+Refuses e (error.Mistake told) = ⊥
 Refuses e (error.Usage told) = (told ≡ e) × (kind_of e ≢ kind.OutOfMemory)
 Refuses e error.OutOfMemory = kind_of e ≡ kind.OutOfMemory

@@ -1,8 +1,8 @@
-ghost use Rattle.std.specs.Prelude.{◌≡◌, IfOk, false};
+ghost use Rattle.std.specs.Prelude.{◌≡◌, IfOk, codes, false};
 ghost use Rattle.clap.specs.Walk.{rule_of};
 ghost use Rattle.clap.specs.Simple.{app_of, new_app};
 ghost use Rattle.clap.specs.declared.builder.command.Command.TheViews.{out-Command};
-ghost use Rattle.console_command.specs.ClapCommand.{OfCommand, address_rule, bare_silo_app, check_app, join_rule, option_rule, options_app, player_app, players_app, points_rule, cache_rule, hashing_rule, activations_rule, report_size_rule, silo_app, with_shared};
+ghost use Rattle.console_command.specs.ClapCommand.{AreNames, OfCommand, activations_rule, address_rule, bare_silo_app, cache_rule, check_app, commands_rule, hashing_rule, join_rule, option_rule, options_app, player_app, players_app, points_rule, report_size_rule, report_text_rule, silo_app, surveys_rule, with_options, with_shared};
 
 use clap::builder::ValueParser;
 use clap::{Arg, ArgAction, Command, value_parser};
@@ -21,23 +21,48 @@ const SILO: &str = "Be one silo's process: lines of standard input are answered 
 
 static HASHINGS: [&str; 2] = ["sha256", "stated"];
 
+static SWITCHES: [&str; 2] = ["on", "off"];
+
+static SETS: [&str; 2] = ["standard", "all"];
+
+/// The names that options have as their values.
+#[derive(Clone, Copy)]
+pub(crate) struct Names<'a> {
+    /// The ways of hashing.
+    pub(crate) hashings: &'a [&'a str],
+    /// What is on or off.
+    pub(crate) switches: &'a [&'a str],
+    /// The sets of commands.
+    pub(crate) sets: &'a [&'a str],
+}
+
 /// The whole command: a call of `subcommand` for each subcommand.
 pub(crate) fn grain_directory<'a>(alloc: Global) -> Result<Command<'a>, AllocError>
     ensures { IfOk result (λ c. OfCommand (λ command. app_of c ≡ command)) }
 {
-    with_options(alloc, HASHINGS.as_slice())?.subcommand(check(alloc))
+    with_options(alloc, option_names())?.subcommand(check(alloc))
+}
+
+fn option_names<'a>() -> Names<'a>
+    ensures { AreNames result }
+{
+    Names {
+        hashings: HASHINGS.as_slice(),
+        switches: SWITCHES.as_slice(),
+        sets: SETS.as_slice(),
+    }
 }
 
 // The command with those of its subcommands that have options.
-fn with_options<'a>(alloc: Global, hashings: &'a [&'a str]) -> Result<Command<'a>, AllocError>
-    ensures { IfOk result (λ c. app_of c ≡ options_app hashings.entry) }
+fn with_options<'a>(alloc: Global, names: Names<'a>) -> Result<Command<'a>, AllocError>
+    ensures { IfOk result (λ c. app_of c ≡ options_app names.entry) }
 {
-    with_players(alloc, hashings)?.subcommand(silo(alloc, hashings)?)
+    with_players(alloc, names)?.subcommand(silo(alloc, names)?)
 }
 
 // The command with those of its subcommands that play a script.
-fn with_players<'a>(alloc: Global, hashings: &'a [&'a str]) -> Result<Command<'a>, AllocError>
-    ensures { IfOk result (λ c. app_of c ≡ players_app hashings.entry) }
+fn with_players<'a>(alloc: Global, names: Names<'a>) -> Result<Command<'a>, AllocError>
+    ensures { IfOk result (λ c. app_of c ≡ players_app names.entry) }
 {
     Command::new(alloc, "grain-directory")
         .about(
@@ -46,59 +71,77 @@ fn with_players<'a>(alloc: Global, hashings: &'a [&'a str]) -> Result<Command<'a
         .version(VERSION)
         .bin_name("grain-directory")?
         .subcommand_required(true)
-        .subcommand(player(alloc, "play", PLAY, hashings)?)?
-        .subcommand(player(alloc, "threads", THREADS, hashings)?)
+        .subcommand(player(alloc, "play", PLAY, names)?)?
+        .subcommand(player(alloc, "threads", THREADS, names)?)
 }
 
-// `NAME [--hashing HASHING] [--points N] [--cache N] [--activations N] [--report-size N]`, which plays a script.
+// `NAME [--hashing HASHING] [--points N] [--cache N] [--activations N] [--surveys on|off] [--report-size N|whole]
+// [--commands standard|all]`, which plays a script.
 fn player<'a>(
     alloc: Global,
     name: &'a str,
     about: &'a str,
-    hashings: &'a [&'a str],
+    names: Names<'a>,
 ) -> Result<Command<'a>, AllocError>
-    ensures app { IfOk result (λ c. app_of c ≡ player_app name.entry.now hashings.entry) }
+    ensures app { IfOk result (λ c. app_of c ≡ player_app name.entry.now names.entry) }
     ensures local { IfOk result (λ c. (out-Command c).has_globals ≡ false) }
 {
-    shared_player(alloc, name, about, hashings)?
-        .arg(activations(alloc))?
-        .arg(report_size(alloc))
+    cluster_player(alloc, name, about, names)?
+        .arg(report_text(alloc))?
+        .arg(commands(alloc, names.sets))
 }
 
-// The same, without a silo's limits.
+// The same, without what a script alone has.
+fn cluster_player<'a>(
+    alloc: Global,
+    name: &'a str,
+    about: &'a str,
+    names: Names<'a>,
+) -> Result<Command<'a>, AllocError>
+    ensures app { IfOk result (λ c. app_of c ≡ with_options names.entry (codes "65536") (codes "off") (new_app name.entry.now)) }
+    ensures local { IfOk result (λ c. (out-Command c).has_globals ≡ false) }
+{
+    shared_player(alloc, name, about, names)?
+        .arg(activations(alloc, "65536"))?
+        .arg(surveys(alloc, names.switches, "off"))
+}
+
+// The same, without what each silo chooses for itself.
 fn shared_player<'a>(
     alloc: Global,
     name: &'a str,
     about: &'a str,
-    hashings: &'a [&'a str],
+    names: Names<'a>,
 ) -> Result<Command<'a>, AllocError>
-    ensures app { IfOk result (λ c. app_of c ≡ with_shared hashings.entry (new_app name.entry.now)) }
+    ensures app { IfOk result (λ c. app_of c ≡ with_shared names.entry (new_app name.entry.now)) }
     ensures local { IfOk result (λ c. (out-Command c).has_globals ≡ false) }
 {
     Command::new(alloc, name)
         .about(about)
-        .arg(hashing(alloc, hashings))?
+        .arg(hashing(alloc, names.hashings))?
         .arg(points(alloc))?
         .arg(cache(alloc))
 }
 
-// `silo ADDR [--join TOKEN]` with the same options, which is a silo's process.
-fn silo<'a>(alloc: Global, hashings: &'a [&'a str]) -> Result<Command<'a>, AllocError>
-    ensures app { IfOk result (λ c. app_of c ≡ silo_app hashings.entry) }
+// `silo ADDR [--join TOKEN] [--hashing HASHING] [--points N] [--cache N] [--activations N] [--surveys on|off] [--report-size N]`, which
+// is a silo's process.
+fn silo<'a>(alloc: Global, names: Names<'a>) -> Result<Command<'a>, AllocError>
+    ensures app { IfOk result (λ c. app_of c ≡ silo_app names.entry) }
     ensures local { IfOk result (λ c. (out-Command c).has_globals ≡ false) }
 {
-    shared_silo(alloc, hashings)?
-        .arg(activations(alloc))?
+    shared_silo(alloc, names)?
+        .arg(activations(alloc, "1000000"))?
+        .arg(surveys(alloc, names.switches, "on"))?
         .arg(report_size(alloc))
 }
 
-// The same, without a silo's limits.
-fn shared_silo<'a>(alloc: Global, hashings: &'a [&'a str]) -> Result<Command<'a>, AllocError>
-    ensures app { IfOk result (λ c. app_of c ≡ with_shared hashings.entry bare_silo_app) }
+// The same, without what each silo chooses for itself.
+fn shared_silo<'a>(alloc: Global, names: Names<'a>) -> Result<Command<'a>, AllocError>
+    ensures app { IfOk result (λ c. app_of c ≡ with_shared names.entry bare_silo_app) }
     ensures local { IfOk result (λ c. (out-Command c).has_globals ≡ false) }
 {
     bare_silo(alloc)?
-        .arg(hashing(alloc, hashings))?
+        .arg(hashing(alloc, names.hashings))?
         .arg(points(alloc))?
         .arg(cache(alloc))
 }
@@ -175,13 +218,23 @@ fn cache<'a>(alloc: Global) -> Arg<'a>
     )
 }
 
-fn activations<'a>(alloc: Global) -> Arg<'a>
-    ensures rule { rule_of result ≡ activations_rule }
+fn activations<'a>(alloc: Global, default: &'a str) -> Arg<'a>
+    ensures rule { rule_of result ≡ activations_rule default.entry.now }
     ensures local { result.global ≡ false }
 {
     let numbers = value_parser!(u32).range(1..=16777216);
-    option(alloc, "activations", "ACTIVATIONS", numbers, "1000000").help(
+    option(alloc, "activations", "ACTIVATIONS", numbers, default).help(
         "How many activations a silo may hold, from 1 to 16777216",
+    )
+}
+
+fn surveys<'a>(alloc: Global, switches: &'a [&'a str], default: &'a str) -> Arg<'a>
+    ensures rule { rule_of result ≡ surveys_rule switches.entry default.entry.now }
+    ensures local { result.global ≡ false }
+{
+    let names = ValueParser::Names(switches);
+    option(alloc, "surveys", "SURVEYS", names, default).help(
+        "Whether a silo asks others by surveys for what it recovers, or range by range",
     )
 }
 
@@ -192,6 +245,31 @@ fn report_size<'a>(alloc: Global) -> Arg<'a>
     let numbers = value_parser!(u32).range(1..=64);
     option(alloc, "report-size", "ENTRIES", numbers, "64").help(
         "How many entries a silo tells in one report, from 1 to 64",
+    )
+}
+
+// Which texts are well is read from them once clap has accepted any.
+fn report_text<'a>(alloc: Global) -> Arg<'a>
+    ensures rule { rule_of result ≡ report_text_rule }
+    ensures local { result.global ≡ false }
+{
+    option(
+        alloc,
+        "report-size",
+        "ENTRIES",
+        ValueParser::String,
+        "whole",
+    )
+    .help("How many entries a silo tells in one report, from 1 to 64, or whole for all")
+}
+
+fn commands<'a>(alloc: Global, sets: &'a [&'a str]) -> Arg<'a>
+    ensures rule { rule_of result ≡ commands_rule sets.entry }
+    ensures local { result.global ≡ false }
+{
+    let names = ValueParser::Names(sets);
+    option(alloc, "commands", "COMMANDS", names, "standard").help(
+        "Which commands a script knows; all has cancel, and nudges of one grain or of the ranges, too",
     )
 }
 

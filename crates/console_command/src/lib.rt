@@ -24,11 +24,11 @@ mod verdict;
 
 pub use checked::Checked;
 pub use cluster_play::play;
-pub use command_line::{Line, Options, read_line};
+pub use command_line::{Line, Options, Script, read_line};
 pub use dump::tell_verdict;
 pub use exit::Exit;
 pub use judgement::judge;
-pub use line_error::{CommandLineError, ProcessMistake};
+pub use line_error::{CommandLineError, LineMistake};
 pub use program::{Run, end_threads, run_without_words, run_words};
 pub use shown::show;
 pub use silo_play::play_new_silo;

@@ -7,15 +7,18 @@ use silo_address::SiloError;
 use std::alloc::AllocError;
 use thiserror::Error;
 
-/// Why the process of a silo is not one that can be started.
+/// What is wrong with a text of a command line in which clap finds no fault.
 #[derive(Clone, Copy, Debug, PartialEq, Eq, Error)]
-pub enum ProcessMistake {
-    /// What should name its silo doesn't.
+pub enum LineMistake {
+    /// What should name the silo of a process doesn't.
     #[error("ADDR is no silo: {0}")]
     Address(SiloError),
-    /// What should be its token isn't.
+    /// What should be the token of a process isn't.
     #[error("TOKEN is no token: it has 1 to 64 bytes, all of them visible ASCII")]
     Token,
+    /// What should say how many entries a report has doesn't.
+    #[error("ENTRIES is neither whole nor a number from 1 to 64")]
+    ReportSize,
 }
 
 /// Why a command line is not carried out.
@@ -24,9 +27,9 @@ pub enum CommandLineError {
     /// The words ask for help or for the version, or are not a line of the program; the text is for the user.
     #[error("{0}")]
     Usage(clap::Error),
-    /// The words ask for the process of a silo, and say wrongly which.
+    /// A text in the words isn't what it should be.
     #[error("error: {0}\n")]
-    NoProcess(ProcessMistake),
+    Mistake(LineMistake),
     /// Memory ran out.
     #[error("out of memory")]
     OutOfMemory,
@@ -42,7 +45,7 @@ impl CommandLineError {
                 error.kind(),
                 ErrorKind::DisplayHelp | ErrorKind::DisplayVersion
             ),
-            CommandLineError::NoProcess(_) | CommandLineError::OutOfMemory => false,
+            CommandLineError::Mistake(_) | CommandLineError::OutOfMemory => false,
         }
     }
 }

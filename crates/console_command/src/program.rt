@@ -4,7 +4,6 @@ ghost use Rattle.std.specs.Prelude.{◌≡◌, List, ℕ, Option, Err, IfSome, I
 ghost use Rattle.clap.specs.Walk.{Text};
 ghost use Rattle.console_command.specs.CommandLine.{AreInRange, AskFor, AskToBeTold, IsInRange, Reads};
 ghost use Rattle.console_command.specs.Play.{lines_played};
-ghost use Rattle.directory_rules.specs.World.{first_world};
 ghost use Rattle.line_loop.specs.Endings.{MakesCalls};
 ghost use Rattle.line_loop.specs.Scripts.{PlaysInTurn};
 ghost use Rattle.silo_address.specs.Silo.{Silo};
@@ -12,18 +11,19 @@ ghost use Rattle.silo_rules.specs.SiloValue.{first_silo};
 ghost use Rattle.threaded_play.specs.Endings.{IsSent};
 ghost use Rattle.console_command.specs.Exits.{WritesAnswer, exit_without_words};
 ghost use Rattle.console_command.specs.SiloPlay.{AnswersInTurn};
-ghost use Rattle.console_command.specs.Program.{Does, Plays, PlaysSilo, chosen_process_settings, chosen_settings};
+ghost use Rattle.console_command.specs.Program.{Does, Plays, PlaysSilo, chosen_process_settings, chosen_settings, first_stage, with_choices};
 ghost use Rattle.console_command.specs.Errors.{IsTold, told_without_words};
 ghost use Rattle.console_command.specs.Outcome.{Carries, CarriesByCalls, CarriesInTurn, CarriesTold};
 
 use crate::errors::{
     tell, tell_check, tell_end, tell_failed_call, tell_no_memory, tell_silo, tell_threads, words_or,
 };
-use crate::{CommandLineError, Exit, Line, Options, judge, play_new_silo, read_line};
+use crate::{CommandLineError, Exit, Line, Options, Script, judge, play_new_silo, read_line};
 use directory_core::World;
 use directory_rules::Settings;
 use line_loop::{Ended, ScriptLineFault, Sink, Source, send};
-use process_answers::{Dead, JoinToken, process_settings};
+use process_answers::{Dead, JoinToken};
+use script_rules::CommandSet;
 use silo_address::SiloAddress;
 use std::alloc::Global;
 use std::convert::AsStr;
@@ -37,13 +37,16 @@ const NAME: &str = "grain-directory\n";
 const MISTAKE: &str = "error: the command line is a mistake\n";
 
 /// What became of a command line.
-#[derive(Clone, Copy, PartialEq, Eq)]
+#[derive(Clone, Copy)]
 pub enum Run {
     /// It was carried out, and so the program ends.
     Ended(Exit),
-    /// The script is to be played with a thread per silo, to a new cluster of these settings. Nothing is read and nothing written yet;
-    /// whoever has threads plays it, and tells the end to `end_threads`.
-    OnThreads(Settings),
+    /// The script, which knows these commands, is to be played with a thread per silo, to a new cluster of these settings. Nothing is read
+    /// and nothing written yet; whoever has threads plays it, and tells the end to `end_threads`.
+    OnThreads {
+        commands: CommandSet,
+        settings: Settings,
+    },
 }
 
 /// Does what the words of a command line ask for, the program's name first: plays the script that comes from the source, judges the
@@ -87,12 +90,15 @@ fn run_line<R: Source, W: Sink, E: Sink>(
     ensures told { CarriesTold E.writes E.contents errors.old errors.new result }
 {
     match line {
-        Line::Play(options) => {
-            let ended = play(alloc, options, source, output);
+        Line::Play(script) => {
+            let ended = play(alloc, script, source, output);
             tell_end(alloc, ended, errors);
             Run::Ended(Exit::Played(ended))
         }
-        Line::Threads(options) => Run::OnThreads(chosen_settings(options)),
+        Line::Threads(script) => Run::OnThreads {
+            commands: script.commands,
+            settings: chosen_settings(script.options),
+        },
         Line::Check => {
             let checked = judge(alloc, source, output);
             tell_check(checked, errors);
@@ -121,19 +127,19 @@ pub fn end_threads<E: Sink>(alloc: Global, ended: ThreadsEnded, errors: &mut E) 
 
 fn play<R: Source, W: Sink>(
     alloc: Global,
-    options: Options,
+    script: Script,
     source: &mut R,
     output: &mut W,
 ) -> Ended<ScriptLineFault>
-    requires { AreInRange options }
-    ensures plays { Plays options
+    requires { AreInRange script.options }
+    ensures plays { Plays script
         (record { rest = R.remaining source.old; output = W.contents output.old })
         (record { rest = R.remaining source.new; output = W.contents output.new }) result }
     ensures calls { MakesCalls R.reads W.writes (source.old, output.old) (source.new, output.new) result }
-    ensures in_turn { PlaysInTurn R.reads W.writes lines_played (first_world (chosen_settings options)) (source.old, output.old) (source.new, output.new) result }
+    ensures in_turn { PlaysInTurn R.reads W.writes lines_played (first_stage script) (source.old, output.old) (source.new, output.new) result }
 {
-    let world = World::new(alloc, chosen_settings(options));
-    crate::play(alloc, world, source, output)
+    let world = World::new(alloc, chosen_settings(script.options));
+    crate::play(alloc, script.commands, world, source, output)
 }
 
 fn play_silo<R: Source, W: Sink>(
@@ -151,29 +157,58 @@ fn play_silo<R: Source, W: Sink>(
     ensures calls { MakesCalls R.reads W.writes (source.old, output.old) (source.new, output.new) result }
     ensures in_turn { AnswersInTurn R.reads W.writes token (first_silo (chosen_process_settings options) silo) (source.old, output.old) (source.new, output.new) result }
 {
-    let settings = process_settings(chosen_settings(options));
+    let settings = chosen_process_settings(options);
     play_new_silo(alloc, settings, silo, token, source, output)
 }
 
-// The settings that the options choose.
+// The settings that the options choose for a cluster.
 fn chosen_settings(options: Options) -> Settings
     requires { AreInRange options }
     ensures { result ≡ chosen_settings options }
 {
-    match settings_of(options) {
+    match cluster_settings(options) {
         Some(settings) => settings,
         None => unreachable!(),
     }
 }
 
 // The same, if the options are in their ranges.
-fn settings_of(options: Options) -> Option<Settings>
+fn cluster_settings(options: Options) -> Option<Settings>
     ensures exact { IfSome result (λ settings. settings ≡ chosen_settings options) }
     ensures in_range { AreInRange options → IsSome result }
 {
-    let shared = Settings::of_directory(options.hashing, options.points, options.cache)?;
-    let limited = shared.with_activations(options.activations)?;
-    limited.with_report_size(options.report_size)
+    let settings = Settings::of_directory(options.hashing, options.points, options.cache)?;
+    with_choices(settings, options)
+}
+
+// The settings that the options choose for a silo's process.
+fn chosen_process_settings(options: Options) -> Settings
+    requires { AreInRange options }
+    ensures { result ≡ chosen_process_settings options }
+{
+    match silo_settings(options) {
+        Some(settings) => settings,
+        None => unreachable!(),
+    }
+}
+
+// The same, if the options are in their ranges.
+fn silo_settings(options: Options) -> Option<Settings>
+    ensures exact { IfSome result (λ settings. settings ≡ chosen_process_settings options) }
+    ensures in_range { AreInRange options → IsSome result }
+{
+    let settings = Settings::of_silo(options.hashing, options.points, options.cache)?;
+    with_choices(settings, options)
+}
+
+// The settings with what the options choose but for hashing, points and caches, if that is in its ranges.
+fn with_choices(settings: Settings, options: Options) -> Option<Settings>
+    ensures exact { IfSome result (λ chosen. chosen ≡ with_choices settings options) }
+    ensures in_range { AreInRange options → IsSome result }
+{
+    let limited = settings.with_activations(options.activations)?;
+    let reporting = limited.with_report_size(options.report_size)?;
+    Some(reporting.with_surveys(options.surveys))
 }
 
 // Prints the help or the version that the words ask for, or tells what is wrong with them.

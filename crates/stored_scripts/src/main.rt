@@ -59,6 +59,6 @@ fn carry_out_words(rt: &HostRuntime, name: &str, words: &[&str]) -> Result<u8> {
     let errors = &mut Vec::new(rt.alloc());
     match run_words(rt.alloc(), words, source, output, errors) {
         Run::Ended(exit) => Ok(exit.status()),
-        Run::OnThreads(_) => bail!("{name} is to be played on threads"),
+        Run::OnThreads { .. } => bail!("{name} is to be played on threads"),
     }
 }

@@ -1,26 +1,49 @@
 use clap::error::ErrorKind;
-use console_command::{CommandLineError, Line, Options, read_line};
+use console_command::{CommandLineError, Line, Options, Script, read_line};
 use hash_ring::Hashing;
 use process_answers::JoinToken;
+use script_rules::CommandSet;
 use silo_address::SiloAddress;
 use std::alloc::Global;
 
+/// How many entries a whole report has.
+const WHOLE: usize = 16_777_216;
+
+// What is chosen for a script's cluster where nothing else is said.
 const fn options(hashing: Hashing, points: usize, cache: usize) -> Options {
     Options {
         hashing,
         points,
         cache,
-        activations: 1_000_000,
-        report_size: 64,
+        activations: 65_536,
+        report_size: WHOLE,
+        surveys: false,
     }
 }
 
-// What a line reads as, or of which kind its refusal is; that of a process that is none is a value's.
+// And for a silo's process.
+const fn process_options(hashing: Hashing, points: usize, cache: usize) -> Options {
+    Options {
+        activations: 1_000_000,
+        report_size: 64,
+        surveys: true,
+        ..options(hashing, points, cache)
+    }
+}
+
+const fn standard(options: Options) -> Script {
+    Script {
+        commands: CommandSet::Standard,
+        options,
+    }
+}
+
+// What a line reads as, or of which kind its refusal is; that of a text that is no silo, token or size of reports is a value's.
 fn answer(alloc: Global, words: &[&str]) -> Result<Line, ErrorKind> {
     match read_line(alloc, words) {
         Ok(line) => Ok(line),
         Err(CommandLineError::Usage(error)) => Err(error.kind()),
-        Err(CommandLineError::NoProcess(_)) => Err(ErrorKind::InvalidValue),
+        Err(CommandLineError::Mistake(_)) => Err(ErrorKind::InvalidValue),
         Err(CommandLineError::OutOfMemory) => Err(ErrorKind::OutOfMemory),
     }
 }
@@ -88,40 +111,87 @@ const ACCEPTED: [Accepted; 14] = [
 fn lines_that_are_accepted(rt: HostRuntime) {
     for (words, hashing, points, cache) in &ACCEPTED {
         let given = answer(rt.alloc(), *words);
-        assert!(rt; given == Ok(Line::Play(options(*hashing, *points, *cache))));
+        let script = standard(options(*hashing, *points, *cache));
+        assert!(rt; given == Ok(Line::Play(script)));
     }
 }
 
-// A line with limits of a silo, and how many activations and entries of a report it chooses.
-const LIMITED: [(&'static [&'static str], usize, usize); 5] = [
-    (&["g", "play", "--activations", "1"], 1, 64),
-    (&["g", "play", "--activations=16777216"], 16_777_216, 64),
-    (&["g", "play", "--report-size", "1"], 1_000_000, 1),
-    (&["g", "play", "--report-size=63"], 1_000_000, 63),
+// A line that chooses how a cluster's silos are, how many activations one may hold, how many entries a report has, and whether they ask
+// by surveys.
+const CHOSEN: [(&'static [&'static str], usize, usize, bool); 9] = [
+    (&["g", "play", "--activations", "1"], 1, WHOLE, false),
     (
-        &["g", "play", "--report-size", "2", "--activations", "+03"],
+        &["g", "play", "--activations=16777216"],
+        16_777_216,
+        WHOLE,
+        false,
+    ),
+    (&["g", "play", "--report-size", "1"], 65_536, 1, false),
+    (&["g", "play", "--report-size=64"], 65_536, 64, false),
+    (&["g", "play", "--report-size", "+03"], 65_536, 3, false),
+    (
+        &["g", "play", "--report-size=whole"],
+        65_536,
+        WHOLE,
+        false,
+    ),
+    (&["g", "play", "--surveys", "on"], 65_536, WHOLE, true),
+    (&["g", "play", "--surveys=off"], 65_536, WHOLE, false),
+    (
+        &[
+            "g",
+            "play",
+            "--report-size",
+            "2",
+            "--surveys=on",
+            "--activations",
+            "+03",
+        ],
         3,
         2,
+        true,
     ),
 ];
 
 #[test]
-fn lines_with_limits(rt: HostRuntime) {
-    for (words, activations, report_size) in &LIMITED {
+fn lines_that_choose(rt: HostRuntime) {
+    for (words, activations, report_size, surveys) in &CHOSEN {
         let chosen = Options {
             activations: *activations,
             report_size: *report_size,
+            surveys: *surveys,
             ..options(Hashing::Sha256, 30, 1024)
         };
-        assert!(rt; answer(rt.alloc(), *words) == Ok(Line::Play(chosen)));
+        assert!(rt; answer(rt.alloc(), *words) == Ok(Line::Play(standard(chosen))));
+    }
+}
+
+// Which commands the script of a line knows.
+const SETS: [(&'static [&'static str], CommandSet); 3] = [
+    (&["g", "play"], CommandSet::Standard),
+    (
+        &["g", "play", "--commands", "standard"],
+        CommandSet::Standard,
+    ),
+    (&["g", "play", "--commands=all"], CommandSet::Full),
+];
+
+#[test]
+fn commands_of_lines(rt: HostRuntime) {
+    for (words, commands) in &SETS {
+        let script = Script {
+            commands: *commands,
+            options: options(Hashing::Sha256, 30, 1024),
+        };
+        assert!(rt; answer(rt.alloc(), *words) == Ok(Line::Play(script)));
     }
 }
 
 #[test]
 fn lines_of_other_commands(rt: HostRuntime) {
     let threads = ["g", "threads", "--hashing=stated", "--cache", "6"];
-    let chosen = options(Hashing::Stated, 30, 6);
-    assert!(rt; answer(rt.alloc(), &threads) == Ok(Line::Threads(chosen)));
+    let script = standard(options(Hashing::Stated, 30, 6));
+    assert!(rt; answer(rt.alloc(), &threads) == Ok(Line::Threads(script)));
     assert!(rt; answer(rt.alloc(), &["g", "check"]) == Ok(Line::Check));
 }
 
@@ -130,7 +200,7 @@ fn lines_of_other_commands(rt: HostRuntime) {
 fn lines_of_a_silo(rt: HostRuntime) {
     let text = "10.0.0.1:1000@1";
     let silo = SiloAddress::parse(text.as_bytes()).expect(&rt, "a silo");
-    let chosen = options(Hashing::Stated, 30, 6);
+    let chosen = process_options(Hashing::Stated, 30, 6);
     let before = ["g", "silo", text, "--hashing=stated", "--cache", "6"];
     let behind = ["g", "silo", "--hashing=stated", "--cache", "6", text];
     let wanted = Ok(Line::Silo {
@@ -150,7 +220,7 @@ fn lines_of_a_silo_with_a_token(rt: HostRuntime) {
     let line = Line::Silo {
         silo: SiloAddress::parse(text.as_bytes()).expect(&rt, "a silo"),
         token: JoinToken::parse(longest.as_bytes()),
-        options: options(Hashing::Sha256, 30, 1024),
+        options: process_options(Hashing::Sha256, 30, 1024),
     };
     assert!(rt; answer(rt.alloc(), &["g", "silo", "--join", longest, text]) == Ok(line));
     let longer = "0123456789abcdef0123456789abcdef0123456789abcdef0123456789abcdef0";
@@ -158,7 +228,33 @@ fn lines_of_a_silo_with_a_token(rt: HostRuntime) {
     assert!(rt; answer(rt.alloc(), &["g", "silo", text, "--join", longer]) == refused);
 }
 
-const REFUSED: [(&'static [&'static str], ErrorKind); 50] = [
+// So do its surveys, its reports and its limit.
+#[test]
+fn lines_of_a_silo_that_choose(rt: HostRuntime) {
+    let text = "10.0.0.1:1000@1";
+    let words = [
+        "g",
+        "silo",
+        text,
+        "--surveys",
+        "off",
+        "--report-size=63",
+        "--activations=65536",
+    ];
+    let line = Line::Silo {
+        silo: SiloAddress::parse(text.as_bytes()).expect(&rt, "a silo"),
+        token: None,
+        options: Options {
+            activations: 65_536,
+            report_size: 63,
+            surveys: false,
+            ..process_options(Hashing::Sha256, 30, 1024)
+        },
+    };
+    assert!(rt; answer(rt.alloc(), &words) == Ok(line));
+}
+
+const REFUSED: [(&'static [&'static str], ErrorKind); 62] = [
     (&["g", "silo"], ErrorKind::MissingRequiredArgument),
     (&["g", "silo", "10.0.0.1"], ErrorKind::InvalidValue),
     (&["g", "silo", ""], ErrorKind::InvalidValue),
@@ -174,6 +270,36 @@ const REFUSED: [(&'static [&'static str], ErrorKind); 50] = [
     (
         &["g", "silo", "10.0.0.1:1000@1", "10.0.0.2:1000@1"],
         ErrorKind::UnknownArgument,
+    ),
+    (
+        &["g", "silo", "10.0.0.1:1000@1", "--report-size", "65"],
+        ErrorKind::ValueValidation,
+    ),
+    (
+        &["g", "silo", "10.0.0.1:1000@1", "--report-size", "whole"],
+        ErrorKind::ValueValidation,
+    ),
+    (
+        &["g", "silo", "10.0.0.1:1000@1", "--commands", "all"],
+        ErrorKind::UnknownArgument,
+    ),
+    (&["g", "play", "--report-size", "0"], ErrorKind::InvalidValue),
+    (&["g", "play", "--report-size", "65"], ErrorKind::InvalidValue),
+    (
+        &["g", "play", "--report-size", "Whole"],
+        ErrorKind::InvalidValue,
+    ),
+    (&["g", "threads", "--report-size="], ErrorKind::InvalidValue),
+    (&["g", "play", "--report-size"], ErrorKind::InvalidValue),
+    (&["g", "play", "--surveys", "yes"], ErrorKind::InvalidValue),
+    (&["g", "play", "--commands", "every"], ErrorKind::InvalidValue),
+    (
+        &["g", "play", "--activations", "0"],
+        ErrorKind::ValueValidation,
+    ),
+    (
+        &["g", "play", "--activations", "16777217"],
+        ErrorKind::ValueValidation,
     ),
     (&[], ErrorKind::MissingSubcommand),
     (&["g"], ErrorKind::MissingSubcommand),
@@ -274,8 +400,10 @@ Options:
       --hashing <HASHING>          How points and grains are hashed: by their texts, or as the script states [default: sha256] [possible values: sha256, stated]
       --points <POINTS>            How many points a silo has under sha256, from 1 to 128 [default: 30]
       --cache <CACHE>              How many hints a silo's cache keeps, from 1 to 65536 [default: 1024]
-      --activations <ACTIVATIONS>  How many activations a silo may hold, from 1 to 16777216 [default: 1000000]
-      --report-size <ENTRIES>      How many entries a silo tells in one report, from 1 to 64 [default: 64]
+      --activations <ACTIVATIONS>  How many activations a silo may hold, from 1 to 16777216 [default: 65536]
+      --surveys <SURVEYS>          Whether a silo asks others by surveys for what it recovers, or range by range [default: off] [possible values: on, off]
+      --report-size <ENTRIES>      How many entries a silo tells in one report, from 1 to 64, or whole for all [default: whole]
+      --commands <COMMANDS>        Which commands a script knows; all has cancel, and nudges of one grain or of the ranges, too [default: standard] [possible values: standard, all]
   -h, --help                       Print help
 ";
 
@@ -293,6 +421,7 @@ Options:
       --points <POINTS>            How many points a silo has under sha256, from 1 to 128 [default: 30]
       --cache <CACHE>              How many hints a silo's cache keeps, from 1 to 65536 [default: 1024]
       --activations <ACTIVATIONS>  How many activations a silo may hold, from 1 to 16777216 [default: 1000000]
+      --surveys <SURVEYS>          Whether a silo asks others by surveys for what it recovers, or range by range [default: on] [possible values: on, off]
       --report-size <ENTRIES>      How many entries a silo tells in one report, from 1 to 64 [default: 64]
   -h, --help                       Print help
 ";
@@ -304,13 +433,16 @@ const MISTAKE: &str = "error: invalid value '0' for '--points <POINTS>': 0 is no
 For more information, try '--help'.
 ";
 
+const NO_SIZE: &str = "error: ENTRIES is neither whole nor a number from 1 to 64\n";
+
 // A line, the text that is shown for it, and whether that was asked for.
-const SHOWN: [(&'static [&'static str], &str, bool); 5] = [
+const SHOWN: [(&'static [&'static str], &str, bool); 6] = [
     (&["g", "help"], HELP, true),
     (&["g", "play", "--help"], HELP_OF_PLAY, true),
     (&["g", "silo", "--help"], HELP_OF_SILO, true),
     (&["g", "--version"], VERSION, true),
     (&["g", "play", "--points", "0"], MISTAKE, false),
+    (&["g", "play", "--report-size", "all"], NO_SIZE, false),
 ];
 
 // Whether the refusal shows just the text.

@@ -5,6 +5,7 @@ use console_command::{Exit, Run, end_threads, run_without_words, run_words};
 use directory_rules::Settings;
 use hash_ring::Hashing;
 use line_loop::Ended;
+use script_rules::CommandSet;
 use std::alloc::Global;
 use std::io::ErrorKind;
 use std::process::Abort;
@@ -19,7 +20,7 @@ type Course<'a> = (u8, &'a str, &'a str);
 fn ends_with(carried: Run, status: u8) -> bool {
     match carried {
         Run::Ended(exit) => exit.status() == status,
-        Run::OnThreads(_) => false,
+        Run::OnThreads { .. } => false,
     }
 }
 
@@ -56,7 +57,7 @@ fn courses(rt: HostRuntime) {
             (
                 2,
                 "version 0\nno owner\nline 2 fault 921\n",
-                "error: line 2: a command is join SILO PLACE.., leave SILO, kill SILO, nudge SILO, nudge SILO GRAIN, nudge SILO ranges, see SILO VERSION, sync, wake SILO GRAIN, close SILO GRAIN, cancel SILO GRAIN, find SILO GRAIN, forget SILO GRAIN, offer SILO GRAIN SILO, deliver LETTER, lose LETTER, settle, owner HASH, place SILO POLICY GRAIN, show, mail, dump or check\n",
+                "error: line 2: a command is join SILO PLACE.., leave SILO, kill SILO, nudge SILO, see SILO VERSION, sync, wake SILO GRAIN, close SILO GRAIN, find SILO GRAIN, forget SILO GRAIN, offer SILO GRAIN SILO, deliver LETTER, lose LETTER, settle, owner HASH, place SILO POLICY GRAIN, show, mail, dump or check, and with --commands all also cancel SILO GRAIN, nudge SILO GRAIN or nudge SILO ranges\n",
             ),
         ),
         (
@@ -276,7 +277,7 @@ fn an_input_that_fails(rt: HostRuntime) {
         &mut printed,
         &mut told,
     );
-    assert!(rt; carried == Run::Ended(Exit::Played(Ended::Broken)));
+    assert!(rt; matches!(carried, Run::Ended(Exit::Played(Ended::Broken))));
     assert!(rt; printed.is_empty());
 }
 
@@ -288,16 +289,24 @@ fn without_words(rt: HostRuntime) {
     assert!(rt; told.as_slice() == text.as_slice());
 }
 
+// Whether a script that knows these commands is to be played on threads with these settings.
+fn is_on_threads(carried: Run, wanted: CommandSet, chosen: Settings) -> bool {
+    match carried {
+        Run::OnThreads { commands, settings } => commands == wanted && settings.same(&chosen),
+        Run::Ended(_) => false,
+    }
+}
+
 // A play on threads is left to whoever has them, and its end is told.
 #[test]
 fn on_threads(rt: HostRuntime) {
     let mut printed = Vec::new(rt.alloc());
     let mut told = Vec::new(rt.alloc());
-    let words = ["g", "threads", "--points", "3"];
+    let words = ["g", "threads", "--points", "3", "--commands", "all"];
     let mut script = b"show\n".as_slice();
     let carried = run_words(rt.alloc(), &words, &mut script, &mut printed, &mut told);
     let settings = Settings::of_directory(Hashing::Sha256, 3, 1024).expect(&rt, "3 points");
-    assert!(rt; carried == Run::OnThreads(settings));
+    assert!(rt; is_on_threads(carried, CommandSet::Full, settings));
     assert!(rt; printed.is_empty() && told.is_empty() && script.len() == 5);
     let exit = end_threads(rt.alloc(), ThreadsEnded::ReceiptDiffers, &mut told);
     assert!(rt; exit.status() == 1);

@@ -4,6 +4,7 @@ use console_command::play;
 use directory_core::World;
 use directory_rules::Settings;
 use hash_ring::Hashing;
+use script_rules::CommandSet;
 use std::alloc::Global;
 use std::process::Abort;
 
@@ -19,7 +20,7 @@ fn check_prints(rt: &impl Abort, alloc: Global, script: &str, text: &str) {
     let world = small_world(rt, alloc);
     let mut reader = script.as_bytes();
     let mut written = Vec::new(alloc);
-    let ended = play(alloc, world, &mut reader, &mut written);
+    let ended = play(alloc, CommandSet::Standard, world, &mut reader, &mut written);
     assert!(rt; written.as_slice() == text.as_bytes());
     assert!(rt; ended.status(2) == 0);
 }

@@ -10,6 +10,7 @@ use console_command::play;
 use hash_ring::Hashing;
 use line_loop::Ended;
 use rebuild_checker::{Dump, DumpError, read_dump, write_dump};
+use script_rules::CommandSet;
 use std::alloc::Global;
 use std::process::Abort;
 
@@ -36,7 +37,7 @@ pub(crate) fn is_played(rt: &(impl Abort + Eprint), alloc: Global, row: Row) -> 
     let mut reader = row.script.as_bytes();
     let mut written = with_room(rt, alloc);
     let world = new_cluster(rt, alloc, (Hashing::Stated, 30));
-    match play(alloc, world, &mut reader, &mut written) {
+    match play(alloc, CommandSet::Standard, world, &mut reader, &mut written) {
         Ended::OutOfMemory => {
             notice(rt, "a play");
             row.out.as_bytes().starts_with(&written)

@@ -5,6 +5,7 @@ use directory_core::World;
 use directory_rules::Settings;
 use hash_ring::Hashing;
 use line_loop::{Ended, ScriptLineFault};
+use script_rules::CommandSet;
 use std::alloc::Global;
 use std::process::Abort;
 
@@ -29,7 +30,7 @@ pub(crate) fn check_play(
     let mut reader = script;
     let mut written = Vec::new(alloc);
     let world = new_cluster(rt, alloc, hashes);
-    let ended = play(alloc, world, &mut reader, &mut written);
+    let ended = play(alloc, CommandSet::Standard, world, &mut reader, &mut written);
     assert!(rt; written.as_slice() == text);
     assert!(rt; ended.status(2) == status);
 }
@@ -43,7 +44,7 @@ pub(crate) fn played(
     let mut reader = script;
     let mut written = Vec::new(alloc);
     let world = new_cluster(rt, alloc, (Hashing::Stated, 30));
-    let ended = play(alloc, world, &mut reader, &mut written);
+    let ended = play(alloc, CommandSet::Standard, world, &mut reader, &mut written);
     (ended, written)
 }
 

@@ -13,6 +13,7 @@ use hash_ring::Hashing;
 use memchr::memchr;
 use rebuild_checker::write_dump;
 use script_lines::{Command, read_command, write_outcome, write_refusal};
+use script_rules::CommandSet;
 use std::alloc::{AllocError, Global};
 use std::process::Abort;
 
@@ -27,11 +28,11 @@ fn empty(rt: &impl Abort, alloc: Global) -> World {
 
 // What the line asks for.
 fn command(rt: &(impl Abort + Eprint), alloc: Global, line: &[u8]) -> Option<Command> {
-    match read_command(alloc, line) {
+    match read_command(alloc, CommandSet::Standard, line) {
         Ok(command) => command,
         Err(_) => {
             notice(rt, "a line");
-            read_command(alloc, line).expect(rt, "no fault")
+            read_command(alloc, CommandSet::Standard, line).expect(rt, "no fault")
         }
     }
 }

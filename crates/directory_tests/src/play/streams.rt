@@ -5,6 +5,7 @@ use crate::fakes::{SparseReader, SparseWriter};
 use crate::play::plays::new_cluster;
 use hash_ring::Hashing;
 use line_loop::{Ended, ScriptLineFault};
+use script_rules::CommandSet;
 use std::alloc::Global;
 use std::process::Abort;
 
@@ -134,7 +135,8 @@ fn play(
     writer.most = 1;
     writer.writes = writes;
     let world = new_cluster(rt, alloc, (Hashing::Stated, 30));
-    let ended = console_command::play(alloc, world, &mut reader, &mut writer);
+    let commands = CommandSet::Full;
+    let ended = console_command::play(alloc, commands, world, &mut reader, &mut writer);
     (ended, writer.taken)
 }
 

@@ -2,12 +2,13 @@
 use crate::lines::step_name;
 use directory_rules::Event;
 use script_lines::{Command, ReadError, ScriptFault, read_command, without_return};
+use script_rules::CommandSet;
 use silo_address::{GrainError, SiloError};
 use std::alloc::Global;
 use std::process::Abort;
 
-fn fault_of(alloc: Global, line: &[u8]) -> Option<u16> {
-    match read_command(alloc, line) {
+fn fault_of(alloc: Global, commands: CommandSet, line: &[u8]) -> Option<u16> {
+    match read_command(alloc, commands, line) {
         Err(ReadError::Fault(fault)) => Some(fault.number()),
         _ => None,
     }
@@ -15,7 +16,7 @@ fn fault_of(alloc: Global, line: &[u8]) -> Option<u16> {
 
 // What the line says, in one of its words: the number of a join's places, a version, that of a letter, a hash, or nothing.
 fn number_in(rt: &impl Abort, alloc: Global, line: &str) -> Option<u64> {
-    match read_command(alloc, line.as_bytes()).expect(rt, "no fault") {
+    match read_command(alloc, CommandSet::Full, line.as_bytes()).expect(rt, "no fault") {
         Some(Command::Happen(Event::Join { places, .. })) => Some(places.len() as u64),
         Some(Command::Happen(Event::See { version, .. })) => Some(version),
         Some(Command::Happen(Event::Deliver { number } | Event::Lose { number })) => Some(number),
@@ -26,7 +27,7 @@ fn number_in(rt: &impl Abort, alloc: Global, line: &str) -> Option<u64> {
 
 // The name of what the line asks for.
 fn name_in(rt: &impl Abort, alloc: Global, line: &str) -> &'static str {
-    match read_command(alloc, line.as_bytes()).expect(rt, "no fault") {
+    match read_command(alloc, CommandSet::Full, line.as_bytes()).expect(rt, "no fault") {
         Some(Command::Happen(event)) => event_name(&event),
         Some(Command::Sync) => "sync",
         Some(Command::Settle) => "settle",
@@ -145,9 +146,29 @@ const FAULTS: [(&str, u16); 29] = [
 fn faults(rt: HostRuntime) {
     for (line, number) in &FAULTS {
         assert!(rt;
-            fault_of(rt.alloc(), line.as_bytes()) == Some(*number),
+            fault_of(rt.alloc(), CommandSet::Full, line.as_bytes()) == Some(*number),
             "{line}"
         );
+    }
+}
+
+// What is a fault where a script knows the standard commands alone: as many words as a command of all may have, too.
+const STANDARD_FAULTS: [(&str, Option<u16>); 8] = [
+    ("cancel 10.0.0.1:1000@1 user/ann", Some(921)),
+    ("cancel", Some(921)),
+    ("nudge 10.0.0.1:1000@1 user/ann", Some(922)),
+    ("nudge 10.0.0.1:1000@1 ranges", Some(922)),
+    ("nudge x y", Some(922)),
+    ("nudge x", Some(101)),
+    ("nudge", Some(922)),
+    ("nudge 10.0.0.1:1000@1", None),
+];
+
+#[test]
+fn faults_of_the_standard_set(rt: HostRuntime) {
+    for (line, number) in &STANDARD_FAULTS {
+        let fault = fault_of(rt.alloc(), CommandSet::Standard, line.as_bytes());
+        assert!(rt; fault == *number, "{line}");
     }
 }
 
@@ -160,7 +181,7 @@ fn bytes_of_lines(rt: HostRuntime) {
         (b"; !\"#$%&'()*+,-./:;<=>?@[\\]^_`{|}~", None),
     ];
     for (line, number) in table {
-        assert!(rt; fault_of(rt.alloc(), line) == number);
+        assert!(rt; fault_of(rt.alloc(), CommandSet::Full, line) == number);
     }
 }
 
@@ -181,7 +202,7 @@ fn long_lines(rt: HostRuntime) {
     ];
     for (length, words, number) in table {
         let line = long_line(&rt, rt.alloc(), length, words);
-        assert!(rt; fault_of(rt.alloc(), &line) == number);
+        assert!(rt; fault_of(rt.alloc(), CommandSet::Full, &line) == number);
     }
 }
 
@@ -224,11 +245,11 @@ const WORDS: [(ScriptFault, &str); 8] = [
     ),
     (
         ScriptFault::UnknownCommand,
-        "a command is join SILO PLACE.., leave SILO, kill SILO, nudge SILO, nudge SILO GRAIN, nudge SILO ranges, see SILO VERSION, sync, wake SILO GRAIN, close SILO GRAIN, cancel SILO GRAIN, find SILO GRAIN, forget SILO GRAIN, offer SILO GRAIN SILO, deliver LETTER, lose LETTER, settle, owner HASH, place SILO POLICY GRAIN, show, mail, dump or check",
+        "a command is join SILO PLACE.., leave SILO, kill SILO, nudge SILO, see SILO VERSION, sync, wake SILO GRAIN, close SILO GRAIN, find SILO GRAIN, forget SILO GRAIN, offer SILO GRAIN SILO, deliver LETTER, lose LETTER, settle, owner HASH, place SILO POLICY GRAIN, show, mail, dump or check, and with --commands all also cancel SILO GRAIN, nudge SILO GRAIN or nudge SILO ranges",
     ),
     (
         ScriptFault::WordCount,
-        "too few words or too many: a command is join SILO PLACE.., leave SILO, kill SILO, nudge SILO, nudge SILO GRAIN, nudge SILO ranges, see SILO VERSION, sync, wake SILO GRAIN, close SILO GRAIN, cancel SILO GRAIN, find SILO GRAIN, forget SILO GRAIN, offer SILO GRAIN SILO, deliver LETTER, lose LETTER, settle, owner HASH, place SILO POLICY GRAIN, show, mail, dump or check",
+        "too few words or too many: a command is join SILO PLACE.., leave SILO, kill SILO, nudge SILO, see SILO VERSION, sync, wake SILO GRAIN, close SILO GRAIN, find SILO GRAIN, forget SILO GRAIN, offer SILO GRAIN SILO, deliver LETTER, lose LETTER, settle, owner HASH, place SILO POLICY GRAIN, show, mail, dump or check, and with --commands all also cancel SILO GRAIN, nudge SILO GRAIN or nudge SILO ranges",
     ),
     (
         ScriptFault::Silo(SiloError::Shape),
