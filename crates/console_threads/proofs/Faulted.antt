@@ -1,5 +1,6 @@
 -- Lines of which only a fault is printed.
 use Rattle.std.proofs.Common.{◌≡◌, ◌∙◌, ℕ, ◌+◌, ◌++◌, List, [], ◌∷◌, Option, None, Some, Ok, Err, ap, append-nil, refl, sym}
+use Rattle.script_rules.specs.declared.command_set.CommandSet.{CommandSet}
 use Rattle.script_rules.specs.Script.{Command, read_line}
 use Rattle.script_rules.specs.Lines.{fault_line}
 use Rattle.texts.specs.Printed.{Output, text_of_lines}
@@ -10,21 +11,21 @@ use Rattle.line_loop.specs.declared.fault.ScriptLineFault.{ScriptLineFault}
 use Rattle.threaded_play.specs.Faults.{faults_alone, line_told}
 
 -- a line without a fault, whatever it does
-pub passed_over : (number : ℕ) (line : List ℕ) (command : Option Command) → read_line (stripped line) ≡ Ok command
-    → PlaysLine faults_alone faults_alone number line [] None
+pub passed_over : (set : CommandSet) (number : ℕ) (line : List ℕ) (command : Option Command) → read_line set (stripped line) ≡ Ok command
+    → PlaysLine (faults_alone set) (faults_alone set) number line [] None
 unfolding faults_alone
-passed_over number line command is = λ lines. ap (λ r. line_told r number (faults_alone (number + 1) lines)) is
+passed_over set number line command is = λ lines. ap (λ r. line_told r number (faults_alone set (number + 1) lines)) is
 
 -- a fault
-pub fault_told : (number : ℕ) (line : List ℕ) (fault : ScriptLineFault) → fault.line ≡ number
-    → read_line (stripped line) ≡ Err (script_fault_number fault.fault)
-    → PlaysLine faults_alone faults_alone number line (told_fault fault) (Some fault)
+pub fault_told : (set : CommandSet) (number : ℕ) (line : List ℕ) (fault : ScriptLineFault) → fault.line ≡ number
+    → read_line set (stripped line) ≡ Err (script_fault_number fault.fault)
+    → PlaysLine (faults_alone set) (faults_alone set) number line (told_fault fault) (Some fault)
 unfolding faults_alone
-fault_told number line fault its_line is =
+fault_told set number line fault its_line is =
     let code = script_fault_number fault.fault in (
       its_line,
       refl,
-      λ lines. ap (λ r. line_told r number (faults_alone (number + 1) lines)) is
+      λ lines. ap (λ r. line_told r number (faults_alone set (number + 1) lines)) is
           ∙ ap (λ (n : ℕ). let o : Output = record { text = text_of_lines (fault_line n code ∷ []); status = 2 } in o) (sym its_line),
     )
 

@@ -4,6 +4,7 @@ use Rattle.directory_rules.specs.Settings.{Settings}
 use Rattle.directory_rules.specs.State.{World}
 use Rattle.cluster_journal.specs.Entry.{EntryValue}
 use Rattle.cluster_journal.specs.Journal.{IsJournaled}
+use Rattle.script_rules.specs.declared.command_set.CommandSet.{CommandSet}
 use Rattle.script_rules.specs.Script.{lines_of}
 use Rattle.line_loop.specs.Calls.{WritesText}
 use Rattle.line_loop.specs.Scripts.{WritesScript}
@@ -25,25 +26,25 @@ abbrev pub IsUnclosed : ThreadsEnded → Type 0
 IsUnclosed (Played end) = ⊥
 IsUnclosed other = ⊤
 
--- the script's lines end so, and print that text by themselves
-abbrev pub LinesEnd : (script : List ℕ) → (rest : Option (List ℕ)) → (text : List ℕ) → Ended ScriptLineFault → Type 0
-LinesEnd script rest text end = WritesScript (faults_alone 1) script rest (Some []) (Some text) end
+-- the lines of a script that knows the commands of the set end so, and print that text by themselves
+abbrev pub LinesEnd : CommandSet → (script : List ℕ) → (rest : Option (List ℕ)) → (text : List ℕ) → Ended ScriptLineFault → Type 0
+LinesEnd set script rest text end = WritesScript (faults_alone set 1) script rest (Some []) (Some text) end
 
 -- the text tells the world that its journal made under these settings, of whatever script it carries out
 abbrev pub Tells : Settings → List EntryValue → World → (text : List ℕ) → Type 0
 Tells settings journal world text =
-    (script : List ℕ) → IsJournaled settings journal world → CarriesOut settings journal (commands_of (lines_of script)) → TellsWorld settings script text
+    (set : CommandSet) (script : List ℕ) → IsJournaled settings journal world → CarriesOut settings journal (commands_of set (lines_of script)) → TellsWorld set settings script text
 
 -- where all lines of a script were played, its commands were carried out
-abbrev pub HasCarriedOut : Settings → List EntryValue → (script : List ℕ) → Ended ScriptLineFault → Type 0
-HasCarriedOut settings journal script ended.AtEnd = CarriesOut settings journal (commands_of (lines_of script))
-HasCarriedOut settings journal script other = ⊤
+abbrev pub HasCarriedOut : Settings → List EntryValue → CommandSet → (script : List ℕ) → Ended ScriptLineFault → Type 0
+HasCarriedOut settings journal set script ended.AtEnd = CarriesOut settings journal (commands_of set (lines_of script))
+HasCarriedOut settings journal set script other = ⊤
 
 -- so a script ends, whatever it was, whose lines end so and print that text, and whose cluster carried it out and came to that world
 abbrev pub EndsBy : Settings → List EntryValue → World → (text : List ℕ) → Ended ScriptLineFault → (begun written : Option (List ℕ)) → ThreadsEnded → Type 0
 EndsBy settings journal world text end begun written result =
-    (script : List ℕ) (rest : Option (List ℕ)) → IsJournaled settings journal world → HasCarriedOut settings journal script end
-    → LinesEnd script rest text end → Ends settings script rest begun written result
+    (set : CommandSet) (script : List ℕ) (rest : Option (List ℕ)) → IsJournaled settings journal world → HasCarriedOut settings journal set script end
+    → LinesEnd set script rest text end → Ends set settings script rest begun written result
 
 -- the ending once its text was sent, by whether all of it was taken
 abbrev pub sent_ending : Ended ScriptLineFault → (whole : Bool) → ThreadsEnded

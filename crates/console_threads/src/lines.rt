@@ -25,9 +25,9 @@ pub(crate) fn play_lines<R: Source>(
     script: &mut Script,
     reader: &mut R,
 ) -> Result<Lines, AllocError>
-    ensures ends { IfOk result (λ lines. IfSome (R.remaining reader.old) (λ text. LinesEnd text (R.remaining reader.new) lines.text.items lines.ended)) }
+    ensures ends { IfOk result (λ lines. IfSome (R.remaining reader.old) (λ text. LinesEnd script.old.known text (R.remaining reader.new) lines.text.items lines.ended)) }
     ensures kept { IfOk result (λ lines. IfSome (R.remaining reader.old) (λ text.
-        KeepsLines text (map command_of script.old.commands.items) (map command_of script.new.commands.items) lines.ended)) }
+        KeepsLines script.old.known text (map command_of script.old.commands.items) (map command_of script.new.commands.items) lines.ended)) }
     ensures reads { MatchResult result
         (λ lines. ReadsInTurn R.reads reader.old reader.new (is_read_well lines.ended))
         (λ _. (well : Bool) × ReadsInTurn R.reads reader.old reader.new well) }

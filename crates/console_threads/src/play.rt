@@ -13,6 +13,7 @@ use cluster_board::{Board, Charter, Tokens};
 use directory_rules::Settings;
 use line_loop::{Sink, Source};
 use script_lines::Command;
+use script_rules::CommandSet;
 use silo_threads::{Cluster, PARTS};
 use silo_workers::OpenGate;
 use std::alloc::Global;
@@ -23,7 +24,7 @@ use threaded_play::ThreadsEnded;
 /// How many blocks of marks a cluster may use: enough for a mark at each event.
 pub const MARK_BLOCKS: usize = 1024;
 
-/// Plays a script to a new cluster of these settings with a thread per silo: once it is read, this thread posts its events, and
+/// Plays a script that knows these commands to a new cluster of these settings with a thread per silo: once it is read, this thread posts its events, and
 /// workers deliver the letters. All threads are joined, and then it is written what the script comes to: the line of its first
 /// fault; or how many events there were, the verdict on the cluster and the whole directory. Nothing is where something lacks or
 /// receipts differ. Why workers gave up goes to the errors (`docs/RULES.md#threads`).
@@ -36,6 +37,7 @@ pub fn play_on_threads<
 >(
     rt: &H,
     alloc: Global,
+    known: CommandSet,
     settings: Settings,
     tokens: Tokens,
     reader: &mut R,
@@ -49,11 +51,12 @@ pub fn play_on_threads<
     requires marks { tokens.marks ≡ L.names }
     requires log { tokens.log ≡ L.log }
     ensures ends { IfSome (R.remaining reader.old) (λ script.
-        Ends settings script (R.remaining reader.new) (W.contents writer.old) (W.contents writer.new) result) }
+        Ends known settings script (R.remaining reader.new) (W.contents writer.old) (W.contents writer.new) result) }
     ensures calls { MakesCalls R.reads W.writes (reader.old, writer.old) (reader.new, writer.new) result }
     ensures told { TellsCauses E.writes E.contents result errors.old errors.new }
 {
     let mut script = Script {
+        known,
         commands: Vec::new(alloc),
     };
     let lines = play_lines(alloc, &mut script, reader);

@@ -6,17 +6,17 @@ use Rattle.clap.specs.Walk.{Text}
 use Rattle.threaded_play.specs.Endings as threads
 use Rattle.console_command.specs.CommandLine.{AskFor}
 use Rattle.console_command.specs.declared.command_line.Line.TheVariants.{Threads}
-use Rattle.console_command.specs.declared.command_line.Options.{Options}
+use Rattle.console_command.specs.declared.command_line.Script.{Script}
 use Rattle.console_command.specs.declared.exit.Exit.{Exit}
 use Rattle.console_command.specs.declared.exit.Exit.TheVariants.{Threaded}
 use Rattle.console_command.specs.Errors.{IsTold}
 use Rattle.console_command.specs.Exits as exits
 use Rattle.console_command.specs.Program.{Does, DoesInTurn, Streams, chosen_settings}
 
--- what the words ask for is done; a play on threads is one of the settings that its options choose
+-- what the words ask for is done; a play on threads is one of the settings that its options choose, of a script that knows the commands chosen
 abbrev pub IsDone : (words : List Text) → (old new : Streams) → Exit → Type 0
 IsDone words old new (Threaded ended) =
-    (options : Options) × AskFor words (Threads options) × IfSome old.rest (λ script. threads.Ends (chosen_settings options) script new.rest old.output new.output ended)
+    (script : Script) × AskFor words (Threads script) × IfSome old.rest (λ text. threads.Ends script.commands (chosen_settings script.options) text new.rest old.output new.output ended)
 IsDone words old new exit = Does words old new exit
 
 -- the reads of the source and the writes to the output

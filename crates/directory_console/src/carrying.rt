@@ -9,6 +9,7 @@ use console_command::{Exit, Run, end_threads, run_words};
 use console_threads::{MARK_BLOCKS, play_on_threads};
 use directory_rules::Settings;
 use line_loop::{Sink, Source};
+use script_rules::CommandSet;
 use silo_threads::PARTS;
 use std::alloc::Global;
 use std::convert::AsStr;
@@ -52,8 +53,8 @@ fn run<S: AsStr, H: Threads + Wait + Copy + Drop + Send + 'static, R: Source, W:
 {
     match run_words(alloc, words, source, output, errors) {
         Run::Ended(exit) => exit,
-        Run::OnThreads(settings) => {
-            let ended = run_on_threads(rt, alloc, settings, source, output, errors);
+        Run::OnThreads { commands, settings } => {
+            let ended = run_on_threads(rt, alloc, commands, settings, source, output, errors);
             end_threads(alloc, ended, errors)
         }
     }
@@ -63,19 +64,20 @@ fn run<S: AsStr, H: Threads + Wait + Copy + Drop + Send + 'static, R: Source, W:
 fn run_on_threads<H: Threads + Wait + Copy + Drop + Send + 'static, R: Source, W: Sink, E: Sink>(
     rt: &H,
     alloc: Global,
+    commands: CommandSet,
     settings: Settings,
     source: &mut R,
     output: &mut W,
     errors: &mut E,
 ) -> ThreadsEnded
     ensures ends { IfSome (R.remaining source.old) (λ script.
-        threads.Ends settings script (R.remaining source.new) (W.contents output.old) (W.contents output.new) result) }
+        threads.Ends commands settings script (R.remaining source.new) (W.contents output.old) (W.contents output.new) result) }
     ensures calls { threads.MakesCalls R.reads W.writes (source.old, output.old) (source.new, output.new) result }
     ensures told { (errors.new ≡ errors.old) ⊎ threads.TellsCauses E.writes E.contents result errors.old errors.new }
 {
     match Tokens::new(alloc, PARTS, MARK_BLOCKS) {
         Ok(tokens) => play_on_threads::<Brand, _, _, _, _>(
-            rt, alloc, settings, tokens, source, output, errors,
+            rt, alloc, commands, settings, tokens, source, output, errors,
         ),
         Err(_) => ThreadsEnded::Lacking,
     }

@@ -174,13 +174,14 @@ fn comes<R: Threads + Wait + Copy + Drop + Send + 'static>(
     };
     let exit = match run_words(alloc, &WORDS, &mut source, &mut output, &mut errors) {
         Run::Ended(exit) => exit,
-        Run::OnThreads(settings) => {
+        Run::OnThreads { commands, settings } => {
             let Some(settings) = settings.with_letters(limits.letters) else {
                 return false;
             };
             let ended = play_on_threads::<Brand, R, _, _, _>(
                 rt,
                 alloc,
+                commands,
                 settings,
                 tokens,
                 &mut source,

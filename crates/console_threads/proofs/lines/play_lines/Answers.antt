@@ -9,7 +9,7 @@ use Rattle.console_threads.proofs.lines.play_lines.Goals as goal
 pub returns-in_default-clause-ends : goal.returns-in_default-clause-ends
 returns-in_default-clause-ends g c =
     subst (λ (begun : List ℕ). IfSome (g.R.Source.remaining c.args.reader.now) (λ script.
-    WritesScript (faults_alone 1) script (g.R.Source.remaining c.play-ended.new.reader) (Some begun)
+    WritesScript (faults_alone c.args.script.now.known 1) script (g.R.Source.remaining c.play-ended.new.reader) (Some begun)
     (Some c.play-ended.new.writer.text.items) c.play-ended.result))
     c.new-held.ensures.text (lines_end c.args.script.now c.play-ended.new.player (g.R.Source.remaining c.args.reader.now) _ _ _
     c.play-ended.result c.play-ended.ensures.ends)

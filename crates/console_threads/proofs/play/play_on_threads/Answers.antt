@@ -25,7 +25,7 @@ returns-in-Ok-closed-clause-ends g c =
     let lines = c.in-Ok.lines in
     let script = c.play_lines-lines.new.script in
     script_ends (g.R.Source.remaining c.args.reader.now) c.args.settings board.journal board.world lines.text.items lines.ended
-    (record { commands = c.new.result }) script
+    (record { known = c.args.known; commands = c.new.result }) script
     (g.R.Source.remaining c.play_lines-lines.new.reader) (g.W.Sink.contents c.args.writer.now) (g.W.Sink.contents c.print.new.writer)
     c.print.result
     c.new.ensures.items c.in-Ok-closed.ensures.journaled
