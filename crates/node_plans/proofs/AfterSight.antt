@@ -11,7 +11,7 @@ use Rattle.directory_rules.specs.Host.{outstanding, renewed, renewed_about, requ
 use Rattle.directory_rules.specs.Laws.{IsHandedOver}
 use Rattle.directory_rules.specs.Members.{is_dead_in}
 use Rattle.directory_rules.specs.State.{Node, Piece, Snapshot, Letter}
-use Rattle.directory_rules.specs.Sent.{all_requests, all_wants, new_wants, request_letters}
+use Rattle.directory_rules.specs.Sent.{all_requests, all_wants, request_letters, wants_of}
 use Rattle.directory_rules.specs.Sight.{pieces_after, sealed, shelf_after}
 use Rattle.directory_rules.specs.declared.Effect.{Effect}
 use Rattle.directory_rules.specs.declared.Effect.TheVariants.{Nudged}
@@ -26,10 +26,10 @@ use Rattle.seal_snapshot.specs.Laws.{SealedComesBehind}
 use Rattle.seal_snapshot.specs.Shelf.{AreInOrder}
 use Rattle.node_plans.specs.Node.{HaveRecoveries, IsNode}
 use Rattle.node_plans.specs.Plans.{FitsSight, MayRenew, pieces_by, seen_by}
-use Rattle.node_plans.specs.Sender.{ahead, new_wants_of}
+use Rattle.node_plans.specs.Sender.{ahead}
 use Rattle.node_plans.specs.declared.plan.Sight.{Sight}
 use Rattle.node_plans.proofs.Alike.{same_about, same_requests, same_wanted}
-use Rattle.node_plans.proofs.NewWants.{emptied_new, same_new}
+use Rattle.node_plans.proofs.Wants.{emptied_wants}
 use Rattle.node_plans.proofs.Begun.{emptied_gather, emptied_recover, new_have, new_rise}
 
 abbrev stepped : Node → List Letter → Effect → Stepped
@@ -121,16 +121,16 @@ module _ (node : Node) (sight : Sight) (fits : FitsSight sight node) where
           node.holding.pieces (a i)))
 
   -- and its letters
-  pub letters_are : new_wants_of (ahead sight node) (emptied (pieces_by sight node)) ++ flat_map
+  pub letters_are : wants_of (ahead sight node) (emptied (pieces_by sight node)) ++ flat_map
       (λ e. request_letters (ahead sight node) e.0 e.1) (outstanding (renewed node.host))
-      ≡ new_wants (seen_by sight node) ++ all_requests (seen_by sight node)
+      ≡ all_wants (seen_by sight node) ++ all_requests (seen_by sight node)
   letters_are =
       λ i. wants i ++ same_requests (ahead sight node) (seen_by sight node).holding (seen_by sight node).shelf (seen_by sight node).cache i
     where
-      wants : new_wants_of (ahead sight node) (emptied (pieces_by sight node)) ≡ new_wants (seen_by sight node)
+      wants : wants_of (ahead sight node) (emptied (pieces_by sight node)) ≡ all_wants (seen_by sight node)
       wants =
-          emptied_new (ahead sight node) (pieces_by sight node)
-          ∙ same_new (ahead sight node) (seen_by sight node).holding (seen_by sight node).shelf (seen_by sight node).cache
+          emptied_wants (ahead sight node) (pieces_by sight node)
+          ∙ same_wanted (ahead sight node) (seen_by sight node).holding (seen_by sight node).shelf (seen_by sight node).cache
           (pieces_by sight node)
 
 -- a sight fits if its parts are made of the node's, and of the pieces that are told before it

@@ -1,5 +1,5 @@
 -- Nodes that differ only in what their letters don't depend on send the same.
-use Rattle.std.proofs.Common.{◌≡◌, refl, sym, ◌∙◌, ℕ, List}
+use Rattle.std.proofs.Common.{◌≡◌, refl, sym, ◌∙◌, ◌++◌, ℕ, Bool, true, false, List}
 use Rattle.std.specs.Prelude.{Option, Some, None, flat_map}
 use Rattle.silo_address.specs.Silo.{Silo}
 use Rattle.silo_address.specs.Grain.{Grain}
@@ -9,8 +9,8 @@ use Rattle.directory_rules.specs.declared.PieceState.{PieceState}
 use Rattle.directory_rules.specs.declared.PieceState.TheVariants.{Settled, Awaiting, Recovering}
 use Rattle.directory_rules.specs.State.{Cache, Request_letter, Node, Piece, Holding, Snapshot}
 use Rattle.directory_rules.specs.Host.{outstanding, renewed, renewed_about}
-use Rattle.directory_rules.specs.Sent.{all_requests, hash_of, letter_if_owned, owner_by, request_letters, request_of, wants_by}
-use Rattle.node_plans.specs.Sender.{bare, wants_of}
+use Rattle.directory_rules.specs.Sent.{all_requests, asks_by, further_queries, hash_of, is_surveying, letter_if_owned, owner_by, recovering_ranges, request_letters, request_of, survey_letters, wants_by, wants_of, wants_so}
+use Rattle.node_plans.specs.Sender.{bare}
 
 module _ (node : Node) (holding : Holding) (shelf : List Snapshot) (cache : Cache) where
   -- the node with its requests renewed, and other pieces, snapshots and hints
@@ -35,9 +35,23 @@ module _ (node : Node) (holding : Holding) (shelf : List Snapshot) (cache : Cach
   pub same_requests : flat_map (λ e. request_letters node e.0 e.1) (outstanding (renewed node.host)) ≡ all_requests other
   same_requests = λ i. flat_map (λ e. same_request e.0 e.1 i) (outstanding (renewed node.host))
 
+  same_asks : (state : PieceState) (range : Range) → asks_by state node range ≡ asks_by state other range
+  same_asks Settled range = refl
+  same_asks (Awaiting from) range = refl
+  same_asks Recovering range = refl
+
+  same_behind : (ranges : List Range)
+      → survey_letters node ranges ++ flat_map (further_queries node) ranges ≡ survey_letters other ranges ++ flat_map
+      (further_queries other) ranges
+  same_behind ranges = refl
+
+  same_so : (by_surveys : Bool) (pieces : List (ℕ × Piece)) → wants_so by_surveys node pieces ≡ wants_so by_surveys other pieces
+  same_so true pieces = λ i. flat_map (λ e. same_asks e.1.state e.1.range i) pieces ++ same_behind (recovering_ranges pieces) i
+  same_so false pieces = λ i. flat_map (λ e. same_wants e.1.state e.1.range i) pieces
+
   -- what pieces want
   pub same_wanted : (pieces : List (ℕ × Piece)) → wants_of node pieces ≡ wants_of other pieces
-  same_wanted pieces = λ i. flat_map (λ e. same_wants e.1.state e.1.range i) pieces
+  same_wanted pieces = same_so (is_surveying node) pieces
 
 -- with the requests about a grain renewed it sends the same
 module _ (node : Node) (grain : Grain) where

@@ -11,5 +11,6 @@ pub mod Results
 mod Tabled
 mod Begun
 pub mod Alike
-pub mod NewWants
+pub mod Wants
+pub mod Surveying
 pub mod AfterSight

@@ -1,5 +1,6 @@
 -- Whose letters a sender writes.
 use Rattle.std.specs.Prelude.{List, [], map}
+use Rattle.silo_address.specs.Silo.{Silo}
 use Rattle.ring_range.specs.Range.{Range}
 use Rattle.directory_rules.specs.Cache.{new_cache}
 use Rattle.directory_rules.specs.State.{Letter, Node, Query_letter, Recovery}
@@ -26,9 +27,13 @@ sending s = record {
   cache = new_cache 0;
 }
 
--- a query for the range to each silo that the recovery awaits, by address, behind what it has told there
+-- a query for the range to each of these silos, behind what it has told there
+abbrev pub queries_behind : Node → Range → Recovery → List Silo → List Letter
+queries_behind node range recovery silos = map (λ silo. letter_to silo node (Query_letter range (told_by silo recovery))) silos
+
+-- and to each that the recovery awaits, by address
 abbrev pub queries_of : Node → Range → Recovery → List Letter
-queries_of node range recovery = map (λ silo. letter_to silo node (Query_letter range (told_by silo recovery))) recovery.awaiting
+queries_of node range recovery = queries_behind node range recovery recovery.awaiting
 
 -- the node with all of a sight on which its letters depend
 abbrev pub ahead : Sight → Node → Node

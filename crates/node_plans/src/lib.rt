@@ -10,7 +10,6 @@ mod effects;
 mod gathered;
 mod input;
 mod members;
-mod new_wants;
 mod order;
 mod plan;
 mod recoveries;
@@ -19,6 +18,7 @@ mod rings;
 mod senders;
 mod sights;
 mod states;
+mod surveys;
 mod transition;
 
 pub use beginnings::new_waits;

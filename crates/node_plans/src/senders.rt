@@ -1,13 +1,11 @@
 ghost use Rattle.std.specs.Map.Iter.{ShowsInOrder, deref_pair};
 ghost use Rattle.std.specs.List.{cons_option};
-ghost use Rattle.std.specs.Prelude.{◌≡◌, ◌++◌, ℕ, [], IfOk, OnErr, OnOk, flat_map, length, map};
-ghost use Rattle.directory_rules.specs.Recovery.{told_by};
-ghost use Rattle.directory_rules.specs.Sent.{ask_letters, gathering_of, letter_to, owner_by, query_letters, request_letters, request_of, wants_by};
+ghost use Rattle.std.specs.Prelude.{◌≡◌, ◌++◌, ℕ, [], IfOk, OnErr, OnOk, flat_map, length};
+ghost use Rattle.directory_rules.specs.Sent.{ask_letters, gathering_of, letter_to, owner_by, queried_wants, query_letters, request_letters, request_of, wants_by, wants_of};
 ghost use Rattle.directory_letters.specs.LetterModel.{body_of};
 ghost use Rattle.directory_rules.specs.State.{Query_letter, Piece as PieceValue};
-ghost use Rattle.node_plans.specs.Sender.{new_wants_of, queries_of, sending, wants_of};
+ghost use Rattle.node_plans.specs.Sender.{queries_behind, queries_of, sending};
 
-use crate::new_wants::recovering_ranges;
 use crate::plan::list_of;
 use directory_letters::{Body, Letter};
 use directory_rules::{Act, PieceState, Settings};
@@ -58,27 +56,24 @@ impl Sender<'_> {
         }
     }
 
-    /// The letters of a sight: what these pieces want, which are new, and then the requests, each under its number. Pieces that await
-    /// snapshots ask for them, piece by piece; then each silo of the view gets one survey of all that recover, or where these are two
-    /// or one, a query for each. Fails only when memory runs out.
+    /// The letters of a sight: what these pieces want, which are new, and then the requests, each under its number. Fails only when
+    /// memory runs out.
     pub fn sight_letters(
         &self,
         alloc: Global,
         pieces: &BTreeMap<u32, Piece>,
         requests: &[(u64, Act)],
     ) -> Result<Vec<Letter>, AllocError>
-        ensures { IfOk result (λ letters. letters.items ≡ new_wants_of (sending self.now) pieces.now.entries ++ flat_map (λ e. request_letters (sending self.now) e.0 e.1) requests.now) }
+        ensures { IfOk result (λ letters. letters.items ≡ wants_of (sending self.now) pieces.now.entries ++ flat_map (λ e. request_letters (sending self.now) e.0 e.1) requests.now) }
     {
-        let ranges = recovering_ranges(alloc, pieces)?;
         let mut letters = Vec::new(alloc);
-        self.send_asks(&mut letters, pieces)?;
-        self.send_surveys(alloc, &mut letters, &ranges)?;
+        self.send_wants(alloc, &mut letters, pieces.iter())?;
         self.send_requests(&mut letters, requests)?;
         Ok(letters)
     }
 
-    /// The letters of a nudge: the requests, each under its number, and then what the pieces held want, piece by piece. Fails only
-    /// when memory runs out.
+    /// The letters of a nudge: the requests, each under its number, and then what the pieces held want. Fails only when memory runs
+    /// out.
     pub fn nudge_letters(
         &self,
         alloc: Global,
@@ -109,7 +104,7 @@ impl Sender<'_> {
         Ok(letters)
     }
 
-    /// The letters by which the pieces held get what they want, piece by piece. Fails only when memory runs out.
+    /// The letters by which the pieces held get what they want. Fails only when memory runs out.
     pub fn want_letters(&self, alloc: Global, holding: &Holding) -> Result<Vec<Letter>, AllocError>
         ensures { IfOk result (λ letters. letters.items ≡ wants_of (sending self.now) holding.now.pieces) }
     {
@@ -137,7 +132,7 @@ impl Sender<'_> {
         recovery: &Recovery,
         silos: &[SiloAddress],
     ) -> Result<Vec<Letter>, AllocError>
-        ensures { IfOk result (λ letters. letters.items ≡ map (λ silo. letter_to silo (sending self.now) (Query_letter recovery.now.range (told_by silo recovery.now))) silos.now) }
+        ensures { IfOk result (λ letters. letters.items ≡ queries_behind (sending self.now) recovery.now.range recovery.now silos.now) }
     {
         silos
             .iter()
@@ -224,7 +219,7 @@ impl Sender<'_> {
 
 // What pieces want.
 impl Sender<'_> {
-    // What the pieces want, piece by piece.
+    // What the pieces want, by surveys or by queries, as the settings say.
     fn send_wants(
         &self,
         alloc: Global,
@@ -233,6 +228,23 @@ impl Sender<'_> {
     ) -> Result<(), AllocError>
         requires { ShowsInOrder (deref_pair {K = ℕ} {X = PieceValue}) }
         ensures { OnOk result (letters.new.items ≡ letters.old.items ++ wants_of (sending self.now) pieces.entry) }
+    {
+        if self.settings.surveys() {
+            self.send_surveyed(alloc, letters, pieces)
+        } else {
+            self.send_queried(alloc, letters, pieces)
+        }
+    }
+
+    // What the pieces want, by queries, piece by piece.
+    fn send_queried(
+        &self,
+        alloc: Global,
+        letters: &mut Vec<Letter>,
+        pieces: Iter<'_, u32, Piece>,
+    ) -> Result<(), AllocError>
+        requires { ShowsInOrder (deref_pair {K = ℕ} {X = PieceValue}) }
+        ensures { OnOk result (letters.new.items ≡ letters.old.items ++ queried_wants (sending self.now) pieces.entry) }
     {
         for (_, piece) in pieces {
             self.send_wanted(alloc, letters, piece)?;
@@ -282,7 +294,7 @@ impl Sender<'_> {
     }
 
     // A query to each silo that is awaited for the piece.
-    pub(crate) fn send_queries(
+    fn send_queries(
         &self,
         alloc: Global,
         letters: &mut Vec<Letter>,
@@ -310,8 +322,23 @@ impl Sender<'_> {
         ensures { OnOk result (letters.new.items ≡ letters.old.items ++ queries_of (sending self.now) range recovery.now) }
     {
         let awaiting = recovery.awaiting(alloc)?;
-        for silo in &awaiting {
+        self.send_behind(letters, range, recovery, &awaiting)
+    }
+
+    // A query for the range to each of these silos, behind what it has told.
+    pub(crate) fn send_behind(
+        &self,
+        letters: &mut Vec<Letter>,
+        range: RingRange,
+        recovery: &Recovery,
+        silos: &[SiloAddress],
+    ) -> Result<(), AllocError>
+        ensures { OnOk result (letters.new.items ≡ letters.old.items ++ queries_behind (sending self.now) range recovery.now silos.now) }
+    {
+        let mut rest = silos;
+        while let Some((silo, behind)) = rest.split_first() {
             letters.push(self.query_behind(*silo, range, recovery.told_by(silo)))?;
+            rest = behind;
         }
         Ok(())
     }

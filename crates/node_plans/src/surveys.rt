@@ -145,11 +145,8 @@ impl Sender<'_> {
     ) -> Result<(), AllocError>
         ensures { OnOk result (letters.new.items ≡ letters.old.items ++ surveys_to (sending self.now) ranges.now silo) }
     {
-        let mut rest = ranges;
-        while !rest.is_empty() {
-            let (part, behind) = rest.split_at(SURVEY_SIZE.min(rest.len()));
+        for part in ranges.chunks(SURVEY_SIZE) {
             self.send_survey(alloc, letters, silo, part)?;
-            rest = behind;
         }
         Ok(())
     }

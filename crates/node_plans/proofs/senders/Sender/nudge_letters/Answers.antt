@@ -1,7 +1,7 @@
 use Rattle.std.proofs.Common.{ap, ◌∙◌, ◌++◌}
 use Rattle.std.specs.Prelude.{flat_map}
-use Rattle.directory_rules.specs.Sent.{request_letters}
-use Rattle.node_plans.specs.Sender.{sending, wants_of}
+use Rattle.directory_rules.specs.Sent.{request_letters, wants_of}
+use Rattle.node_plans.specs.Sender.{sending}
 use Rattle.node_plans.proofs.senders.Sender.nudge_letters.Goals as goal
 
 pub returns : goal.returns

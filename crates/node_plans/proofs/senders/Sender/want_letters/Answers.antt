@@ -1,5 +1,6 @@
 use Rattle.std.proofs.Common.{◌∙◌, ◌++◌}
-use Rattle.node_plans.specs.Sender.{sending, wants_of}
+use Rattle.directory_rules.specs.Sent.{wants_of}
+use Rattle.node_plans.specs.Sender.{sending}
 use Rattle.node_plans.proofs.senders.Sender.want_letters.Goals as goal
 
 pub returns : goal.returns
