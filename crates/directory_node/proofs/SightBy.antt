@@ -6,7 +6,7 @@ use Rattle.hash_ring.specs.Places.{PlacesValue}
 use Rattle.hash_ring.specs.Ring.{RingValue, ring_of}
 use Rattle.range_moves.specs.Arcs.{arcs_of}
 use Rattle.directory_rules.specs.State.{Letter, Node}
-use Rattle.directory_rules.specs.Sent.{all_requests, new_wants}
+use Rattle.directory_rules.specs.Sent.{all_requests, all_wants}
 use Rattle.directory_rules.specs.Sight.{is_next}
 use Rattle.directory_rules.specs.Step.{Stepped, compared_points, having_seen, node_after, sight}
 use Rattle.directory_rules.specs.declared.Effect.{Effect}
@@ -39,7 +39,7 @@ placed_fits view places sight node fits = record {
 pub seen_by_is : (node : Node) (its : Sight) → FitsSight its node
     → (before view : ViewValue) (places : PlacesValue) (transition : TransitionValue) (letters : List Letter) (effect : Effect)
     → its.next ≡ is_next node.view before view node.host.silo → its.view ≡ view → its.transition ≡ transition
-    → letters ≡ new_wants (seen_by its node) ++ all_requests (seen_by its node)
+    → letters ≡ all_wants (seen_by its node) ++ all_requests (seen_by its node)
     → effect ≡ cond (is_next node.view before view node.host.silo) Next Skip
     → stepped (seen_by its node) letters effect ≡ sight_by node before view places transition
 seen_by_is node its fits before view places transition letters effect n v t sent told =

@@ -1,7 +1,7 @@
 //! A sight as a plan: what it sends, and the change that it makes.
 ghost use Rattle.std.specs.Prelude.{◌≡◌, ◌&&◌, ◌==◌, ◌<◌, ◌+◌, ◌++◌, IfErr, IfOk, IsOk, flat_map, length, true};
 ghost use Rattle.directory_rules.specs.Host.{has_numbers, outstanding, renewed};
-ghost use Rattle.directory_rules.specs.Sent.{request_letters};
+ghost use Rattle.directory_rules.specs.Sent.{request_letters, wants_of};
 ghost use Rattle.directory_rules.specs.Sight.{is_next, sealed};
 ghost use Rattle.directory_rules.specs.Step.{compared_points, see, sight};
 ghost use Rattle.grain_partition.specs.Holdings.{ArePieces};
@@ -14,7 +14,7 @@ ghost use Rattle.node_plans.specs.Follows.{Follows, RefusesBy};
 ghost use Rattle.node_plans.specs.Numbers.{step_refusal_number};
 ghost use Rattle.node_plans.specs.Placed.{ArePlaced};
 ghost use Rattle.node_plans.specs.Plans.{Fits, FitsSight, step_by};
-ghost use Rattle.node_plans.specs.Sender.{ahead, new_wants_of};
+ghost use Rattle.node_plans.specs.Sender.{ahead};
 ghost use Rattle.node_plans.specs.Transition.{IsOfSight};
 ghost use Rattle.directory_node.specs.SightBy.{sight_by};
 ghost use Rattle.hash_ring.specs.Places.{PlacesValue};
@@ -315,7 +315,7 @@ impl Node {
         pieces: &BTreeMap<u32, Piece>,
     ) -> Result<Vec<Letter>, AllocError>
         requires { sight.now.renewal ≡ renewal_of self.now.host }
-        ensures { IfOk result (λ letters. letters.items ≡ new_wants_of (ahead sight.now self.now) pieces.now.entries ++ flat_map (λ e. request_letters (ahead sight.now self.now) e.0 e.1) (outstanding (renewed self.now.host))) }
+        ensures { IfOk result (λ letters. letters.items ≡ wants_of (ahead sight.now self.now) pieces.now.entries ++ flat_map (λ e. request_letters (ahead sight.now self.now) e.0 e.1) (outstanding (renewed self.now.host))) }
     {
         let requests = self.renewed_requests(alloc, &sight.renewal)?;
         let sender = Sender {

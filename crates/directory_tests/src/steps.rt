@@ -40,6 +40,16 @@ fn boxed(rt: &impl Abort, alloc: Global, node: Node) -> Box<Node> {
 // The node of a silo that has joined.
 pub(crate) fn joined(rt: &impl Abort, alloc: Global, silo: SiloAddress) -> Box<Node> {
     let settings = Settings::of_directory(Hashing::Stated, 30, 16).expect(rt, "settings");
+    joined_with(rt, alloc, settings, silo)
+}
+
+// The node of a silo that has joined, with these settings.
+pub(crate) fn joined_with(
+    rt: &impl Abort,
+    alloc: Global,
+    settings: Settings,
+    silo: SiloAddress,
+) -> Box<Node> {
     match Node::new(alloc, settings, silo) {
         Ok(node) => boxed(rt, alloc, node),
         Err(_) => boxed(

@@ -1,10 +1,15 @@
 //! Several ranges are asked for by one letter, and the empty ones are told by one (`steps.rt`). Any one refusal of an allocation leaves
 //! the tests true.
-use crate::steps::{does, first, joined, posted, sees_one, sends, settled, takes};
+use crate::steps::{
+    does, does_one, entry_on, first, joined, joined_with, posted, sees_one, sends, settled, takes,
+};
 use directory_letters::{Body, Letter};
 use directory_node::{Input, Node};
-use directory_rules::{Effect, LetterKind};
+use directory_rules::{Effect, LetterKind, OwnStep, Settings};
+use hash_ring::Hashing;
+use range_recovery::Report;
 use ring_range::RingRange;
+use silo_address::Entry;
 use std::alloc::Global;
 use std::process::Abort;
 
@@ -78,6 +83,60 @@ fn tell_each(rt: &impl Abort, alloc: Global, node: &mut Node) {
     let sent = does(rt, alloc, node, &Input::Receives(&survey), Effect::Report);
     assert!(rt; sent.len() == 2 && says_empty(rt, alloc, &sent[0], &[low, high]));
     assert!(rt; sent[1].kind() == LetterKind::Report);
+}
+
+// A silo that asks by surveys does so when it sees a view and when it is nudged, until a part was told: then a query goes on.
+#[test]
+fn a_silo_asks_again_by_a_survey(rt: HostRuntime) {
+    let settings = Settings::of_directory(Hashing::Stated, 30, 16).expect(&rt, "settings");
+    let mut node = joined_with(&rt, rt.alloc(), settings.with_surveys(true), first(&rt));
+    ask_again(&rt, rt.alloc(), &mut node, LetterKind::Survey);
+    tell_part(&rt, rt.alloc(), &mut node);
+}
+
+// One that doesn't asks by queries both times.
+#[test]
+fn a_silo_asks_again_by_a_query(rt: HostRuntime) {
+    let mut node = joined(&rt, rt.alloc(), first(&rt));
+    ask_again(&rt, rt.alloc(), &mut node, LetterKind::Query);
+}
+
+fn ask_again(rt: &impl Abort, alloc: Global, node: &mut Node, kind: LetterKind) {
+    let asked = sees_one(rt, alloc, node, 1, Effect::Next);
+    let again = nudged(rt, alloc, node);
+    assert!(rt; asked.kind() == kind && again.same(&asked));
+}
+
+// The letter by which a nudge asks again.
+fn nudged(rt: &impl Abort, alloc: Global, node: &mut Node) -> Box<Letter> {
+    let nudge = Input::Does(&OwnStep::NudgeRanges);
+    does_one(rt, alloc, node, &nudge, Effect::Nudged)
+}
+
+fn tell_part(rt: &impl Abort, alloc: Global, node: &mut Node) {
+    let part = letter(rt, alloc, part_of(rt, alloc));
+    let query = sends(rt, alloc, node, &part, Effect::More);
+    let again = nudged(rt, alloc, node);
+    assert!(rt; again.kind() == LetterKind::Query && again.same(&query));
+}
+
+// The first silo has the moved grain, and more.
+fn part_of(rt: &impl Abort, alloc: Global) -> Body {
+    let circle = range(rt, 10, 4_294_967_296);
+    let entries = entries_of(rt, alloc, &[entry_on(rt, first(rt))]);
+    Body::Report(Report::new(1, circle, first(rt), None, entries, false))
+}
+
+// The entries as a list; nothing where memory was refused.
+fn entries_if(alloc: Global, entries: &[Entry]) -> Option<Vec<Entry>> {
+    entries.to_vec(alloc).ok()
+}
+
+fn entries_of(rt: &impl Abort, alloc: Global, entries: &[Entry]) -> Vec<Entry> {
+    match entries_if(alloc, entries) {
+        Some(list) => list,
+        None => entries_if(alloc, entries).expect(rt, "memory"),
+    }
 }
 
 // Whether an equal body is made, at the second try where memory was refused.

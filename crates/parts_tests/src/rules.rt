@@ -14,8 +14,10 @@ fn are_of_directory(settings: &Settings) -> bool {
         && settings.places() == 128
         && settings.events() == 1_000_000
         && settings.letters() == 1_000_000
-        && settings.activations() == 1_000_000
+        && settings.activations() == 65_536
         && settings.finds() == 65_536
+        && settings.report_size() == 16_777_216
+        && !settings.surveys()
         && settings.last_number() == 1_152_921_504_606_846_976
 }
 
@@ -25,6 +27,19 @@ fn settings_of_a_directory(rt: HostRuntime) {
     settings.in_range();
     settings.counts_fit();
     assert!(rt; are_of_directory(&settings));
+}
+
+#[test]
+fn settings_of_a_silo(rt: HostRuntime) {
+    let settings = Settings::of_silo(Hashing::Stated, 30, 1024).expect(&rt, "in range");
+    assert!(rt;
+        settings.silos() == 4_611_686_018_427_387_903
+            && settings.activations() == 1_000_000
+            && settings.report_size() == 64
+            && settings.surveys()
+    );
+    let queries = settings.with_surveys(false);
+    assert!(rt; !queries.surveys() && !queries.same(&settings));
 }
 
 #[test]

@@ -3,7 +3,6 @@ pub mod ChangeModel
 pub mod Ending
 pub mod Telling
 pub mod LineAnswers
-pub mod ProcessSettings
 pub mod TooLong
 pub mod JoinToken
 pub mod JoinTokenFields

@@ -1,5 +1,5 @@
 //! What a silo's process answers to what a line asks for: the call of the silo, and the lines that tell what came of it; and a silo
-//! that answers lines, with its settings. The rules are in `docs/RULES.md#lines-of-a-silos-process`.
+//! that answers lines. The rules are in `docs/RULES.md#lines-of-a-silos-process`.
 #![tactic(auto)]
 
 mod answering;
@@ -14,7 +14,6 @@ mod letters;
 mod lines;
 mod player;
 mod questions;
-mod settings;
 mod show;
 mod steps;
 mod telling;
@@ -22,4 +21,3 @@ mod telling;
 pub use answering::answer;
 pub use join_token::JoinToken;
 pub use player::{Dead, Player};
-pub use settings::process_settings;

@@ -4,11 +4,10 @@ use Rattle.silo_address.specs.ReadSilo.{read_silo}
 use Rattle.hash_ring.specs.declared.Hashing.{Hashing}
 use Rattle.hash_ring.specs.declared.Hashing.TheVariants.{Sha256, Stated}
 use Rattle.silo_address.specs.Silo.{Silo}
-use Rattle.directory_rules.specs.Settings.{Settings, directory_settings}
+use Rattle.directory_rules.specs.Settings.{Settings, silo_settings}
 use Rattle.silo_rules.specs.SiloValue.{SiloValue, first_silo}
 use Rattle.process_answers.specs.JoinToken.{IsToken}
 use Rattle.process_answers.specs.LineAnswers.{AnswersLine}
-use Rattle.process_answers.specs.ProcessSettings.{process_settings}
 use Rattle.silo_library.specs.declared.status.CallStatus.{CallStatus}
 use Rattle.silo_library.specs.declared.status.CallStatus.TheVariants as status
 
@@ -42,7 +41,7 @@ pub record Opens (address : List ℕ) (token : Option (List ℕ)) (hashing point
   pub named : read_silo address ≡ Ok silo
   pub numbered : hashing_of hashing ≡ Some way
   pub in_range : AreInRange points cache
-  pub first : it ≡ first_open (process_settings (directory_settings way points cache)) silo token
+  pub first : it ≡ first_open (silo_settings way points cache) silo token
 
 -- what is wrong with them: the first that applies of no silo, no way of hashing and a number out of its range; or else memory ran out
 abbrev pub RefusesToOpen : (address : List ℕ) (hashing points cache : ℕ) → CallStatus → Type 0

@@ -7,7 +7,7 @@ use crate::CallStatus;
 use directory_rules::Settings;
 use directory_silo::Silo;
 use hash_ring::Hashing;
-use process_answers::{JoinToken, Player, process_settings};
+use process_answers::{JoinToken, Player};
 use silo_address::SiloAddress;
 use std::alloc::{AllocError, Global};
 use std::marker::Model;
@@ -102,10 +102,10 @@ impl OpenSilo {
         let Some(hashing) = hashing_of(hashing) else {
             return Err(CallStatus::NoSuchHashing);
         };
-        let Some(settings) = Settings::of_directory(hashing, points, cache) else {
+        let Some(settings) = Settings::of_silo(hashing, points, cache) else {
             return Err(CallStatus::OutOfRange);
         };
-        match first(alloc, process_settings(settings), silo, token) {
+        match first(alloc, settings, silo, token) {
             Ok(it) => Ok(it),
             Err(_) => Err(CallStatus::OutOfMemory),
         }

@@ -1,6 +1,6 @@
 -- Settings, membership and rings cross.
 use denote.Builtin.{u32, u64}
-use Rattle.silo_workers.proofs.Parts.{Crosses, fields, structure, modelled, inverted, variants, choice, pair, number32, number64}
+use Rattle.silo_workers.proofs.Parts.{Crosses, fields, structure, modelled, inverted, variants, choice, pair, number32, number64, truth}
 use Rattle.silo_workers.proofs.Holders.{heap_field_crosses, optional, listed, mapped}
 use Rattle.silo_workers.proofs.Names.{silo_crosses}
 use Rattle.silo_address.specs.contracts.silo.SiloAddress as silo
@@ -29,7 +29,7 @@ hashing_crosses = variants hashing.the_type (tt, (tt, tt))
 pub settings_cross : Crosses settings.the_row
 settings_cross =
     let n = number64 in inverted settings_inside.the_type _ _ settings.the_inverse settings.the_view settings.the_invariant
-    (hashing_crosses, (n, (n, (n, (n, (n, (n, (n, (n, (n, (n, tt)))))))))))
+    (hashing_crosses, (n, (n, (n, (n, (n, (n, (n, (n, (n, (truth, (n, tt))))))))))))
 
 member_crosses : Crosses member.the_row
 member_crosses =

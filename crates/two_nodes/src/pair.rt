@@ -19,7 +19,7 @@ pub(crate) struct Pair {
 impl Pair {
     /// Two silos that have seen no version yet, each with a cache of 16 hints.
     pub(crate) fn new(alloc: Global) -> Result<Pair> {
-        let settings = Settings::of_directory(Hashing::Stated, 1, 16).context("no settings")?;
+        let settings = Settings::of_silo(Hashing::Stated, 1, 16).context("no settings")?;
         let first = SiloAddress::parse(b"10.0.0.1:1000@1")?;
         let second = SiloAddress::parse(b"10.0.0.2:1000@1")?;
         Ok(Pair {

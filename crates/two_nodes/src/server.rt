@@ -36,7 +36,7 @@ impl Server {
         silo: SiloAddress,
         ends: Ends,
     ) -> Result<Server> {
-        let settings = Settings::of_directory(Hashing::Stated, 1, 16).context("no settings")?;
+        let settings = Settings::of_silo(Hashing::Stated, 1, 16).context("no settings")?;
         let silo = Silo::new(alloc, settings, silo)?;
         Ok(Server {
             alloc,

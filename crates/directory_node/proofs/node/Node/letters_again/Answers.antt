@@ -2,8 +2,7 @@ use Rattle.std.proofs.Common.{◌∙◌, ◌++◌}
 use Rattle.std.specs.Prelude.{flat_map}
 use Rattle.std.proofs.lemmas.Result.{IfOk-weaker}
 use Rattle.directory_rules.specs.Host.{outstanding, renewed}
-use Rattle.directory_rules.specs.Sent.{request_letters}
-use Rattle.node_plans.specs.Sender.{wants_of}
+use Rattle.directory_rules.specs.Sent.{request_letters, wants_of}
 use Rattle.node_plans.proofs.Alike.{bare_requests, bare_wants}
 use Rattle.directory_node.proofs.node.Node.letters_again.Goals as goal
 

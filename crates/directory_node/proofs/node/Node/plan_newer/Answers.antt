@@ -1,10 +1,10 @@
 use Rattle.std.proofs.Common.{◌≡◌, sym, ap, ◌∙◌, ◌++◌}
 use Rattle.std.specs.Prelude.{cond, flat_map}
 use Rattle.directory_rules.specs.Host.{outstanding, renewed}
-use Rattle.directory_rules.specs.Sent.{request_letters}
+use Rattle.directory_rules.specs.Sent.{request_letters, wants_of}
 use Rattle.directory_rules.specs.declared.Effect.TheVariants.{Next, Skip}
 use Rattle.grain_partition.specs.Seen.{pieces_seen}
-use Rattle.node_plans.specs.Sender.{ahead, new_wants_of}
+use Rattle.node_plans.specs.Sender.{ahead}
 use Rattle.node_plans.specs.Transition.{TransitionValue}
 use Rattle.node_plans.proofs.AfterSight.{letters_are}
 use Rattle.directory_node.proofs.SightBy.{of_sight, seen_by_is}
@@ -27,7 +27,7 @@ returns-clause-whatever c = λ places.
     c.seen_effect.result
     (its.next ∙ c.is_next-next.ensures) its.view its.transition
     (c.in_ok-letters.ensures
-    ∙ (λ i. new_wants_of (ahead (lent i) node) (pieces i) ++ flat_map (λ e. request_letters (ahead (lent i) node) e.0 e.1)
+    ∙ (λ i. wants_of (ahead (lent i) node) (pieces i) ++ flat_map (λ e. request_letters (ahead (lent i) node) e.0 e.1)
     (outstanding (renewed node.host)))
     ∙ letters_are node sight its.fits)
     (c.seen_effect.ensures ∙ ap (λ b. cond b Next Skip) c.is_next-next.ensures)

@@ -1,6 +1,6 @@
 use Rattle.std.proofs.Common.{◌∙◌}
 use Rattle.std.proofs.lemmas.Result.{IfOk-weaker}
-use Rattle.node_plans.specs.Sender.{wants_of}
+use Rattle.directory_rules.specs.Sent.{wants_of}
 use Rattle.node_plans.proofs.Alike.{bare_wants}
 use Rattle.directory_node.proofs.node.Node.wants.Goals as goal
 
