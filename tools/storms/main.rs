@@ -50,7 +50,7 @@ mod dump;
 mod json;
 #[path = "../../crates/rebuild_checker/plain/names.rs"]
 mod names;
-#[path = "../../crates/benches/plain/sha256.rs"]
+#[path = "../benches/plain/sha256.rs"]
 mod sha256;
 #[path = "../../crates/rebuild_checker/plain/verdict.rs"]
 mod verdict;

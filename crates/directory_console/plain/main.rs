@@ -11,7 +11,7 @@ mod judging;
 mod names;
 mod output;
 mod script;
-#[path = "../../benches/plain/sha256.rs"]
+#[path = "../../../tools/benches/plain/sha256.rs"]
 mod sha256;
 mod text;
 #[path = "../../rebuild_checker/plain/verdict.rs"]

@@ -21,7 +21,7 @@ mod requests;
 #[path = "../plain/world/ring.rs"]
 #[allow(dead_code)]
 mod ring;
-#[path = "../../benches/plain/sha256.rs"]
+#[path = "../../../tools/benches/plain/sha256.rs"]
 mod sha256;
 mod show;
 mod sight;

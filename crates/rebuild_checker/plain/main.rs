@@ -9,7 +9,7 @@ mod dump;
 mod json;
 mod make;
 mod names;
-#[path = "../../benches/plain/sha256.rs"]
+#[path = "../../../tools/benches/plain/sha256.rs"]
 mod sha256;
 mod verdict;
 

@@ -6,7 +6,7 @@
 //! a sum: of the owners' places where nothing is published, else how many routes were got. Publications are measured by the clock, a
 //! ring made anew beside them.
 
-#[path = "../../../../crates/benches/plain/sha256.rs"]
+#[path = "../../../benches/plain/sha256.rs"]
 mod sha256;
 
 use sha256::{START, compress};

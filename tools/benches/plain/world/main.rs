@@ -5,7 +5,7 @@
 //! Built by `rustc -O`; `tools/bench world` runs both and prints the ratios.
 
 mod cluster;
-#[path = "../../../directory_console/plain"]
+#[path = "../../../../crates/directory_console/plain"]
 mod directory {
     #[allow(dead_code, unused_imports)]
     pub mod world;
