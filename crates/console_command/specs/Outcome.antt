@@ -3,7 +3,7 @@ use Rattle.std.specs.Prelude.{⊤, ◌≡◌, ℕ, List, Option}
 use Rattle.clap.specs.Walk.{Text}
 use Rattle.console_command.specs.CommandLine.{AskFor}
 use Rattle.console_command.specs.declared.command_line.Line.TheVariants.{Threads}
-use Rattle.console_command.specs.declared.command_line.Options.{Options}
+use Rattle.console_command.specs.declared.command_line.Script.{Script}
 use Rattle.console_command.specs.Exits.{MakesCalls}
 use Rattle.console_command.specs.Program.{Does, DoesInTurn, Streams, chosen_settings}
 use Rattle.console_command.specs.Errors.{IsTold}
@@ -15,7 +15,7 @@ use Rattle.console_command.specs.declared.program.Run.TheVariants.{Ended, OnThre
 abbrev pub Carries : (words : List Text) → (old new : Streams) → Run → Type 0
 Carries words old new (Ended exit) = Does words old new exit
 Carries words old new (OnThreads commands settings) =
-    (options : Options) × AskFor words (Threads (record { commands = commands; options = options })) × (settings ≡ chosen_settings options) × (new ≡ old)
+    (script : Script) × AskFor words (Threads script) × (commands ≡ script.commands) × (settings ≡ chosen_settings script.options) × (new ≡ old)
 
 -- the reads and writes
 abbrev pub CarriesByCalls : {R W : Type 0} → (reads : R → Option (List ℕ) → R → Type 0) → (writes : W → List ℕ → Option ℕ → W → Type 0) → (old new : R × W) → Run → Type 0

@@ -7,7 +7,7 @@ returns-in-Play-clause-does g c = λ words asks. (c.in-Play.script, subst (AskFo
 
 pub returns-in-Threads-clause-does : goal.returns-in-Threads-clause-does
 returns-in-Threads-clause-does g c =
-    λ words asks. (c.in-Threads.script.options, subst (AskFor words) c.in-Threads.is asks, c.chosen_settings.ensures, refl)
+    λ words asks. (c.in-Threads.script, subst (AskFor words) c.in-Threads.is asks, refl, c.chosen_settings.ensures, refl)
 
 pub returns-in-Check-clause-does : goal.returns-in-Check-clause-does
 returns-in-Check-clause-does g c = λ words asks. (subst (AskFor words) c.in-Check.is asks, c.judge-checked.ensures.checks)

@@ -17,7 +17,13 @@ returns-in-Ok-None-clause-played c =
     record {
       text = [];
       behind = sym (append-nil c.args.out.now.items);
-      plays = (refl, passed_over c.args.self.now.known c.args.number c.args.line.now None read, kept_none c.args.self.now.known _ c.args.self.now.commands.items read);
+      plays = (
+        refl,
+        (
+          passed_over c.args.self.now.known c.args.number c.args.line.now None read,
+          kept_none c.args.self.now.known _ c.args.self.now.commands.items read,
+        ),
+      );
     }
 
 pub returns-in_ok-push-in-Ok-Some-clause-played : goal.returns-in_ok-push-in-Ok-Some-clause-played
@@ -28,8 +34,11 @@ returns-in_ok-push-in-Ok-Some-clause-played c =
       behind = sym (append-nil c.args.out.now.items);
       plays = (
         refl,
-        passed_over c.args.self.now.known c.args.number c.args.line.now (Some (command_of c.in-Ok-Some.command)) read,
-        kept_one c.args.self.now.known _ c.args.self.now.commands.items _ c.in-Ok-Some.command read c.in_ok-push-in-Ok-Some.ensures.items,
+        (
+          passed_over c.args.self.now.known c.args.number c.args.line.now (Some (command_of c.in-Ok-Some.command)) read,
+          kept_one c.args.self.now.known _ c.args.self.now.commands.items _ c.in-Ok-Some.command read
+              c.in_ok-push-in-Ok-Some.ensures.items,
+        ),
       );
     }
 
@@ -49,8 +58,9 @@ returns-in_ok-write_fault-in-Err-Fault-clause-played c =
           ∙ ap (λ (f : ScriptFault). out ++ printed (fault_line number (script_fault_number f))) c.in-Err-Fault.fault-is));
       plays = (
         refl,
-        fault_told self.known number c.args.line.now (record { line = number; fault = fault }) refl read,
-        kept_at_fault self.known _ self.commands.items
-            (script_fault_number fault) read,
+        (
+          fault_told self.known number c.args.line.now (record { line = number; fault = fault }) refl read,
+          kept_at_fault self.known _ self.commands.items (script_fault_number fault) read,
+        ),
       );
     })
