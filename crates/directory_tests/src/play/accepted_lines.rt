@@ -129,12 +129,7 @@ const CHOSEN: [(&'static [&'static str], usize, usize, bool); 9] = [
     (&["g", "play", "--report-size", "1"], 65_536, 1, false),
     (&["g", "play", "--report-size=64"], 65_536, 64, false),
     (&["g", "play", "--report-size", "+03"], 65_536, 3, false),
-    (
-        &["g", "play", "--report-size=whole"],
-        65_536,
-        WHOLE,
-        false,
-    ),
+    (&["g", "play", "--report-size=whole"], 65_536, WHOLE, false),
     (&["g", "play", "--surveys", "on"], 65_536, WHOLE, true),
     (&["g", "play", "--surveys=off"], 65_536, WHOLE, false),
     (
@@ -283,8 +278,14 @@ const REFUSED: [(&'static [&'static str], ErrorKind); 62] = [
         &["g", "silo", "10.0.0.1:1000@1", "--commands", "all"],
         ErrorKind::UnknownArgument,
     ),
-    (&["g", "play", "--report-size", "0"], ErrorKind::InvalidValue),
-    (&["g", "play", "--report-size", "65"], ErrorKind::InvalidValue),
+    (
+        &["g", "play", "--report-size", "0"],
+        ErrorKind::InvalidValue,
+    ),
+    (
+        &["g", "play", "--report-size", "65"],
+        ErrorKind::InvalidValue,
+    ),
     (
         &["g", "play", "--report-size", "Whole"],
         ErrorKind::InvalidValue,
@@ -292,7 +293,10 @@ const REFUSED: [(&'static [&'static str], ErrorKind); 62] = [
     (&["g", "threads", "--report-size="], ErrorKind::InvalidValue),
     (&["g", "play", "--report-size"], ErrorKind::InvalidValue),
     (&["g", "play", "--surveys", "yes"], ErrorKind::InvalidValue),
-    (&["g", "play", "--commands", "every"], ErrorKind::InvalidValue),
+    (
+        &["g", "play", "--commands", "every"],
+        ErrorKind::InvalidValue,
+    ),
     (
         &["g", "play", "--activations", "0"],
         ErrorKind::ValueValidation,

@@ -20,7 +20,13 @@ fn check_prints(rt: &impl Abort, alloc: Global, script: &str, text: &str) {
     let world = small_world(rt, alloc);
     let mut reader = script.as_bytes();
     let mut written = Vec::new(alloc);
-    let ended = play(alloc, CommandSet::Standard, world, &mut reader, &mut written);
+    let ended = play(
+        alloc,
+        CommandSet::Standard,
+        world,
+        &mut reader,
+        &mut written,
+    );
     assert!(rt; written.as_slice() == text.as_bytes());
     assert!(rt; ended.status(2) == 0);
 }

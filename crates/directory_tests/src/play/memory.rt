@@ -37,7 +37,13 @@ pub(crate) fn is_played(rt: &(impl Abort + Eprint), alloc: Global, row: Row) -> 
     let mut reader = row.script.as_bytes();
     let mut written = with_room(rt, alloc);
     let world = new_cluster(rt, alloc, (Hashing::Stated, 30));
-    match play(alloc, CommandSet::Standard, world, &mut reader, &mut written) {
+    match play(
+        alloc,
+        CommandSet::Standard,
+        world,
+        &mut reader,
+        &mut written,
+    ) {
         Ended::OutOfMemory => {
             notice(rt, "a play");
             row.out.as_bytes().starts_with(&written)

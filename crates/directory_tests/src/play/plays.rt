@@ -30,7 +30,13 @@ pub(crate) fn check_play(
     let mut reader = script;
     let mut written = Vec::new(alloc);
     let world = new_cluster(rt, alloc, hashes);
-    let ended = play(alloc, CommandSet::Standard, world, &mut reader, &mut written);
+    let ended = play(
+        alloc,
+        CommandSet::Standard,
+        world,
+        &mut reader,
+        &mut written,
+    );
     assert!(rt; written.as_slice() == text);
     assert!(rt; ended.status(2) == status);
 }
@@ -44,7 +50,13 @@ pub(crate) fn played(
     let mut reader = script;
     let mut written = Vec::new(alloc);
     let world = new_cluster(rt, alloc, (Hashing::Stated, 30));
-    let ended = play(alloc, CommandSet::Standard, world, &mut reader, &mut written);
+    let ended = play(
+        alloc,
+        CommandSet::Standard,
+        world,
+        &mut reader,
+        &mut written,
+    );
     (ended, written)
 }
 
