@@ -185,13 +185,12 @@ func TestOneLife(t *testing.T) {
 	a, b := x.dial(), x.dial()
 	x.firm(a, "user/ann", "S!1", 7)
 	a.says("2 activate user/ann")
-	a.hears("2 firm S!1 user/ann token 7")
+	a.hears("2 refused yours ")
 	b.says("3 activate user/ann")
 	b.hears("3 taken S!1 user/ann")
 	b.says("4 deactivate user/ann")
 	b.hears("4 refused 803 ")
 	b.says("4 migrate user/ann any")
-	x.silo.answers(t, "place user/ann", silo.Answer{Activation: "10.0.0.2:1000@1"})
 	b.hears("4 refused 803 ")
 	a.says("5 deactivate user/ann")
 	x.silo.answers(t, "close user/ann", silo.Answer{Activation: "S!1"})
@@ -355,8 +354,8 @@ func TestGivenUpInVain(t *testing.T) {
 	b.says("4 status")
 	b.hears("4 status S version 1 held 1")
 	x.service.Said(silo.Said{What: silo.Taken, Activation: "T!1", Grain: "user/ann"})
-	a.hears("2 ended user/ann absent")
 	x.silo.answers(t, "cancel user/ann", silo.Answer{Refused: "802"})
+	a.hears("2 ended user/ann absent")
 	x.silo.answers(t, "wake user/ann", silo.Answer{Activation: "S!2"})
 	x.service.Said(silo.Said{What: silo.Taken, Activation: "T!1", Grain: "user/ann"})
 	b.hears("3 taken T!1 user/ann")
@@ -364,8 +363,8 @@ func TestGivenUpInVain(t *testing.T) {
 	a.says("6 deactivate user/bob")
 	a.hears("5 refused given ")
 	x.silo.answers(t, "wake user/bob", silo.Answer{Refused: "806"})
-	a.hears("6 ended user/bob absent")
 	x.silo.answers(t, "cancel user/bob", silo.Answer{Refused: "802"})
+	a.hears("6 ended user/bob absent")
 	x.held(0)
 }
 
@@ -401,8 +400,7 @@ func TestRefusals(t *testing.T) {
 		a.hears("1 refused " + one.code + " ")
 	}
 	a.says("1 migrate user/ann any")
-	x.silo.answers(t, "place user/ann", silo.Answer{})
-	a.hears("1 refused 807 ")
+	a.hears("1 refused 802 ")
 	a.says("")
 	for _, code := range []string{"111", "804", "806", "999"} {
 		a.says("2 activate user")
@@ -414,7 +412,10 @@ func TestRefusals(t *testing.T) {
 	x.silo.answers(t, "offer user/ann 10.0.0.9:1@1", silo.Answer{Refused: "807"})
 	a.hears("3 refused 807 ")
 	a.says("4 activate user/ann") // its work goes on
-	a.hears("4 firm S!1 user/ann token 1")
+	a.hears("4 refused yours ")
+	a.says("4 migrate user/ann any")
+	x.silo.answers(t, "place user/ann", silo.Answer{})
+	a.hears("4 refused 807 ")
 	x.silo.isBusy(true)
 	for _, line := range []string{"activate user/bob", "deactivate user/ann", "migrate user/ann any", "find user/bob", "find user/bob fresh"} {
 		a.says("5 " + line)

@@ -29,10 +29,17 @@ const (
 	longestName      = 255
 )
 
+// outbox has the lines to a connection that wait to be written; a queue is one.
+type outbox interface {
+	Add(line []byte, within int) bool
+	Size() int
+	Close()
+}
+
 // application is a connection of an application.
 type application struct {
 	conn       *net.UnixConn
-	out        *queue.Lines
+	out        outbox
 	number     int64
 	process    int // its process, by the kernel's word
 	began      string
@@ -48,7 +55,7 @@ type ask struct {
 	tag string
 }
 
-func (k ask) answer(format string, words ...interface{}) {
+func (k ask) answer(format string, words ...any) {
 	if k.app != nil {
 		atomic.AddInt64(&k.app.unanswered, -1)
 		k.app.say(k.tag+" "+format, words...)
@@ -66,6 +73,7 @@ var reasons = map[string]string{
 	"111":     "a grain is KIND/KEY, neither of them empty",
 	"112":     "a grain's kind has up to 64 bytes, its key up to 128",
 	"113":     "a grain is visible ASCII",
+	"yours":   "this connection has it already, by its `firm` or `event firm`",
 	"given":   "this connection has given it up meanwhile",
 	"busy":    "too much waits for the silo's process: ask again, later",
 	"leaving": "this silo leaves: ask another agent",
@@ -85,14 +93,14 @@ func (k ask) refuse(code string) {
 }
 
 // say adds a line that has to come: answers, whose number is bounded, and what ends work.
-func (p *application) say(format string, words ...interface{}) {
+func (p *application) say(format string, words ...any) {
 	if !p.out.Add([]byte(fmt.Sprintf(format, words...)), mostOut) && p.out.Size() > mostOut/2 { // else it is closed
 		log.Printf("warning: the application %d doesn't read, and a line to it is lost", p.process)
 	}
 }
 
 // tell adds a line of news, unless the application doesn't read. A deadline that isn't told is an earlier one, and so does no harm.
-func (p *application) tell(format string, words ...interface{}) {
+func (p *application) tell(format string, words ...any) {
 	p.out.Add([]byte(fmt.Sprintf(format, words...)), mostNews)
 }
 
@@ -125,30 +133,37 @@ func (s *Service) Serve(listener *net.UnixListener) {
 		if err != nil {
 			return
 		}
-		app := &application{conn: conn, out: queue.New(mostOut), number: number, serves: map[string]bool{},
-			expects: map[string]bool{}}
+		out := queue.New(mostOut)
+		app := &application{conn: conn, out: out, number: number, serves: map[string]bool{}, expects: map[string]bool{}}
 		app.process = processOf(conn)
 		app.began = Began(app.process)
-		s.mu.Lock()
-		isIn := s.over == "" && len(s.apps) < mostApplications
-		if isIn {
-			s.apps[app] = true
-			if s.options.Connected != nil {
-				s.options.Connected(app.process, app.began)
-			}
-			app.tell("event valid %d", s.options.Until().Nanoseconds())
-		}
-		s.mu.Unlock()
-		if !isIn {
+		if !s.joins(app) {
 			conn.Close()
 			continue
 		}
 		go func() {
-			app.out.Run(conn, nil)
+			out.Run(conn, nil)
 			conn.CloseWrite() // and it is still heard when the other hangs up
 		}()
 		go s.serve(app)
 	}
+}
+
+// joins takes a connection in, if there is room, and all isn't lost.
+func (s *Service) joins(app *application) bool {
+	s.watching.Lock()
+	defer s.watching.Unlock()
+	s.mu.Lock()
+	isIn := s.over == "" && len(s.apps) < mostApplications
+	if isIn {
+		s.apps[app] = true
+		app.tell("event valid %d", s.options.Until().Nanoseconds())
+	}
+	s.mu.Unlock()
+	if isIn && s.options.Connected != nil {
+		s.options.Connected(app.process, app.began)
+	}
+	return isIn
 }
 
 // serve takes the questions of a connection until it hangs up.
@@ -189,15 +204,21 @@ func (s *Service) waitForRoom(app *application) {
 }
 
 func (s *Service) asked(k ask, words []string, isLong bool) {
-	s.mu.Lock()
-	defer s.mu.Unlock()
-	verb := ""
+	verb, told := "", ""
 	if len(words) > 0 {
 		verb = words[0]
 	}
+	switch verb { // what others tell, who have locks of their own
+	case "members":
+		told = s.options.Members()
+	case "status":
+		told = s.options.Status()
+	}
+	s.mu.Lock()
+	defer s.mu.Unlock()
 	s.counts["asked "+known(verb)]++
 	switch {
-	case s.over != "" || !s.options.May():
+	case s.isOver():
 		k.refuse("lost")
 	case isLong:
 		k.refuse("long")
@@ -229,42 +250,23 @@ func (s *Service) asked(k ask, words []string, isLong bool) {
 	case verb == "named" && len(words) <= 2:
 		s.name(k, strings.Join(words[1:], ""))
 	case verb == "members" && len(words) == 1:
-		k.answer("members %s", s.options.Members())
+		k.answer("members %s", told)
 	case verb == "clock" && len(words) == 1:
 		k.answer("clock %d", s.options.Now().Nanoseconds())
 	case verb == "status" && len(words) == 1:
-		k.answer("status %s held %d", s.options.Status(), len(s.grains))
+		k.answer("status %s held %d", told, len(s.grains))
 	default:
 		k.refuse("what")
 	}
 }
 
-// migrate ends an activation by an offer. `any` is the silo where the grain is placed, or another.
+// migrate ends an activation by an offer to a silo, or `any`.
 func (s *Service) migrate(k ask, name, to string) {
-	if to != "any" {
-		s.moveTo(k, name, directory.Silo(to))
-		return
-	}
-	err := s.options.Silo.Place(name, func(place directory.Silo) {
-		s.mu.Lock()
-		defer s.mu.Unlock()
-		if s.over != "" || !s.options.May() {
-			k.refuse("lost")
-		} else {
-			s.moveTo(k, name, s.options.Another(place))
-		}
-	})
-	if err != nil {
-		k.refuse("busy")
-	}
-}
-
-func (s *Service) moveTo(k ask, name string, to directory.Silo) {
-	if _, err := directory.ReadSilo(string(to)); err != nil {
+	if _, err := directory.ReadSilo(to); err != nil && directory.Silo(to) != anywhere {
 		k.refuse("807")
 		return
 	}
-	s.close(k, name, to)
+	s.close(k, name, directory.Silo(to))
 }
 
 // known is a verb as metrics name it: what applications make up isn't counted by name.

@@ -2,11 +2,15 @@ package applications
 
 import (
 	"agent/directory"
+	"agent/planted"
 	"agent/silo"
 )
 
-// close begins the end of an activation whose work has ended: it is closed, or offered to a silo. One that asks is given up. mu is held, but in
-// cancelled, hungUp and Sweep, which take it.
+// anywhere is where `migrate GRAIN any` goes: the silo where the grain is placed, or another.
+const anywhere = directory.Silo("any")
+
+// close begins the end of an activation whose work has ended: it is closed, or offered to a silo. One that asks is given up. From here on nobody is
+// granted it, whatever has to be asked first. mu is held, but in placed, cancelled, hungUp and Sweep, which take it.
 func (s *Service) close(k ask, name string, to directory.Silo) {
 	g := s.grains[name]
 	switch {
@@ -22,6 +26,8 @@ func (s *Service) close(k ask, name string, to directory.Silo) {
 		s.giveUp(g, k.app)
 	case g.phase == asking || g.owner != k.app:
 		k.refuse("803")
+	case to == anywhere && planted.LateClosing:
+		s.closeLate(k, g)
 	default:
 		g.phase, g.since = closing, s.options.Now()
 		g.ending = append(g.ending, k)
@@ -29,23 +35,58 @@ func (s *Service) close(k ask, name string, to directory.Silo) {
 	}
 }
 
+// closeLate is the planted fault: until its place is known the activation is nobody's, and doesn't close.
+func (s *Service) closeLate(k ask, g *grain) {
+	s.give(g, nil)
+	err := s.options.Silo.Place(g.name, func(place directory.Silo) {
+		s.mu.Lock()
+		defer s.mu.Unlock()
+		if g.owner == nil {
+			s.give(g, k.app)
+		}
+		s.close(k, g.name, s.options.Another(place))
+	})
+	if err != nil {
+		k.refuse("busy")
+	}
+}
+
+// end tells the silo that a firm activation ends, which closes from here on.
 func (s *Service) end(g *grain, to directory.Silo) {
 	var err error
-	answer := func(answer silo.Answer) {
-		if answer.Refused != "" {
-			s.mu.Lock()
-			defer s.mu.Unlock()
-			s.goesOn(g, firm, answer.Refused)
-		}
-	}
-	if to == "" {
-		err = s.options.Silo.Close(g.name, answer)
-	} else {
-		err = s.options.Silo.Offer(g.name, to, answer)
+	switch to {
+	case "":
+		err = s.options.Silo.Close(g.name, func(answer silo.Answer) { s.notEnded(g, answer.Refused) })
+	case anywhere:
+		err = s.options.Silo.Place(g.name, func(place directory.Silo) { s.placed(g, place) })
+	default:
+		err = s.options.Silo.Offer(g.name, to, func(answer silo.Answer) { s.notEnded(g, answer.Refused) })
 	}
 	if err != nil {
 		s.goesOn(g, firm, "busy")
 	}
+}
+
+// notEnded takes the answer to `close` and `offer`: where it isn't refused, the end follows.
+func (s *Service) notEnded(g *grain, code string) {
+	if code != "" {
+		s.mu.Lock()
+		defer s.mu.Unlock()
+		s.goesOn(g, firm, code)
+	}
+}
+
+// placed offers an activation that closes to the silo where its grain is placed, or another.
+func (s *Service) placed(g *grain, place directory.Silo) {
+	s.mu.Lock()
+	defer s.mu.Unlock()
+	to := s.options.Another(place)
+	_, err := directory.ReadSilo(string(to))
+	if err != nil || s.isOver() {
+		s.goesOn(g, firm, "807")
+		return
+	}
+	s.end(g, to)
 }
 
 func (g *grain) isAskedBy(app *application) bool {
@@ -98,35 +139,50 @@ func (s *Service) giveUp(g *grain, app *application) {
 	s.answerEnding(g, "absent")
 }
 
-// cancelled takes the answer to `cancel`.
+// cancelled takes the answer to `cancel`. Only now the silo has nothing to read any more by which another activation of the grain might end.
 func (s *Service) cancelled(g *grain, answer silo.Answer) {
 	s.mu.Lock()
 	defer s.mu.Unlock()
-	switch {
-	case answer.Refused == "" || s.grains[g.name] != g: // it closes; or it was taken, and is gone
-	case answer.Refused == "808": // it became firm before
+	switch answer.Refused {
+	case "": // it closes
+	case "802": // it was taken before, or never there
+		s.ended(g, "absent")
+	case "808": // it became firm before
 		s.end(g, "")
 	default:
 		s.goesOn(g, asking, answer.Refused)
 	}
 }
 
-// goesOn takes back that an activation ends: it is as it was, and its work may go on. One that nobody has any more is closed later.
+// isOver says whether nobody may work any more.
+func (s *Service) isOver() bool { return s.over != "" || !s.options.May() }
+
+// goesOn takes back that an activation ends: it is as it was, and its work may go on, but not behind the deadline. One that nobody has any more is
+// closed later.
 func (s *Service) goesOn(g *grain, phase phase, code string) {
-	g.phase = phase
-	for _, k := range append(g.ending, g.again...) {
+	if s.isOver() {
+		phase, code = closing, "lost"
+	}
+	ending, again := g.ending, g.again
+	g.phase, g.ending, g.again = phase, nil, nil
+	for _, k := range ending {
 		k.refuse(code)
 	}
-	g.ending, g.again = nil, nil
+	s.anew(g.name, again)
 }
 
 func (s *Service) ended(g *grain, how string) {
 	s.drop(g)
 	s.took("deactivate", g.since)
 	s.answerEnding(g, how)
-	for _, k := range g.again {
+	s.anew(g.name, g.again)
+}
+
+// anew asks for an activation for those who wait for it and haven't hung up.
+func (s *Service) anew(name string, asks []ask) {
+	for _, k := range asks {
 		if s.apps[k.app] {
-			s.activate(k, g.name)
+			s.activate(k, name)
 		}
 	}
 }
@@ -141,16 +197,16 @@ func (s *Service) answerEnding(g *grain, how string) {
 // hungUp closes what belonged to an application: with its connection its work has ended.
 func (s *Service) hungUp(app *application) {
 	s.mu.Lock()
-	defer s.mu.Unlock()
 	delete(s.apps, app)
 	for name := range app.expects {
 		s.unexpect(app, name)
 	}
-	s.disconnected(app.process)
 	for g := range s.whose[app] {
 		s.give(g, nil)
 		s.release(g)
 	}
+	s.mu.Unlock()
+	s.disconnected(app.process)
 }
 
 // release ends an activation that nobody has, unless it moves here.
@@ -164,13 +220,11 @@ func (s *Service) release(g *grain) {
 	}
 }
 
+// disconnected tells that a process has hung up, where it has no other connection.
 func (s *Service) disconnected(process int) {
-	for app := range s.apps {
-		if app.process == process {
-			return
-		}
-	}
-	if s.options.Disconnected != nil {
+	s.watching.Lock()
+	defer s.watching.Unlock()
+	if _, isThere := s.Processes()[process]; !isThere && s.options.Disconnected != nil {
 		s.options.Disconnected(process)
 	}
 }

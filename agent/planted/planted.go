@@ -5,12 +5,14 @@
 package planted
 
 // The faults: deadlines never pass; an end takes longer than the margin; a change of membership is written without its conditions; parts of two
-// messages of silos are put together.
+// messages of silos are put together; who has a grain is granted it again; one that migrates to `any` closes once its place is known.
 const (
 	NoFence       = false
 	SlowEnd       = false
 	NoTransaction = false
 	MixedParts    = false
+	FirmAgain     = false
+	LateClosing   = false
 )
 
 // Rate is how fast this machine's clock runs.

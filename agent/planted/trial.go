@@ -16,6 +16,8 @@ var (
 	SlowEnd       = planted == "slow-end"
 	NoTransaction = planted == "no-transaction"
 	MixedParts    = planted == "mixed-parts"
+	FirmAgain     = planted == "firm-again"
+	LateClosing   = planted == "late-closing"
 )
 
 // InParts has all messages of silos go in parts, of which one in a hundred is lost, by GRAIN_DIRECTORY_IN_PARTS.
