@@ -12,6 +12,7 @@
 package main
 
 import (
+	"context"
 	"flag"
 	"fmt"
 	"os"
@@ -71,11 +72,19 @@ func now() int64 {
 	return t.Nano()
 }
 
+// forever is for what is waited for as long as it takes.
+var forever = context.Background()
+
+// connect connects to an agent, for what heeds no deadline: its clock may be another one, as where the rates of clocks are tried.
+func connect(ctx context.Context, socket string) (*graindirectory.Client, error) {
+	return graindirectory.Dialer{Path: socket, AnyClock: true}.Dial(ctx)
+}
+
 // dial connects as soon as that can be.
-func dial(socket string, until time.Time) (*graindirectory.Client, error) {
+func dial(ctx context.Context, dialer graindirectory.Dialer) (*graindirectory.Client, error) {
 	for {
-		client, err := graindirectory.Dial(socket, nil)
-		if err == nil || time.Now().After(until) {
+		client, err := dialer.Dial(ctx)
+		if err == nil || ctx.Err() != nil {
 			return client, err
 		}
 		time.Sleep(20 * time.Millisecond)

@@ -1,6 +1,7 @@
 package main
 
 import (
+	"context"
 	"fmt"
 	"strings"
 	"time"
@@ -41,14 +42,14 @@ type status struct {
 }
 
 func statusOf(socket string) (s status, err error) {
-	client, err := graindirectory.Dial(socket, nil)
+	ctx, done := context.WithTimeout(forever, 5*time.Second) // an agent that joins doesn't answer
+	defer done()
+	client, err := connect(ctx, socket)
 	if err != nil {
 		return s, err
 	}
 	defer client.Close()
-	patience := time.AfterFunc(5*time.Second, func() { client.Close() }) // an agent that joins doesn't answer
-	defer patience.Stop()
-	words, err := client.Ask("status")
+	words, err := client.Ask(ctx, "status")
 	if err != nil {
 		return s, err
 	}
@@ -60,10 +61,11 @@ func statusOf(socket string) (s status, err error) {
 
 // quiet tests a directory in which nothing goes on: nothing is held, each grain can be had at one agent, and all agents find it there.
 func quiet(o options) error {
-	until := time.Now().Add(30 * time.Second)
+	ctx, done := context.WithTimeout(forever, 30*time.Second)
+	defer done()
 	var clients []*graindirectory.Client
 	for _, socket := range o.at {
-		client, err := dial(socket, until)
+		client, err := dial(ctx, graindirectory.Dialer{Path: socket, AnyClock: true})
 		if err != nil {
 			return err
 		}
@@ -73,14 +75,14 @@ func quiet(o options) error {
 	for _, socket := range o.at {
 		for held := -1; held != 0; time.Sleep(20 * time.Millisecond) {
 			s, err := statusOf(socket)
-			if held = s.held; time.Now().After(until) {
+			if held = s.held; ctx.Err() != nil {
 				return fmt.Errorf("%s holds %d activations that nobody has: %v", socket, held, err)
 			}
 		}
 	}
 	for i := 0; i < o.grains; i++ {
 		grain := fmt.Sprintf("%s/%d", o.prefix, i)
-		if err := tryGrain(clients, grain, i%len(clients)); err != nil {
+		if err := tryGrain(ctx, clients, grain, i%len(clients)); err != nil {
 			return fmt.Errorf("%s: %w", grain, err)
 		}
 	}
@@ -88,20 +90,20 @@ func quiet(o options) error {
 	return nil
 }
 
-func tryGrain(clients []*graindirectory.Client, grain string, at int) error {
+func tryGrain(ctx context.Context, clients []*graindirectory.Client, grain string, at int) error {
 	for _, client := range clients {
-		if where, err := client.Find(grain + " fresh"); err != nil || where != "" {
+		if where, err := client.Find(ctx, grain+" fresh"); err != nil || where != "" {
 			return fmt.Errorf("it is found as %q, though nobody has it: %v", where, err)
 		}
 	}
-	work, err := clients[at].Activate(grain)
+	work, err := clients[at].Activate(ctx, grain)
 	if err != nil {
 		return err
 	}
 	for _, client := range clients {
-		if where, err := client.Find(grain + " fresh"); err != nil || where != work.Activation {
+		if where, err := client.Find(ctx, grain+" fresh"); err != nil || where != work.Activation {
 			return fmt.Errorf("it is found as %q, and is %s: %v", where, work.Activation, err)
 		}
 	}
-	return work.Deactivate()
+	return work.Deactivate(ctx)
 }

@@ -2,7 +2,6 @@ package main
 
 import (
 	"bufio"
-	"context"
 	"errors"
 	"fmt"
 	"net"
@@ -64,9 +63,9 @@ func rate(o options, name string, client func(n int) (func(i int) error, error))
 func register(o options) error {
 	run := time.Now().UnixNano()
 	return rate(o, "register", func(n int) (func(i int) error, error) {
-		client, err := graindirectory.Dial(o.at[n%len(o.at)], nil)
+		client, err := connect(forever, o.at[n%len(o.at)])
 		return func(i int) error {
-			_, err := client.Activate(fmt.Sprintf("bench/%x.%d.%d", run, n, i))
+			_, err := client.Activate(forever, fmt.Sprintf("bench/%x.%d.%d", run, n, i))
 			return err
 		}, err
 	})
@@ -76,20 +75,20 @@ func register(o options) error {
 func find(o options) error {
 	const grains = 1000
 	run := time.Now().UnixNano()
-	holder, err := graindirectory.Dial(o.at[0], nil)
+	holder, err := connect(forever, o.at[0])
 	if err != nil {
 		return err
 	}
 	defer holder.Close()
 	for i := 0; i < grains; i++ {
-		if _, err := holder.Activate(fmt.Sprintf("bench/%x.%d", run, i)); err != nil {
+		if _, err := holder.Activate(forever, fmt.Sprintf("bench/%x.%d", run, i)); err != nil {
 			return err
 		}
 	}
 	return rate(o, "find", func(n int) (func(i int) error, error) {
-		client, err := graindirectory.Dial(o.at[n%len(o.at)], nil)
+		client, err := connect(forever, o.at[n%len(o.at)])
 		return func(i int) error {
-			where, err := client.Find(fmt.Sprintf("bench/%x.%d fresh", run, (n*37+i)%grains))
+			where, err := client.Find(forever, fmt.Sprintf("bench/%x.%d fresh", run, (n*37+i)%grains))
 			if err == nil && where == "" {
 				err = errors.New("it isn't found")
 			}
@@ -107,7 +106,7 @@ func etcd(o options) error {
 	return rate(o, "etcd", func(n int) (func(i int) error, error) {
 		return func(i int) error {
 			key := fmt.Sprintf("bench/%x.%d.%d", run, n, i)
-			answer, err := client.Txn(context.Background()).If(clientv3.Compare(clientv3.CreateRevision(key), "=", 0)).
+			answer, err := client.Txn(forever).If(clientv3.Compare(clientv3.CreateRevision(key), "=", 0)).
 				Then(clientv3.OpPut(key, "127.0.0.1:7001@1")).Else(clientv3.OpGet(key)).Commit()
 			if err == nil && !answer.Succeeded {
 				err = errors.New("taken")
@@ -149,7 +148,7 @@ func all(o options, client *graindirectory.Client) (first, last time.Duration) {
 		go func(i int) {
 			defer wait.Done()
 			for {
-				_, err := client.Activate(fmt.Sprintf("%s/%d", o.prefix, i))
+				_, err := client.Activate(forever, fmt.Sprintf("%s/%d", o.prefix, i))
 				if err == nil || errors.Is(err, graindirectory.ErrLost) {
 					break
 				}
@@ -164,7 +163,7 @@ func all(o options, client *graindirectory.Client) (first, last time.Duration) {
 }
 
 func hold(o options) error {
-	client, err := graindirectory.Dial(o.at[0], nil)
+	client, err := connect(forever, o.at[0])
 	if err != nil {
 		return err
 	}
@@ -180,7 +179,7 @@ func hold(o options) error {
 }
 
 func take(o options) error {
-	client, err := graindirectory.Dial(o.at[0], nil)
+	client, err := connect(forever, o.at[0])
 	if err != nil {
 		return err
 	}

@@ -1,6 +1,7 @@
 package main
 
 import (
+	"context"
 	"encoding/json"
 	"errors"
 	"fmt"
@@ -72,15 +73,16 @@ func work(o options) error {
 		before[grain] = token
 	}
 	var wait sync.WaitGroup
-	until := time.Now().Add(time.Duration(o.seconds * float64(time.Second)))
+	ctx, done := context.WithTimeout(forever, time.Duration(o.seconds*float64(time.Second)))
+	defer done()
 	for n := 0; n < o.clients; n++ {
 		wait.Add(1)
 		go func(n int) {
 			defer wait.Done()
 			random := rand.New(rand.NewSource(time.Now().UnixNano() + int64(n)))
-			for time.Now().Before(until) {
-				if client, err := dial(o.at[n%len(o.at)], until); err == nil {
-					lives(o, client, random, until, s, r)
+			for ctx.Err() == nil {
+				if client, err := dial(ctx, graindirectory.Dialer{Path: o.at[n%len(o.at)], AnyClock: o.heedless}); err == nil {
+					lives(ctx, o, client, random, s, r)
 					client.Close()
 				}
 			}
@@ -100,10 +102,10 @@ func work(o options) error {
 }
 
 // lives works grains over one connection, until it is lost.
-func lives(o options, client *graindirectory.Client, random *rand.Rand, until time.Time, s *store, r *record) {
-	for time.Now().Before(until) {
+func lives(ctx context.Context, o options, client *graindirectory.Client, random *rand.Rand, s *store, r *record) {
+	for ctx.Err() == nil {
 		grain := fmt.Sprintf("%s/%d", o.prefix, random.Intn(o.grains))
-		work, isOver := activate(client, grain, until, r)
+		work, isOver := activate(ctx, client, grain, r)
 		if isOver {
 			return
 		}
@@ -112,46 +114,32 @@ func lives(o options, client *graindirectory.Client, random *rand.Rand, until ti
 			continue
 		}
 		r.lived(live(o, client, work, time.Duration(random.Int63n(int64(o.longest))), s))
-		ended := make(chan error, 1)
-		go func() { ended <- work.Deactivate() }()
-		select {
-		case <-ended:
-		case <-client.Lost:
+		if work.Deactivate(forever) == graindirectory.ErrLost {
 			return
 		}
 	}
 }
 
 // activate asks for a grain; isOver says that the connection is lost, or the time is over.
-func activate(client *graindirectory.Client, grain string, until time.Time, r *record) (got *graindirectory.Work, isOver bool) {
-	type answer struct {
-		work *graindirectory.Work
-		err  error
-	}
-	answers := make(chan answer, 1)
-	go func() {
-		work, err := client.Activate(grain)
-		answers <- answer{work, err}
-	}()
-	select {
-	case a := <-answers:
-		var taken graindirectory.Taken
-		switch {
-		case a.err == nil:
-			r.answer("firm")
-		case errors.As(a.err, &taken):
-			r.answer("taken")
-		case errors.Is(a.err, graindirectory.ErrLost):
-			r.answer("lost")
-			return nil, true
-		default:
-			r.answer(a.err.Error()[:12])
-		}
-		return a.work, false
-	case <-time.After(time.Until(until)):
+func activate(ctx context.Context, client *graindirectory.Client, grain string, r *record) (work *graindirectory.Work, isOver bool) {
+	work, err := client.Activate(ctx, grain)
+	var taken graindirectory.Taken
+	var refused graindirectory.Refused
+	switch {
+	case err == nil:
+		r.answer("firm")
+	case errors.As(err, &taken):
+		r.answer("taken")
+	case errors.As(err, &refused):
+		r.answer("refused " + refused.Code)
+	case errors.Is(err, graindirectory.ErrLost):
+		r.answer("lost")
+		return nil, true
+	default:
 		r.answer("unanswered")
 		return nil, true
 	}
+	return work, false
 }
 
 // live works a grain for a while, or until it is to end.

@@ -2,6 +2,7 @@ package main
 
 import (
 	"bufio"
+	"context"
 	"errors"
 	"fmt"
 	"io"
@@ -29,6 +30,8 @@ func TestMain(m *testing.M) {
 	}
 	os.Exit(m.Run())
 }
+
+var forever = context.Background()
 
 // cluster is etcd, NATS and agents.
 type cluster struct {
@@ -148,7 +151,7 @@ func (p *process) dial(moved func(*graindirectory.Work)) *graindirectory.Client 
 	var client *graindirectory.Client
 	p.until("its socket is there", func() (is bool) {
 		var err error
-		client, err = graindirectory.Dial(p.socket, moved)
+		client, err = graindirectory.Dial(forever, p.socket, moved)
 		return err == nil
 	})
 	return client
@@ -160,7 +163,7 @@ func firm(t *testing.T, client *graindirectory.Client, grain string) *graindirec
 	var work *graindirectory.Work
 	until(t, grain+" becomes firm", func() bool {
 		var err error
-		work, err = client.Activate(grain)
+		work, err = client.Activate(forever, grain)
 		return err == nil
 	})
 	return work
@@ -190,10 +193,10 @@ func TestCluster(t *testing.T) {
 		t.Errorf("%+v", ann)
 	}
 	var taken graindirectory.Taken
-	if _, err := b.Activate("user/ann"); !errors.As(err, &taken) || string(taken) != ann.Activation {
+	if _, err := b.Activate(forever, "user/ann"); !errors.As(err, &taken) || string(taken) != ann.Activation {
 		t.Error(err)
 	}
-	if at, err := three.dial(nil).Find("user/ann"); err != nil || at != ann.Activation {
+	if at, err := three.dial(nil).Find(forever, "user/ann"); err != nil || at != ann.Activation {
 		t.Error(at, err)
 	}
 	for path, part := range map[string]string{"/healthz": "ok ", "/metrics": `grain_directory_activations{silo="` + strings.Split(ann.Activation, "!")[0] + `",phase="firm"} 1`,
@@ -203,16 +206,16 @@ func TestCluster(t *testing.T) {
 	members := regexp.MustCompile(`members{[^}]*} 3`)
 	until(t, "there are three members", func() bool { _, text := one.get("/metrics"); return members.MatchString(text) })
 
-	if _, err := a.Ask("named ann@one"); err != nil {
+	if _, err := a.Ask(forever, "named ann@one"); err != nil {
 		t.Error(err)
 	}
 	until(t, "the second agent knows the name of the first one's application", func() bool {
-		words, err := b.Ask("members")
+		words, err := b.Ask(forever, "members")
 		return err == nil && strings.Contains(strings.Join(words, " "), fmt.Sprintf("127.0.0.1:%d@1 active ann@one", c.ports[1]))
 	})
 
 	second := "127.0.0.1:" + strconv.Itoa(c.ports[2]) + "@1"
-	if err := ann.Migrate(second); err != nil || ann.May() {
+	if err := ann.Migrate(forever, second); err != nil || ann.May() {
 		t.Error(err)
 	}
 	moved := <-arrived
@@ -225,7 +228,7 @@ func TestCluster(t *testing.T) {
 	if moved.May() {
 		t.Error("its work may go on, though the agent is gone")
 	}
-	moved.Deactivate() // and hangs up
+	moved.Deactivate(forever) // and hangs up
 	again := firm(t, a, "user/ann")
 	if again.Token <= moved.Token {
 		t.Errorf("the token behind a death is %d, and was %d", again.Token, moved.Token)
@@ -233,7 +236,7 @@ func TestCluster(t *testing.T) {
 
 	syscall.Kill(one.silo(), syscall.SIGKILL)
 	<-again.Ends
-	again.Deactivate()
+	again.Deactivate(forever)
 	one.says("joined", 2)
 	third := three.dial(nil)
 	last := firm(t, third, "user/ann")
@@ -246,7 +249,7 @@ func TestCluster(t *testing.T) {
 	if !last.May() {
 		t.Error("who leaves lets work end")
 	}
-	if err := last.Deactivate(); err != nil {
+	if err := last.Deactivate(forever); err != nil {
 		t.Error(err)
 	}
 	<-third.Lost
@@ -300,7 +303,7 @@ func TestFrozen(t *testing.T) {
 		go func() { ended <- application.Wait() }()
 		defer application.Process.Kill()
 		a := one.dial(nil)
-		until(t, "the application has it", func() bool { at, err := a.Find("user/ann fresh"); return err == nil && at != "" })
+		until(t, "the application has it", func() bool { at, err := a.Find(forever, "user/ann fresh"); return err == nil && at != "" })
 		silo := two.silo()
 		two.command.Process.Signal(syscall.SIGSTOP)
 		if guarded {
@@ -345,7 +348,7 @@ func TestStoreAway(t *testing.T) {
 	if ann.May() {
 		t.Error("may go on behind the deadline")
 	}
-	ann.Deactivate()
+	ann.Deactivate(forever)
 	etcd.Signal(syscall.SIGCONT)
 	one.says("is ready", 2)
 	firm(t, one.dial(nil), "user/ann")
@@ -372,7 +375,7 @@ func TestTransportAway(t *testing.T) {
 	}
 	one.says("NATS is lost", 1)
 	broker.Signal(syscall.SIGCONT)
-	until(t, "the other finds it", func() bool { at, err := b.Find("user/ann fresh"); return err == nil && at == ann.Activation })
+	until(t, "the other finds it", func() bool { at, err := b.Find(forever, "user/ann fresh"); return err == nil && at == ann.Activation })
 	for i := 0; i < 10; i++ {
 		firm(t, b, fmt.Sprintf("user/%d", i))
 	}
@@ -395,7 +398,7 @@ func TestPostgres(t *testing.T) {
 	ann := firm(t, b, "user/ann")
 	two.command.Process.Kill()
 	<-b.Lost
-	ann.Deactivate()
+	ann.Deactivate(forever)
 	if again := firm(t, one.dial(nil), "user/ann"); again.Token <= ann.Token {
 		t.Errorf("the token behind a death is %d, and was %d", again.Token, ann.Token)
 	}

@@ -78,6 +78,6 @@ func TestTLS(t *testing.T) {
 		two.says("is ready", 1)
 		ann := firm(t, one.dial(nil), "user/ann")
 		client := two.dial(nil)
-		until(t, "it is found over "+transport, func() bool { at, err := client.Find("user/ann"); return err == nil && at == ann.Activation })
+		until(t, "it is found over "+transport, func() bool { at, err := client.Find(forever, "user/ann"); return err == nil && at == ann.Activation })
 	}
 }

@@ -2,6 +2,7 @@
 package main
 
 import (
+	"context"
 	"errors"
 	"fmt"
 	"os"
@@ -16,7 +17,7 @@ func main() {
 		os.Exit(2)
 	}
 	for ; ; time.Sleep(time.Second) {
-		client, err := graindirectory.Dial(os.Args[1], nil)
+		client, err := graindirectory.Dial(context.Background(), os.Args[1], nil)
 		if err != nil {
 			fmt.Println(err)
 			continue
@@ -29,7 +30,7 @@ func main() {
 // live works the grain whenever it can be had, until all is lost.
 func live(client *graindirectory.Client, grain string) {
 	for {
-		work, err := client.Activate(grain)
+		work, err := client.Activate(context.Background(), grain)
 		var taken graindirectory.Taken
 		if errors.As(err, &taken) {
 			fmt.Println(taken)
@@ -41,7 +42,7 @@ func live(client *graindirectory.Client, grain string) {
 			return
 		}
 		count(work)
-		work.Deactivate()
+		work.Deactivate(context.Background())
 	}
 }
 

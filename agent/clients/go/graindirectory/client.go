@@ -2,18 +2,21 @@
 //
 // Before each effect of a work ask May, and give its Token to stores that can test it. When Ends is closed, end the work and call Deactivate; only
 // then the agent gives the grain to others. A Client whose Lost is closed is done: dial again.
+//
+// A context is how long its caller waits. What was asked goes on: a grain that nobody waits for any more is given up.
 package graindirectory
 
 import (
 	"bufio"
+	"context"
 	"errors"
-	"fmt"
+	"math"
 	"net"
 	"strconv"
 	"strings"
 	"sync"
+	"sync/atomic"
 	"syscall"
-	"unsafe"
 )
 
 // ErrLost says that the agent was fenced, or is gone: all activations are lost.
@@ -27,161 +30,212 @@ type Taken string
 
 func (t Taken) Error() string { return "it is active as " + string(t) }
 
+// Refused says why the agent refuses something; all is as it was. By `yours` it refuses what this client has, or asks for already.
+type Refused struct{ Code, Why string }
+
+func (r Refused) Error() string { return "refused " + r.Code + " " + r.Why }
+
 // Client is a connection to the agent. It may be used by several goroutines.
 type Client struct {
-	Lost       chan struct{} // closed when all is lost
-	ends       chan struct{} // closed when all works are to end
-	once       sync.Once     // of ends
-	conn       net.Conn
-	moved      func(*Work)
-	mu         sync.Mutex
-	tag, until int64
-	waits      map[string]chan []string // nil once all is lost
-	works      map[*Work]bool
+	Lost   chan struct{} // closed when all is lost
+	ends   chan struct{} // closed when all works are to end
+	once   sync.Once     // of ends
+	conn   *net.UnixConn
+	raw    syscall.RawConn
+	moved  func(*Work)
+	out    chan string  // lines to the agent; only who writes them waits for it
+	until  atomic.Int64 // the deadline, by the agent's clock
+	margin atomic.Int64 // how much earlier it may be by this process's
+	isLost atomic.Bool
+
+	mu     sync.Mutex // of what follows; nothing is waited for while it is held
+	tag    int64
+	waits  map[string]*question // nil once all is lost
+	grains map[string]*hold     // what this client has, asks for or ends
 }
 
-// Work is an activation of this process.
-type Work struct {
-	Grain, Activation string
-	Token             uint64
-	Ends              <-chan struct{} // closed when the work is to end
-	Ended             string          // once it has ended by Deactivate or Migrate: removed, or absent where the directory had it here no more
-	client            *Client
+// question is one without an answer.
+type question struct {
+	answer chan []string  // gets the words, or nil once all is lost
+	hears  func([]string) // called before that, under the client's lock, in the order of the agent's lines; or nil
+}
+
+// Dialer has what a connection is made with.
+type Dialer struct {
+	Path     string      // of the agent's socket
+	Moved    func(*Work) // called in a goroutine of its own with each grain that moves here; nil: none does
+	AnyClock bool        // the agent's clock needn't be this process's; then May never says yes
 }
 
 // Dial connects to an agent. moved, if there is one, is called in a goroutine of its own with each grain that moves here.
-func Dial(path string, moved func(*Work)) (*Client, error) {
-	conn, err := net.Dial("unix", path)
-	if err != nil {
-		return nil, err
-	}
-	c := &Client{Lost: make(chan struct{}), ends: make(chan struct{}), conn: conn, moved: moved, waits: map[string]chan []string{}, works: map[*Work]bool{}}
-	go c.read()
-	if moved != nil {
-		_, err = c.Ask("serve")
-	}
-	return c, err
+func Dial(ctx context.Context, path string, moved func(*Work)) (*Client, error) {
+	return Dialer{Path: path, Moved: moved}.Dial(ctx)
 }
 
-// Activate makes this process the one that works a grain, or says Taken.
-func (c *Client) Activate(grain string) (*Work, error) {
-	words, err := c.Ask("activate " + grain)
+// Dial connects to an agent.
+func (d Dialer) Dial(ctx context.Context) (*Client, error) {
+	conn, err := (&net.Dialer{}).DialContext(ctx, "unix", d.Path)
 	if err != nil {
 		return nil, err
-	} else if words[0] == "taken" {
-		return nil, Taken(words[1])
 	}
-	return c.begin(words), nil
+	c := &Client{Lost: make(chan struct{}), ends: make(chan struct{}), conn: conn.(*net.UnixConn), moved: d.Moved, out: make(chan string, 256),
+		waits: map[string]*question{}, grains: map[string]*hold{}}
+	c.margin.Store(math.MaxInt64)
+	if c.raw, err = c.conn.SyscallConn(); err == nil {
+		go c.write()
+		go c.read()
+		if !d.AnyClock {
+			err = c.compareClocks(ctx)
+		}
+	}
+	if err == nil && d.Moved != nil {
+		_, err = c.Ask(ctx, "serve")
+	}
+	if err != nil {
+		conn.Close()
+		return nil, err
+	}
+	return c, nil
 }
 
 // Find says where a grain is active, "" for nowhere. It may be an old hint; "user/ann fresh" asks the directory itself.
-func (c *Client) Find(grain string) (string, error) {
-	words, err := c.Ask("find " + grain)
-	if err != nil || words[0] != "at" {
+func (c *Client) Find(ctx context.Context, grain string) (string, error) {
+	words, err := c.Ask(ctx, "find "+grain)
+	if err != nil || words[0] != "at" || len(words) < 2 {
 		return "", err
 	}
 	return words[1], nil
 }
 
 // Ask asks the agent something, and gives the words of its answer.
-func (c *Client) Ask(question string) (words []string, err error) {
-	answer := make(chan []string, 1)
+func (c *Client) Ask(ctx context.Context, question string) ([]string, error) {
+	words, _, err := c.ask(ctx, question, nil)
+	return words, err
+}
+
+// ask also says whether the question is under way, to whom hears what becomes of it though ctx has ended.
+func (c *Client) ask(ctx context.Context, text string, hears func([]string)) (words []string, isAsked bool, err error) {
+	q := &question{answer: make(chan []string, 1), hears: hears}
 	c.mu.Lock()
-	if c.waits != nil {
-		c.tag++
-		c.waits[strconv.FormatInt(c.tag, 10)] = answer
-		fmt.Fprintf(c.conn, "%d %s\n", c.tag, question)
-	} else {
-		answer <- nil
+	if c.waits == nil {
+		c.mu.Unlock()
+		return nil, false, ErrLost
 	}
+	c.tag++
+	tag := strconv.FormatInt(c.tag, 10)
+	c.waits[tag] = q
 	c.mu.Unlock()
-	if words = <-answer; words == nil {
-		return nil, ErrLost
-	} else if words[0] == "refused" {
-		return nil, errors.New(strings.Join(words, " "))
+	select {
+	case c.out <- tag + " " + text + "\n":
+	case <-c.Lost:
+		return nil, false, ErrLost
+	case <-ctx.Done():
+		c.mu.Lock()
+		delete(c.waits, tag)
+		c.mu.Unlock()
+		return nil, false, ctx.Err()
 	}
-	return words, nil
+	select {
+	case words = <-q.answer:
+	case <-ctx.Done():
+		return nil, true, ctx.Err()
+	}
+	switch {
+	case words == nil || words[0] == "refused" && len(words) > 1 && words[1] == "lost":
+		return nil, true, ErrLost
+	case words[0] == "refused" && len(words) > 1:
+		return nil, true, Refused{words[1], strings.Join(words[2:], " ")}
+	}
+	return words, true, nil
 }
 
 // Close hangs up: all works have ended.
 func (c *Client) Close() error { return c.conn.Close() }
 
-// May says whether the work may go on now.
-func (w *Work) May() bool {
-	var now syscall.Timespec // by CLOCK_BOOTTIME, as the agent's deadlines
-	syscall.Syscall(syscall.SYS_CLOCK_GETTIME, 7, uintptr(unsafe.Pointer(&now)), 0)
-	w.client.mu.Lock()
-	defer w.client.mu.Unlock()
-	return w.client.works[w] && w.client.waits != nil && now.Nano() < w.client.until
-}
-
-// Deactivate says that the work has ended.
-func (w *Work) Deactivate() error { return w.end("deactivate " + w.Grain) }
-
-// Migrate says that the work has ended here; it goes on at another silo, where an application serves. `any` chooses one. Where Ended is `removed`
-// afterwards, that may be yet to come, or never: who wants the grain activates it.
-func (w *Work) Migrate(silo string) error { return w.end("migrate " + w.Grain + " " + silo) }
-
-// end ends a work. Where the agent refuses, all is as it was.
-func (w *Work) end(question string) error {
-	w.client.set(w, false)
-	words, err := w.client.Ask(question)
-	w.client.set(w, err != nil && err != ErrLost)
-	if err == nil {
-		w.Ended = words[len(words)-1] // ended GRAIN removed|absent
-	}
-	return err
-}
-
-// set says whether a work goes on. Once all is lost and no work goes on, it hangs up.
-func (c *Client) set(w *Work, goesOn bool) {
-	c.mu.Lock()
-	defer c.mu.Unlock()
-	if c.works[w] = goesOn; !goesOn {
-		delete(c.works, w)
-	}
-	if c.waits == nil && len(c.works) == 0 {
-		c.conn.Close()
+// write writes what is asked, in order.
+func (c *Client) write() {
+	out := bufio.NewWriter(c.conn)
+	for {
+		select {
+		case line := <-c.out:
+			out.WriteString(line)
+			if len(c.out) == 0 && out.Flush() != nil {
+				return // the reader finds the end
+			}
+		case <-c.Lost:
+			return
+		}
 	}
 }
 
-func (c *Client) begin(words []string) *Work { // firm ACTIVATION GRAIN token V
-	token, _ := strconv.ParseUint(words[4], 10, 64)
-	w := &Work{Activation: words[1], Grain: words[2], Token: token, Ends: c.ends, client: c}
-	c.set(w, true)
-	return w
-}
-
+// read takes the agent's lines until it hangs up, says that all is lost, or says what nobody understands.
 func (c *Client) read() {
 	lines := bufio.NewScanner(c.conn)
 	lines.Buffer(nil, longestLine)
 	for lines.Scan() && c.take(strings.Fields(lines.Text())) {
 	}
-	c.mu.Lock()
-	for _, answer := range c.waits {
-		answer <- nil
-	}
-	c.waits = nil
-	c.mu.Unlock()
-	c.once.Do(func() { close(c.ends) })
-	c.set(nil, false)
-	close(c.Lost)
+	c.lose()
 }
 
-// take takes the words of a line; whether there is more.
+// take takes the words of a line; whether there is more to be read.
 func (c *Client) take(words []string) bool {
-	c.mu.Lock()
-	defer c.mu.Unlock()
 	switch {
+	case len(words) < 2:
+		return false
 	case words[0] != "event":
-		c.waits[words[0]] <- words[1:]
-		delete(c.waits, words[0])
-	case words[1] == "valid":
-		c.until, _ = strconv.ParseInt(words[2], 10, 64)
+		return c.answered(words[0], words[1:])
+	case words[1] == "valid" && len(words) == 3:
+		until, err := strconv.ParseInt(words[2], 10, 64)
+		if err == nil && until > c.until.Load() {
+			c.until.Store(until) // only here
+		}
+		return err == nil
 	case words[1] == "firm":
-		go func() { c.moved(c.begin(words[1:])) }()
+		return c.movedHere(words[1:])
 	case words[1] == "leaving":
 		c.once.Do(func() { close(c.ends) })
 	}
-	return words[0] != "event" || words[1] != "lost"
+	return words[1] != "lost"
+}
+
+// answered takes an answer; whether anybody has asked for it.
+func (c *Client) answered(tag string, words []string) bool {
+	c.mu.Lock()
+	defer c.mu.Unlock()
+	q := c.waits[tag]
+	if q == nil {
+		return false
+	}
+	delete(c.waits, tag)
+	if q.hears != nil {
+		q.hears(words)
+	}
+	q.answer <- words
+	return true
+}
+
+// lose ends all: who waits hears it, and works are to end. Once they have, it hangs up.
+func (c *Client) lose() {
+	c.isLost.Store(true)
+	c.mu.Lock()
+	for _, q := range c.waits {
+		q.answer <- nil
+	}
+	c.waits = nil
+	for _, h := range c.grains {
+		if h.phase != working {
+			c.drop(h, ErrLost)
+		}
+	}
+	c.hangUp()
+	c.mu.Unlock()
+	c.once.Do(func() { close(c.ends) })
+	close(c.Lost)
+}
+
+// hangUp hangs up once all is lost and no work goes on.
+func (c *Client) hangUp() {
+	if c.waits == nil && len(c.grains) == 0 {
+		c.conn.Close()
+	}
 }
