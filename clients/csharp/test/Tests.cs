@@ -13,12 +13,14 @@ static class Tests
 
     static int Main(string[] sockets)
     {
+        Scripted.Run();
         var first = new AgentConnection(sockets[0]);
         var a = new AgentGrainDirectory(first, one);
         var b = new AgentGrainDirectory(new AgentConnection(sockets[1]), two);
         Until("the silos know one another", () => Members(first) == 2);
         Registers(a, b);
         Races(a, b);
+        AtOnce(a, b);
         Texts();
         Losing(a, BeginsAnew(a, b, sockets[1]), first);
         Console.WriteLine("all is as it should be");
@@ -27,7 +29,7 @@ static class Tests
 
     static int Members(AgentConnection connection) { return connection.Ask("members").Result.Count(word => word.StartsWith("S10.")); }
 
-    static GrainAddress Address(string key, SiloAddress silo)
+    public static GrainAddress Address(string key, SiloAddress silo)
     {
         return new GrainAddress { GrainId = new GrainId("user", key), ActivationId = Guid.NewGuid().ToString("N"), SiloAddress = silo };
     }
@@ -66,6 +68,25 @@ static class Tests
             Task.WaitAll(both);
             Is("one wins", (both[0].Result == mine) != (both[1].Result == yours), true);
             Is("both hear of it", both[0].Result.SiloAddress.Text, both[1].Result.SiloAddress.Text);
+        }
+    }
+
+    // A grain that is unregistered and registered at once at one silo: who is told that it has it then has it, and nobody else.
+    static void AtOnce(AgentGrainDirectory a, AgentGrainDirectory b)
+    {
+        for (var i = 0; i < 1000; i++)
+        {
+            GrainAddress first = Address("once" + i, one), mine = Address("once" + i, one), yours = Address("once" + i, two);
+            a.Register(first).Wait();
+            var go = new ManualResetEventSlim();
+            var end = Task.Run(() => { go.Wait(); return a.Unregister(first); });
+            var anew = Task.Run(() => { go.Wait(); return a.Register(mine); });
+            go.Set();
+            Task.WaitAll(end, anew);
+            var found = b.Register(yours).Result;
+            Is("one has it", found == yours, anew.Result != mine);
+            a.Unregister(mine).Wait();
+            b.Unregister(yours).Wait();
         }
     }
 
@@ -108,13 +129,13 @@ static class Tests
         catch (AggregateException e) { Is("lost", e.InnerException is LostException, true); }
     }
 
-    static void Until(string what, Func<bool> holds)
+    public static void Until(string what, Func<bool> holds)
     {
         for (var end = DateTime.UtcNow.AddSeconds(20); !holds(); Thread.Sleep(20))
             if (DateTime.UtcNow > end) throw new Exception("not so: " + what);
     }
 
-    static void Is(string what, object got, object wanted)
+    public static void Is(string what, object got, object wanted)
     {
         if (!Equals(got, wanted)) throw new Exception(what + ": " + got + ", not " + wanted);
     }
