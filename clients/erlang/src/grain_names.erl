@@ -5,7 +5,8 @@
 %%   closing     it was given up, also before it was granted; who wants it meanwhile waits in `next`
 %% A name leaves the table before its end is asked for, and comes into it behind its grant: in between, it is nobody's.
 %% Questions go to the agent in the order in which they are asked. It answers `activate` before the `deactivate` behind that: so once this is answered
-%% nothing is under way for a name.
+%% nothing is under way for a name. While it has no answer no grant that is on its way begins anything. The agent grants a name once: one that comes
+%% here while it is asked for is granted by that event.
 -module(grain_names).
 -behaviour(gen_server).
 -export([start_link/0, register/2, unregister/2, hand_over/3]).
@@ -110,7 +111,7 @@ line([Tag | Answer], S = #state{questions = Q, held = Held}) ->
         _ -> S#state{questions = Q1}
     end.
 
-said(activate, _, _, #held{phase = closing}, S) -> S; % it was given up meanwhile
+said(activate, _, _, #held{phase = Phase}, S) when Phase =/= asking -> S; % it was given up meanwhile, or has come here, and is refused by `yours`
 said(activate, [<<"firm">>, _, _, <<"token">>, Token], Grain, H, S) -> firm(Grain, binary_to_integer(Token), H, S);
 said(activate, [<<"taken">> | _], Grain, H, S) -> dropped(Grain, no, H, S);
 said(activate, [<<"refused">>, Code | _], Grain, H, S) -> dropped(Grain, {refused, Code}, H, S);
@@ -249,8 +250,8 @@ expect(Key, Pid, Home, From, S = #state{held = Held, monitors = Monitors}) ->
 
 arrived(Grain, Token, S = #state{held = Held}) ->
     case Held of
-        #{Grain := H = #held{phase = expecting}} -> firm(Grain, Token, H, S);
-        #{Grain := _} -> S; % it is asked for, and the agent says so
+        #{Grain := H = #held{phase = Phase}} when Phase =:= expecting; Phase =:= asking -> firm(Grain, Token, H, S);
+        #{Grain := _} -> S; % it was given up, and the agent reads that yet
         _ -> urge(deactivate, Grain, S#state{held = Held#{Grain => #held{phase = closing, key = <<>>, pid = none, monitor = none}}})
     end.
 

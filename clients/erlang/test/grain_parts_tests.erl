@@ -40,20 +40,22 @@ given_up_test_() ->
         Servers = [begin {ok, Pid} = Module:start_link(), Pid end || Module <- [grain_fence, grain_hints, grain_members, grain_names]],
         {Own, Agent} = pair(),
         Connect = fun() -> gen_server:cast(grain_names, {connected, Own}) end,
-        lists:foldl(fun(Steps, N) -> given_up(Agent, Connect, Steps, N) end, 0, [
+        Next = lists:foldl(fun(Steps, N) -> given_up(Agent, Connect, Steps, N) end, 0, [
             [{says, 0, "refused given .."}, {says, 1, "ended GRAIN absent"}],
             [{says, 0, "firm S!1 GRAIN token 7"}, {says, 1, "ended GRAIN removed"}],
             [{says, 0, "taken T!1 GRAIN"}, {says, 1, "refused 802 .."}],
             [{says, 0, "taken S!1 GRAIN"}, {says, 1, "refused 803 .."}], % another node has it, at the same agent
             [{says, 0, "refused 806 .."}, {says, 1, "refused 802 .."}],
             [{says, 1, "refused busy .."}, {hears, 2, "deactivate"}, {says, 0, "refused given .."}, {says, 2, "ended GRAIN absent"}],
-            [{says, 1, "refused busy .."}, {says, 0, "firm S!1 GRAIN token 7"}, {hears, 2, "deactivate"}, {says, 2, "ended GRAIN removed"}]]),
+            [{says, 1, "refused busy .."}, {says, 0, "firm S!1 GRAIN token 7"}, {hears, 2, "deactivate"}, {says, 2, "ended GRAIN removed"}],
+            [{event, "firm S!1 GRAIN token 7"}, {says, 0, "refused yours .."}, {says, 1, "ended GRAIN removed"}]]), % it moved here meanwhile
+        comes_while_it_is_asked_for(Agent, Next),
         [begin unlink(Pid), gen_server:stop(Pid) end || Pid <- lists:reverse(Servers)]
     end}.
 
 given_up(Agent, Connect, Steps, N) ->
     Key = grain_term:key({name, N}),
-    Step = fun({says, K, Text}) -> says(N + K, Text, Key); ({hears, K, Verb}) -> hears(Agent, N + K, Verb, Key) end,
+    Step = fun({says, K, Text}) -> says(N + K, Text, Key); ({event, Text}) -> event(Text, Key); ({hears, K, Verb}) -> hears(Agent, N + K, Verb, Key) end,
     [First, Second, Third] = [spawn(fun() -> timer:sleep(infinity) end) || _ <- [1, 2, 3]],
     One = gen_server:send_request(grain_names, {register, Key, First}),
     exit(First, kill),
@@ -76,8 +78,34 @@ given_up(Agent, Connect, Steps, N) ->
     Step({says, Next + 1, "ended GRAIN removed"}),
     N + Next + 2.
 
-says(Tag, Text, Key) ->
-    Line = lists:concat(["n", Tag, " ", lists:append(string:replace(Text, "GRAIN", binary_to_list(grain_term:grain(Key))))]),
+%% A name that is handed over late, so that it is asked for, and then comes: it is the process', though the question is refused.
+comes_while_it_is_asked_for(Agent, N) ->
+    Key = grain_term:key({name, late}),
+    Grain = grain_term:grain(Key),
+    Pid = spawn(fun() -> timer:sleep(infinity) end),
+    Tag = make_ref(),
+    grain_names ! {expect, Key, Pid, self(), {self(), Tag}},
+    hears(Agent, N, "expect", Key),
+    says(N, "ok", Key),
+    receive {ready, Grain, _} -> ok end,
+    grain_names ! {handed, Grain, self()},
+    hears(Agent, N + 1, "unexpect", Key),
+    hears(Agent, N + 2, "activate", Key),
+    event("firm S!3 GRAIN token 5", Key),
+    says(N + 1, "ok", Key),
+    says(N + 2, "refused yours ..", Key),
+    receive {Tag, Answer} -> ?assertEqual(yes, Answer) end,
+    ?assertEqual([{Key, Pid, 5}], ets:lookup(grain_names, Key)),
+    exit(Pid, kill),
+    hears(Agent, N + 3, "deactivate", Key),
+    says(N + 3, "ended GRAIN removed", Key).
+
+event(Text, Key) -> line("event " ++ Text, Key).
+
+says(Tag, Text, Key) -> line(lists:concat(["n", Tag, " ", Text]), Key).
+
+line(Text, Key) ->
+    Line = lists:append(string:replace(Text, "GRAIN", binary_to_list(grain_term:grain(Key)))),
     ok = gen_server:call(grain_names, {lines, [binary:split(list_to_binary(Line), <<" ">>, [global])]}).
 
 hears(Agent, Tag, Verb, Key) ->
