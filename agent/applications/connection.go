@@ -290,6 +290,7 @@ func areVisible(words []string) bool {
 }
 
 // Lost says that all activations are lost, and why: all applications are told, and their connections are closed on this side, so that they hang up.
+// That is the answer to all questions that have none.
 func (s *Service) Lost(reason string) {
 	s.mu.Lock()
 	defer s.mu.Unlock()

@@ -17,9 +17,7 @@ func (s *Service) close(k ask, name string, to directory.Silo) {
 	case g == nil:
 		k.refuse("802")
 	case g.phase == closing:
-		if to == "" { // who asks for it anew gives that up, too
-			g.again = without(g.again, k.app)
-		}
+		g.again = without(g.again, k.app) // who asks for it anew gives that up, too
 		g.ending = append(g.ending, k)
 	case g.phase == asking && to == "" && g.isAskedBy(k.app):
 		g.ending = append(g.ending, k)
@@ -39,12 +37,13 @@ func (s *Service) close(k ask, name string, to directory.Silo) {
 func (s *Service) closeLate(k ask, g *grain) {
 	s.give(g, nil)
 	err := s.options.Silo.Place(g.name, func(place directory.Silo) {
+		to := s.options.Another(place)
 		s.mu.Lock()
 		defer s.mu.Unlock()
 		if g.owner == nil {
 			s.give(g, k.app)
 		}
-		s.close(k, g.name, s.options.Another(place))
+		s.close(k, g.name, to)
 	})
 	if err != nil {
 		k.refuse("busy")
@@ -78,10 +77,10 @@ func (s *Service) notEnded(g *grain, code string) {
 
 // placed offers an activation that closes to the silo where its grain is placed, or another.
 func (s *Service) placed(g *grain, place directory.Silo) {
-	s.mu.Lock()
-	defer s.mu.Unlock()
 	to := s.options.Another(place)
 	_, err := directory.ReadSilo(string(to))
+	s.mu.Lock()
+	defer s.mu.Unlock()
 	if err != nil || s.isOver() {
 		s.goesOn(g, firm, "807")
 		return

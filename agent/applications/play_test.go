@@ -47,12 +47,14 @@ type world struct {
 	parties []*party
 	count   int
 	isGiven bool // the fence says no
-	trace   []string
+	steps   int
+	trace   []string // what was said, where that is wanted
+	isKept  bool
 }
 
-func newWorld(seed int64, obeys bool) *world {
+func newWorld(seed int64, obeys, isKept bool) *world {
 	random := rand.New(rand.NewSource(seed))
-	w := &world{random: random, silo: newSlots(random, []string{"a/1", "a/2", "a/3", "b/1", "b/2"})}
+	w := &world{random: random, isKept: isKept, silo: newSlots(random, []string{"a/1", "a/2", "a/3", "b/1", "b/2"})}
 	w.watch = newWatch(w.silo)
 	w.silo.tells = func(verb, grain string) {
 		w.note("silo is told %s %s", verb, grain)
@@ -61,7 +63,7 @@ func newWorld(seed int64, obeys bool) *world {
 		}
 	}
 	w.service = New(Options{Silo: w.silo, May: func() bool { return !w.isGiven }, Until: func() clock.Time { return 42 },
-		Now: func() clock.Time { return clock.Time(len(w.trace)) }, Another: func(place directory.Silo) directory.Silo { return place },
+		Now: func() clock.Time { return clock.Time(w.steps) }, Another: func(place directory.Silo) directory.Silo { return place },
 		Status: func() string { return "S" }, Members: func() string { return "1" }})
 	w.silo.hears = w.service.Said
 	for i := 0; i < 2; i++ {
@@ -71,7 +73,9 @@ func newWorld(seed int64, obeys bool) *world {
 }
 
 func (w *world) note(format string, words ...any) {
-	w.trace = append(w.trace, fmt.Sprintf(format, words...))
+	if w.steps++; w.isKept {
+		w.trace = append(w.trace, fmt.Sprintf(format, words...))
+	}
 }
 
 func (w *world) connects(obeys bool) *party {

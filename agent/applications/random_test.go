@@ -85,9 +85,9 @@ func (w *world) rests() string {
 	return w.tests()
 }
 
-// play plays one run; what is wrong, if anything is, and what was said up to then.
-func play(seed int64) (wrong string, trace []string) {
-	w := newWorld(seed, seed%2 == 0)
+// play plays one run; what is wrong, if anything is, and what was said up to then, if that is kept.
+func play(seed int64, isKept bool) (wrong string, trace []string) {
+	w := newWorld(seed, seed%2 == 0, isKept)
 	for n := 20 + w.random.Intn(300); n > 0 && wrong == ""; n-- {
 		w.step(seed%4 < 2)
 		wrong = w.tests()
@@ -101,7 +101,8 @@ func play(seed int64) (wrong string, trace []string) {
 // found plays runs until something is wrong, and says what; or plays them all.
 func found(runs int64) string {
 	for seed := int64(1); seed <= runs; seed++ {
-		if wrong, trace := play(seed); wrong != "" {
+		if wrong, _ := play(seed, false); wrong != "" {
+			_, trace := play(seed, true)
 			if len(trace) > 60 {
 				trace = trace[len(trace)-60:]
 			}
@@ -116,7 +117,7 @@ func found(runs int64) string {
 func TestRandomly(t *testing.T) {
 	runs, err := strconv.ParseInt(os.Getenv("AGENT_RUNS"), 10, 64)
 	if err != nil {
-		runs = 3000
+		runs = 2000
 	}
 	if wrong := found(runs); wrong != "" {
 		t.Error(wrong)

@@ -83,7 +83,7 @@ func (w *watch) says(number int, line string) {
 	switch {
 	case words[1] == "firm" && q.verb == "activate":
 		w.begins(number, words[2], words[3], words[5])
-	case words[1] == "ended" && q.verb == "deactivate":
+	case words[1] == "ended":
 		for tag, before := range w.open {
 			if before.number == number && before.grain == q.grain && before.verb == "activate" && before.count < q.count {
 				w.breaks("an end is answered, and the activate before it isn't: %s", tag)

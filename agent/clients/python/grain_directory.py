@@ -21,7 +21,7 @@ import time
 from contextlib import suppress
 
 PAUSE = 0.02  # seconds until an end that was refused is asked for again, where nobody waits for it any more
-ENOUGH = 200_000_000  # nanoseconds by which the clocks may seem to differ, else the agent's is asked for again
+ENOUGH = 1_000_000  # nanoseconds of a margin for which no better one is looked for
 RDHUP = 0x2000  # POLLRDHUP
 
 
@@ -148,7 +148,7 @@ class Connection:
     def compare_clocks(self, limit):
         """The agent's clock has to show a time between two looks at this one. It may be ahead of this one by no more than the time between the first
         look and its own, which is the margin of each deadline; a quicker answer makes that smaller."""
-        for _ in range(3):
+        for _ in range(5):
             before = clock()
             now = int(self.ask("clock", limit)[1])
             if not before <= now <= clock():

@@ -3,7 +3,8 @@
 //	agent-load ready --at A,B,.. [--seconds S]                 waits until all have settled the same version
 //	agent-load work --at A,B,.. --clients N --seconds S --grains G [--tokens FILE] [--heedless]
 //	                                                            lives of few grains at random, each of which writes with its token to a store that
-//	                                                            tests it. Status 1 where two works of a grain overlapped, or a token fell
+//	                                                            tests it, and ends, or has the grain migrate; every fourth client asks for it anew
+//	                                                            in the same write. Status 1 where two works of a grain overlapped, or a token fell
 //	agent-load quiet --at A,B,.. --grains G                    nothing is held; each grain can be had, and is found everywhere. Status 1 else
 //	agent-load register|find --at A,B,.. --clients N --seconds S       how many a second, and how long one takes
 //	agent-load etcd|redis --at ENDPOINT --clients N --seconds S        the same of etcd alone (a transaction a grain), of Redis alone (SET NX)

@@ -81,8 +81,14 @@ func work(o options) error {
 			defer wait.Done()
 			random := rand.New(rand.NewSource(time.Now().UnixNano() + int64(n)))
 			for ctx.Err() == nil {
-				if client, err := dial(ctx, graindirectory.Dialer{Path: o.at[n%len(o.at)], AnyClock: o.heedless}); err == nil {
+				if n%4 == 3 {
+					dialCareless(ctx, o, o.at[n/4%len(o.at)], random, s, r)
+					continue
+				}
+				here := &moved{o: o, s: s, r: r}
+				if client, err := dial(ctx, graindirectory.Dialer{Path: o.at[n%len(o.at)], AnyClock: o.heedless, Moved: here.live}); err == nil {
 					lives(ctx, o, client, random, s, r)
+					here.end()
 					client.Close()
 				}
 			}
@@ -113,10 +119,64 @@ func lives(ctx context.Context, o options, client *graindirectory.Client, random
 			time.Sleep(time.Duration(random.Intn(20)) * time.Millisecond)
 			continue
 		}
-		r.lived(live(o, client, work, time.Duration(random.Int63n(int64(o.longest))), s))
-		if work.Deactivate(forever) == graindirectory.ErrLost {
+		l := live(o, of(work), time.Duration(random.Int63n(int64(o.longest))), s)
+		if random.Intn(6) == 0 {
+			if err := work.Migrate(forever, "any"); err != nil {
+				r.answer("no migration") // as where no other silo is active
+			}
+		}
+		isLost := finish(work)
+		l.Lost = l.Lost && isLost // else the silo lives, and a later deadline came too late
+		r.lived(l)
+		if isLost {
 			return
 		}
+	}
+}
+
+// moved has the works of grains that move to a connection.
+type moved struct {
+	o     options
+	s     *store
+	r     *record
+	mu    sync.Mutex
+	isOut bool // nothing begins any more: its connection is hung up
+	works sync.WaitGroup
+}
+
+// live lives a short life of a grain that moved here.
+func (m *moved) live(work *graindirectory.Work) {
+	m.mu.Lock()
+	if m.isOut {
+		m.mu.Unlock()
+		return
+	}
+	m.works.Add(1)
+	m.mu.Unlock()
+	defer m.works.Done()
+	m.r.answer("moved")
+	l := live(m.o, of(work), m.o.longest/4, m.s)
+	isLost := finish(work)
+	l.Lost = l.Lost && isLost
+	m.r.lived(l)
+}
+
+// end waits until those that live have ended.
+func (m *moved) end() {
+	m.mu.Lock()
+	m.isOut = true
+	m.mu.Unlock()
+	m.works.Wait()
+}
+
+// finish ends a work, which may have ended already; whether all is lost.
+func finish(work *graindirectory.Work) (isLost bool) {
+	for {
+		err := work.Deactivate(forever)
+		if err == nil || errors.Is(err, graindirectory.ErrLost) {
+			return err != nil
+		}
+		time.Sleep(10 * time.Millisecond)
 	}
 }
 
@@ -142,27 +202,39 @@ func activate(ctx context.Context, client *graindirectory.Client, grain string, 
 	return work, false
 }
 
+// working is a work, be it of a client or not.
+type working struct {
+	grain, activation string
+	token             uint64
+	ends, lost        <-chan struct{}
+	may               func() bool
+}
+
+func of(work *graindirectory.Work) working {
+	return working{work.Grain, work.Activation, work.Token, work.Ends, work.Lost, work.May}
+}
+
 // live works a grain for a while, or until it is to end.
-func live(o options, client *graindirectory.Client, work *graindirectory.Work, long time.Duration, s *store) life {
-	l := life{Grain: work.Grain, Activation: work.Activation, Token: work.Token, From: now()}
+func live(o options, w working, long time.Duration, s *store) life {
+	l := life{Grain: w.grain, Activation: w.activation, Token: w.token, From: now()}
 	l.To = l.From
 	for end := l.From + int64(long); now() < end; time.Sleep(500 * time.Microsecond) {
 		select {
-		case <-work.Ends:
+		case <-w.ends:
 			select {
-			case <-client.Lost:
+			case <-w.lost:
 				l.Lost = true
 			default:
 			}
 			return l
 		default:
 		}
-		if !o.heedless && !work.May() {
+		if !o.heedless && !w.may() {
 			l.Lost = true
 			return l
 		}
 		l.To = now()
-		s.write(work.Grain, work.Token)
+		s.write(w.grain, w.token)
 	}
 	return l
 }

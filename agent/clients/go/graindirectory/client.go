@@ -56,8 +56,8 @@ type Client struct {
 
 // question is one without an answer.
 type question struct {
-	answer chan []string  // gets the words, or nil once all is lost
-	hears  func([]string) // called before that, under the client's lock, in the order of the agent's lines; or nil
+	answer chan []string       // gets the words, or nil once all is lost
+	hears  func([]string) bool // called before that, under the client's lock, in the order of the agent's lines: whether that can be; or nil
 }
 
 // Dialer has what a connection is made with.
@@ -114,7 +114,7 @@ func (c *Client) Ask(ctx context.Context, question string) ([]string, error) {
 }
 
 // ask also says whether the question is under way, to whom hears what becomes of it though ctx has ended.
-func (c *Client) ask(ctx context.Context, text string, hears func([]string)) (words []string, isAsked bool, err error) {
+func (c *Client) ask(ctx context.Context, text string, hears func([]string) bool) (words []string, isAsked bool, err error) {
 	q := &question{answer: make(chan []string, 1), hears: hears}
 	c.mu.Lock()
 	if c.waits == nil {
@@ -203,13 +203,10 @@ func (c *Client) answered(tag string, words []string) bool {
 	c.mu.Lock()
 	defer c.mu.Unlock()
 	q := c.waits[tag]
-	if q == nil {
+	if q == nil || q.hears != nil && !q.hears(words) {
 		return false
 	}
 	delete(c.waits, tag)
-	if q.hears != nil {
-		q.hears(words)
-	}
 	q.answer <- words
 	return true
 }

@@ -62,6 +62,8 @@ func (a *agent) hears(line string) {
 
 var forever = context.Background()
 
+func init() { enough = int64(time.Hour) } // one question for the clock
+
 // firm has a work of a client, which may work until a while from now.
 func (a *agent) firm(client *Client, tag int, while time.Duration) *Work {
 	a.Helper()

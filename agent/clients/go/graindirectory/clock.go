@@ -22,10 +22,13 @@ func boot() int64 {
 	return now.Nano()
 }
 
+// enough is the margin for which no better one is looked for, in nanoseconds.
+var enough = int64(time.Millisecond)
+
 // compareClocks asks for the agent's clock, which has to show a time between two looks at this one. It may be ahead of this one by no more than the
 // time between the first look and its own, which is the margin of each deadline; a quicker answer makes that smaller.
 func (c *Client) compareClocks(ctx context.Context) error {
-	const tries, enough = 3, int64(200 * time.Millisecond)
+	const tries = 5
 	for try := 0; try < tries && c.margin.Load() > enough; try++ {
 		before := boot()
 		words, err := c.Ask(ctx, "clock")

@@ -16,6 +16,7 @@ type Work struct {
 	Grain, Activation string
 	Token             uint64
 	Ends              <-chan struct{} // closed when the work is to end
+	Lost              <-chan struct{} // closed when that is so since all is lost
 	Ended             string          // once it has ended by Deactivate or Migrate: removed, or absent where the directory had it here no more
 	client            *Client
 	hold              *hold
@@ -54,7 +55,7 @@ func (c *Client) Activate(ctx context.Context, grain string) (*Work, error) {
 	if err != nil {
 		return nil, err
 	}
-	words, isAsked, err := c.ask(ctx, "activate "+grain, func(words []string) { c.granted(h, words) })
+	words, isAsked, err := c.ask(ctx, "activate "+grain, func(words []string) bool { return c.granted(h, words) })
 	c.mu.Lock()
 	defer c.mu.Unlock()
 	switch {
@@ -101,28 +102,35 @@ func (c *Client) begin(ctx context.Context, grain string) (*hold, error) {
 	}
 }
 
-// granted takes the answer to `activate`. mu is held, as in all that follows where nothing else is said.
-func (c *Client) granted(h *hold, words []string) {
+// granted takes the answer to `activate`; whether that can be. mu is held, as in all that follows where nothing else is said.
+func (c *Client) granted(h *hold, words []string) bool {
 	switch {
 	case h.phase != asking: // it was given up, or moved here meanwhile
-	case words[0] == "firm" && len(words) == 5:
-		c.work(h, words)
+	case words[0] == "firm":
+		return c.work(h, words) != nil
 	default:
 		c.drop(h, nil)
 	}
+	return true
 }
 
-// work begins a work of a hold: firm ACTIVATION GRAIN token V.
+// work begins a work of a hold: firm ACTIVATION GRAIN token V; nil where that isn't whole.
 func (c *Client) work(h *hold, words []string) *Work {
-	token, _ := strconv.ParseUint(words[4], 10, 64)
-	h.phase, h.work = working, &Work{Activation: words[1], Grain: h.grain, Token: token, Ends: c.ends, client: c, hold: h}
+	if len(words) != 5 {
+		return nil
+	}
+	token, err := strconv.ParseUint(words[4], 10, 64)
+	if err != nil {
+		return nil
+	}
+	h.phase, h.work = working, &Work{Activation: words[1], Grain: h.grain, Token: token, Ends: c.ends, Lost: c.Lost, client: c, hold: h}
 	h.work.goesOn.Store(true)
 	return h.work
 }
 
 // movedHere takes a grain that moved here; whether that can be. It takes the lock.
 func (c *Client) movedHere(words []string) bool {
-	if len(words) != 5 {
+	if len(words) < 3 {
 		return false
 	}
 	c.mu.Lock()
@@ -138,9 +146,12 @@ func (c *Client) movedHere(words []string) bool {
 		c.grains[h.grain] = h
 	}
 	w := c.work(h, words)
-	if c.moved != nil {
+	switch {
+	case w == nil:
+		return false
+	case c.moved != nil:
 		go c.moved(w)
-	} else {
+	default:
 		c.endLeft(h)
 	}
 	return true
@@ -212,7 +223,11 @@ func (c *Client) endBy(h *hold, question string, isLeft bool) {
 // carryOut asks for an end until it comes, or is refused to those who wait for it. It takes the lock.
 func (c *Client) carryOut(h *hold, question string) {
 	for again := true; again; question = "deactivate " + h.grain {
-		if _, _, err := c.ask(context.Background(), question, func(words []string) { again = c.endAnswered(h, words) }); err == ErrLost {
+		hears := func(words []string) bool {
+			again = c.endAnswered(h, words)
+			return true
+		}
+		if _, _, err := c.ask(context.Background(), question, hears); err == ErrLost {
 			return // all is over then
 		}
 		if again {

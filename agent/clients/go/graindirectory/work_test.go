@@ -147,15 +147,15 @@ func TestMayWaitsForNobody(t *testing.T) {
 
 // What nobody understands ends in lost: an answer that nobody asked for, and lines that aren't whole.
 func TestNonsense(t *testing.T) {
-	for _, line := range []string{"77 ok", "", "event", "event valid soon", "event firm S!1 user/ann token"} {
+	for _, line := range []string{"77 ok", "", "event", "event valid soon", "event firm S!1 user/eve token", "3 firm", "3 firm S!1 user/bob token x"} {
 		a, client := connect(t, nil)
 		work := a.firm(client, 2, time.Minute)
 		asked := make(chan error, 1)
 		go func() {
-			_, err := client.Find(forever, "user/bob")
+			_, err := client.Activate(forever, "user/bob")
 			asked <- err
 		}()
-		a.hears("3 find user/bob")
+		a.hears("3 activate user/bob")
 		a.says("%s", line)
 		if err := says(t, asked); err != ErrLost || work.May() {
 			t.Errorf("%q: %v", line, err)
