@@ -1,184 +1,17 @@
 package applications
 
 import (
-	"bufio"
 	"fmt"
-	"net"
 	"os"
 	"os/exec"
 	"path/filepath"
 	"strings"
-	"sync"
-	"sync/atomic"
 	"testing"
 	"time"
 
-	"agent/clock"
 	"agent/directory"
 	"agent/silo"
 )
-
-// fake is a silo of which a test says the answers.
-type fake struct {
-	mu    sync.Mutex
-	lines []string
-	waits []func(silo.Answer)
-	busy  bool
-}
-
-func (f *fake) add(line string, answer func(silo.Answer)) error {
-	f.mu.Lock()
-	defer f.mu.Unlock()
-	if f.busy {
-		return silo.ErrBusy
-	}
-	f.lines = append(f.lines, line)
-	f.waits = append(f.waits, answer)
-	return nil
-}
-func (f *fake) Wake(grain string, answer func(silo.Answer)) error {
-	return f.add("wake "+grain, answer)
-}
-func (f *fake) Close(grain string, answer func(silo.Answer)) error {
-	return f.add("close "+grain, answer)
-}
-func (f *fake) Cancel(grain string, answer func(silo.Answer)) error {
-	return f.add("cancel "+grain, answer)
-}
-func (f *fake) Offer(grain string, to directory.Silo, answer func(silo.Answer)) error {
-	return f.add("offer "+grain+" "+string(to), answer)
-}
-func (f *fake) Find(grain string, answer func(silo.Answer)) error {
-	return f.add("find "+grain, answer)
-}
-func (f *fake) Forget(grain string) error { return f.add("forget "+grain, func(silo.Answer) {}) }
-func (f *fake) Place(grain string, answer func(directory.Silo)) error {
-	return f.add("place "+grain, func(place silo.Answer) { answer(directory.Silo(place.Activation)) })
-}
-
-// answers waits for a line to the silo, and answers it.
-func (f *fake) answers(t *testing.T, line string, answer silo.Answer) {
-	t.Helper()
-	for end := time.Now().Add(5 * time.Second); ; time.Sleep(time.Millisecond) {
-		f.mu.Lock()
-		if len(f.lines) > 0 {
-			if f.lines[0] != line {
-				t.Fatalf("the silo is told %q, not %q", f.lines[0], line)
-			}
-			wait := f.waits[0]
-			f.lines, f.waits = f.lines[1:], f.waits[1:]
-			f.mu.Unlock()
-			wait(answer)
-			return
-		}
-		f.mu.Unlock()
-		if time.Now().After(end) {
-			t.Fatalf("the silo isn't told %q", line)
-		}
-	}
-}
-
-func (f *fake) isBusy(is bool) {
-	f.mu.Lock()
-	defer f.mu.Unlock()
-	f.busy = is
-}
-
-func (f *fake) pending() int {
-	f.mu.Lock()
-	defer f.mu.Unlock()
-	return len(f.lines)
-}
-
-// isAsked waits until the silo is told something, which isn't answered yet.
-func (f *fake) isAsked(t *testing.T) {
-	t.Helper()
-	for end := time.Now().Add(5 * time.Second); f.pending() == 0; time.Sleep(time.Millisecond) {
-		if time.Now().After(end) {
-			t.Fatal("the silo is told nothing")
-		}
-	}
-}
-
-func (f *fake) isTold(t *testing.T, nothing string) {
-	t.Helper()
-	time.Sleep(20 * time.Millisecond)
-	f.mu.Lock()
-	defer f.mu.Unlock()
-	if len(f.lines) > 0 {
-		t.Fatalf("the silo is told %q, not %s", f.lines, nothing)
-	}
-}
-
-type test struct {
-	*testing.T
-	silo    *fake
-	service *Service
-	path    string
-	may     int32
-	took    sync.Map
-}
-
-func start(t *testing.T) *test {
-	x := &test{T: t, silo: &fake{}, path: filepath.Join(t.TempDir(), "s"), may: 1}
-	x.service = New(Options{Silo: x.silo, May: func() bool { return atomic.LoadInt32(&x.may) == 1 }, Until: func() clock.Time { return 42 }, Now: clock.Boot,
-		Another: func(place directory.Silo) directory.Silo { return place }, Status: func() string { return "S version 1" },
-		Members: func() string { return "1 S active c@host" }, Took: func(what string, _ time.Duration) { x.took.Store(what, true) }})
-	listener, err := Listen(x.path, 0o600)
-	if err != nil {
-		t.Fatal(err)
-	}
-	t.Cleanup(func() { listener.Close() })
-	go x.service.Serve(listener)
-	return x
-}
-
-// line is a connection of an application.
-type line struct {
-	*testing.T
-	conn *net.UnixConn
-	in   *bufio.Reader
-}
-
-func (x *test) dial() *line {
-	x.Helper()
-	conn, err := net.DialUnix("unix", nil, &net.UnixAddr{Name: x.path, Net: "unix"})
-	if err != nil {
-		x.Fatal(err)
-	}
-	x.Cleanup(func() { conn.Close() })
-	l := &line{x.T, conn, bufio.NewReader(conn)}
-	l.hears("event valid 42")
-	return l
-}
-
-func (l *line) says(text string) { fmt.Fprint(l.conn, text+"\n") }
-
-func (l *line) hears(text string) {
-	l.Helper()
-	l.conn.SetReadDeadline(time.Now().Add(5 * time.Second))
-	got, err := l.in.ReadString('\n')
-	if err != nil || !strings.HasPrefix(got, text) || !strings.Contains(text, " refused ") && got != text+"\n" {
-		l.Fatalf("heard %q, not %q: %v", got, text, err)
-	}
-}
-
-func (x *test) firm(l *line, grain, activation string, token uint64) {
-	x.Helper()
-	l.says("t activate " + grain)
-	x.silo.answers(x.T, "wake "+grain, silo.Answer{Activation: activation})
-	x.service.Said(silo.Said{What: silo.Firm, Activation: activation, Grain: grain, Token: token})
-	l.hears(fmt.Sprintf("t firm %s %s token %d", activation, grain, token))
-}
-
-func (x *test) held(count int) {
-	x.Helper()
-	for end := time.Now().Add(5 * time.Second); x.service.Held() != count; time.Sleep(time.Millisecond) {
-		if time.Now().After(end) {
-			x.Fatalf("%d are held, not %d", x.service.Held(), count)
-		}
-	}
-}
 
 func TestOneLife(t *testing.T) {
 	x := start(t)
@@ -234,158 +67,6 @@ func TestSomeAsk(t *testing.T) {
 	a.hears("1 firm S!1 user/ann token 1")
 	b.hears("2 taken S!1 user/ann")
 	b.hears("3 taken S!1 user/ann")
-}
-
-// An activation ends with its connection: it is closed where it is firm, and given up where it asks; who asked beside it has it instead.
-func TestHangingUp(t *testing.T) {
-	x := start(t)
-	a, b, c, d := x.dial(), x.dial(), x.dial(), x.dial()
-	x.firm(a, "user/ann", "S!1", 1)
-	a.conn.Close()
-	x.silo.answers(t, "close user/ann", silo.Answer{Activation: "S!1"})
-	x.service.Said(silo.Said{What: silo.Ended, Grain: "user/ann"})
-	b.says("1 activate user/bob")
-	x.silo.answers(t, "wake user/bob", silo.Answer{Activation: "S!2"})
-	b.conn.Close()
-	x.silo.answers(t, "cancel user/bob", silo.Answer{Activation: "S!2"})
-	x.service.Said(silo.Said{What: silo.Ended, Grain: "user/bob", How: "absent"})
-	x.held(0)
-	c.says("2 activate user/eve")
-	x.silo.answers(t, "wake user/eve", silo.Answer{Activation: "S!3"})
-	d.says("3 activate user/eve")
-	d.says("4 find x/y")
-	x.silo.answers(t, "find x/y", silo.Answer{})
-	c.conn.Close()
-	x.silo.isTold(t, "nothing")
-	x.service.Said(silo.Said{What: silo.Firm, Activation: "S!3", Grain: "user/eve", Token: 2})
-	d.hears("3 firm S!3 user/eve token 2")
-	x.held(1)
-}
-
-// Whoever has asked for an activation may give it up; who asked beside it has it instead, and who asks meanwhile has it anew.
-func TestGivingUp(t *testing.T) {
-	x := start(t)
-	a, b := x.dial(), x.dial()
-	a.says("1 activate user/ann")
-	x.silo.answers(t, "wake user/ann", silo.Answer{Activation: "S!1"})
-	a.says("2 migrate user/ann 10.0.0.2:1000@1")
-	a.hears("2 refused 803 ")
-	a.says("3 deactivate user/ann")
-	a.hears("1 refused given ")
-	b.says("4 activate user/ann")
-	b.says("5 status")
-	b.hears("5 status S version 1 held 1")
-	x.silo.answers(t, "cancel user/ann", silo.Answer{Activation: "S!1"})
-	x.service.Said(silo.Said{What: silo.Ended, Activation: "S!1", Grain: "user/ann", How: "absent"})
-	a.hears("3 ended user/ann absent")
-	x.silo.answers(t, "wake user/ann", silo.Answer{Activation: "S!2"})
-	a.says("6 activate user/ann")
-	a.says("7 status")
-	a.hears("7 status S version 1 held 1")
-	b.says("8 deactivate user/ann")
-	b.hears("4 refused given ")
-	b.hears("8 ended user/ann absent")
-	x.silo.isTold(t, "nothing")
-	x.service.Said(silo.Said{What: silo.Firm, Activation: "S!2", Grain: "user/ann", Token: 1})
-	a.hears("6 firm S!2 user/ann token 1")
-}
-
-// Who wants an ending activation anew may give that up, too; what another wants anew is asked for.
-func TestGivingUpBehindAnEnd(t *testing.T) {
-	x := start(t)
-	a, b := x.dial(), x.dial()
-	x.firm(a, "user/ann", "S!1", 1)
-	a.says("1 deactivate user/ann")
-	x.silo.answers(t, "close user/ann", silo.Answer{Activation: "S!1"})
-	a.says("2 activate user/ann")
-	a.says("3 status")
-	a.hears("3 status S version 1 held 1")
-	b.says("4 activate user/ann")
-	b.says("5 status")
-	b.hears("5 status S version 1 held 1")
-	a.says("6 deactivate user/ann")
-	a.hears("2 refused given ")
-	x.service.Said(silo.Said{What: silo.Ended, Activation: "S!1", Grain: "user/ann", How: "removed"})
-	a.hears("1 ended user/ann removed")
-	a.hears("6 ended user/ann removed")
-	x.silo.answers(t, "wake user/ann", silo.Answer{Activation: "S!2"})
-	x.service.Said(silo.Said{What: silo.Firm, Activation: "S!2", Grain: "user/ann", Token: 1})
-	b.hears("4 firm S!2 user/ann token 1")
-	b.says("7 deactivate user/ann")
-	x.silo.answers(t, "close user/ann", silo.Answer{Activation: "S!2"})
-	b.says("8 activate user/ann")
-	b.says("9 deactivate user/ann")
-	b.hears("8 refused given ")
-	x.service.Said(silo.Said{What: silo.Ended, Activation: "S!2", Grain: "user/ann", How: "removed"})
-	b.hears("7 ended user/ann removed")
-	b.hears("9 ended user/ann removed")
-	x.silo.isTold(t, "nothing")
-	x.held(0)
-}
-
-// What became firm just before it was given up is closed, and nobody is told of it.
-func TestGivenUpTooLate(t *testing.T) {
-	x := start(t)
-	a, b := x.dial(), x.dial()
-	b.says("1 serve")
-	b.hears("1 ok")
-	a.says("2 activate user/ann")
-	x.silo.answers(t, "wake user/ann", silo.Answer{Activation: "S!1"})
-	a.says("3 deactivate user/ann")
-	a.hears("2 refused given ")
-	x.service.Said(silo.Said{What: silo.Firm, Activation: "S!1", Grain: "user/ann", Token: 1})
-	x.silo.answers(t, "cancel user/ann", silo.Answer{Refused: "808"})
-	x.silo.answers(t, "close user/ann", silo.Answer{Activation: "S!1"})
-	x.service.Said(silo.Said{What: silo.Ended, Activation: "S!1", Grain: "user/ann", How: "removed"})
-	a.hears("3 ended user/ann removed")
-	b.says("4 status")
-	b.hears("4 status S version 1 held 0")
-}
-
-// What was taken, or refused, just before it was given up is gone; who asked for it meanwhile has it asked for anew.
-func TestGivenUpInVain(t *testing.T) {
-	x := start(t)
-	a, b := x.dial(), x.dial()
-	a.says("1 activate user/ann")
-	x.silo.answers(t, "wake user/ann", silo.Answer{Activation: "S!1"})
-	a.says("2 deactivate user/ann")
-	a.hears("1 refused given ")
-	b.says("3 activate user/ann")
-	b.says("4 status")
-	b.hears("4 status S version 1 held 1")
-	x.service.Said(silo.Said{What: silo.Taken, Activation: "T!1", Grain: "user/ann"})
-	x.silo.answers(t, "cancel user/ann", silo.Answer{Refused: "802"})
-	a.hears("2 ended user/ann absent")
-	x.silo.answers(t, "wake user/ann", silo.Answer{Activation: "S!2"})
-	x.service.Said(silo.Said{What: silo.Taken, Activation: "T!1", Grain: "user/ann"})
-	b.hears("3 taken T!1 user/ann")
-	a.says("5 activate user/bob")
-	a.says("6 deactivate user/bob")
-	a.hears("5 refused given ")
-	x.silo.answers(t, "wake user/bob", silo.Answer{Refused: "806"})
-	x.silo.answers(t, "cancel user/bob", silo.Answer{Refused: "802"})
-	a.hears("6 ended user/bob absent")
-	x.held(0)
-}
-
-// Where the silo can't be told that something is given up, that goes on; what nobody has is given up later.
-func TestGivingUpRefused(t *testing.T) {
-	x := start(t)
-	a := x.dial()
-	a.says("1 activate user/ann")
-	x.silo.answers(t, "wake user/ann", silo.Answer{Activation: "S!1"})
-	x.silo.isBusy(true)
-	a.says("2 deactivate user/ann")
-	a.hears("2 refused busy ")
-	a.conn.Close()
-	for end := time.Now().Add(5 * time.Second); x.service.Figures().Applications > 0 && time.Now().Before(end); {
-		time.Sleep(time.Millisecond)
-	}
-	x.silo.isBusy(false)
-	x.service.Sweep()
-	x.silo.answers(t, "cancel user/ann", silo.Answer{Refused: "805"})
-	x.service.Said(silo.Said{What: silo.Firm, Activation: "S!1", Grain: "user/ann", Token: 1})
-	x.silo.answers(t, "close user/ann", silo.Answer{Activation: "S!1"})
 }
 
 func TestRefusals(t *testing.T) {
@@ -483,19 +164,6 @@ func TestMovesWhileItIsAskedFor(t *testing.T) {
 	x.held(1)
 }
 
-// What was fenced while the silo is asked for a place isn't moved.
-func TestLostBeforeItsPlace(t *testing.T) {
-	x := start(t)
-	a := x.dial()
-	x.firm(a, "user/ann", "S!1", 1)
-	a.says("2 migrate user/ann any")
-	x.silo.isAsked(t)
-	atomic.StoreInt32(&x.may, 0)
-	x.silo.answers(t, "place user/ann", silo.Answer{Activation: "10.0.0.2:1000@1"})
-	a.hears("2 refused lost ")
-	x.silo.isTold(t, "nothing more")
-}
-
 // Ends and the reasons of retries are counted.
 func TestCounts(t *testing.T) {
 	x := start(t)
@@ -583,36 +251,6 @@ func TestEvents(t *testing.T) {
 	a.hears("1 refused leaving ")
 }
 
-// All are told that all is lost, and nobody gets anything behind it; who hangs up has ended.
-func TestLost(t *testing.T) {
-	x := start(t)
-	a, b := x.dial(), x.dial()
-	x.firm(a, "user/ann", "S!1", 1)
-	a.says("1 activate user/bob")
-	x.silo.answers(t, "wake user/bob", silo.Answer{Activation: "S!2"})
-	atomic.StoreInt32(&x.may, 0)
-	x.service.Said(silo.Said{What: silo.Firm, Activation: "S!2", Grain: "user/bob", Token: 1}) // behind the deadline: nobody is told
-	a.says("2 activate user/eve")
-	a.hears("2 refused lost ")
-	x.service.Lost("cut off")
-	x.service.Lost("twice")
-	for _, l := range []*line{a, b} {
-		l.hears("event lost cut off")
-		if _, err := l.in.ReadString('\n'); err == nil {
-			t.Error("more is said")
-		}
-	}
-	if x.service.AwaitHangUp(clock.Boot().Add(30 * time.Millisecond)) {
-		t.Error("they hung up?")
-	}
-	a.conn.Close()
-	b.conn.Close()
-	if !x.service.AwaitHangUp(clock.Boot().Add(5 * time.Second)) {
-		t.Error("they haven't hung up")
-	}
-	x.silo.isTold(t, "nothing")
-}
-
 // An application that reads nothing costs a bounded amount of memory, and others go on.
 func TestWhoDoesntRead(t *testing.T) {
 	x := start(t)
@@ -663,53 +301,6 @@ func TestProcesses(t *testing.T) {
 	KillProcess(command.Process.Pid, when)
 	if err := command.Wait(); err == nil {
 		t.Error("it goes on")
-	}
-}
-
-// What an application has is told apart from what others have, and from what nobody has, through all of it.
-func TestWhose(t *testing.T) {
-	x := start(t)
-	a, b := x.dial(), x.dial()
-	for i := 0; i < 5; i++ {
-		x.firm(a, fmt.Sprintf("a/%d", i), "S!1", 1)
-		x.firm(b, fmt.Sprintf("b/%d", i), "S!1", 1)
-	}
-	b.says("1 deactivate b/0")
-	x.silo.answers(t, "close b/0", silo.Answer{Activation: "S!1"})
-	x.service.Said(silo.Said{What: silo.Ended, Grain: "b/0", How: "removed"})
-	b.hears("1 ended b/0 removed")
-	a.conn.Close()
-	closed := map[string]bool{}
-	for i := 0; i < 5; i++ {
-		until := time.Now().Add(5 * time.Second)
-		for line := ""; line == ""; time.Sleep(time.Millisecond) {
-			x.silo.mu.Lock()
-			if len(x.silo.lines) > 0 {
-				line, x.silo.lines, x.silo.waits = x.silo.lines[0], x.silo.lines[1:], x.silo.waits[1:]
-				closed[line] = true
-			}
-			x.silo.mu.Unlock()
-			if time.Now().After(until) {
-				t.Fatalf("closed are %v", closed)
-			}
-		}
-	}
-	for i := 0; i < 5; i++ {
-		if !closed[fmt.Sprintf("close a/%d", i)] {
-			t.Errorf("closed are %v", closed)
-		}
-		x.service.Said(silo.Said{What: silo.Ended, Grain: fmt.Sprintf("a/%d", i)})
-	}
-	x.held(4)
-	x.service.mu.Lock()
-	defer x.service.mu.Unlock()
-	if len(x.service.whose) != 1 {
-		t.Errorf("%d have something", len(x.service.whose))
-	}
-	for _, grains := range x.service.whose {
-		if len(grains) != 4 {
-			t.Errorf("%d are held", len(grains))
-		}
 	}
 }
 
