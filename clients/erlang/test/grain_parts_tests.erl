@@ -28,6 +28,7 @@ questions_test() ->
     ?assertEqual({ok, <<"x2 c\n">>}, gen_tcp:recv(Other, 5, 1000)),
     {three, Q7} = grain_questions:answered(<<"x2">>, Q6),
     {one, Q8} = grain_questions:answered(<<"x0">>, Q7),
+    ?assertError({badmatch, error}, grain_questions:answered(<<"x9">>, Q8)), % what nobody asked: all begins anew
     {five, _} = grain_questions:answered(<<"x3">>, grain_questions:sent(Q8)),
     ?assertEqual({ok, <<"x3 e\n">>}, gen_tcp:recv(Other, 5, 1000)).
 
