@@ -4,8 +4,8 @@
 //	TAG activate GRAIN       firm ACTIVATION GRAIN token V | taken ACTIVATION GRAIN: it is there | refused ..; refused yours: this connection has it
 //	TAG find GRAIN [fresh]   at ACTIVATION GRAIN [hint] | nowhere GRAIN | refused ..; fresh asks the directory where there is a hint
 //	TAG deactivate GRAIN     ended GRAIN removed|absent | refused ..; the application ends the work, then asks; absent: the directory had it
-//	                         here no more. One that isn't firm yet is given up: its activate is refused by `given`
-//	                         while it has no answer, no firm begins a work. Of several ends of a grain all have the answer of the first
+//	                         here no more. One that isn't firm yet is given up: its activate is refused by `given`, or a firm is on its way,
+//	                         which begins no work. Of several ends of a grain all have the answer of the first
 //	TAG migrate GRAIN SILO   the same; SILO may be `any`
 //	TAG serve [KIND ..]      ok; grains, or those of these kinds, that move here may be given to this connection
 //	TAG expect GRAIN         ok; if it moves here it is this connection's, before any that serves its kind. TAG unexpect GRAIN takes that back
@@ -52,7 +52,7 @@ type Directory interface {
 
 // Options are what a service works with.
 type Options struct {
-	Silo    Directory
+	Silo    Directory                                 // asked under the service's lock, as are May, Until and Took: none of them waits
 	May     func() bool                               // whether the silo may work now
 	Until   func() clock.Time                         // the deadline so far
 	Now     clock.Clock                               //
