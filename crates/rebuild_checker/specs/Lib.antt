@@ -1,11 +1,2 @@
-pub mod Covers
 pub mod Faults
-pub mod MissingFirm
-pub mod Lent
-pub mod Lesser
-pub mod Named
-pub mod Ready
-pub mod Rings
-pub mod Rows
-pub mod Tallies
 pub mod Told

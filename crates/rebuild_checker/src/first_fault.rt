@@ -6,19 +6,13 @@ ghost use Rattle.dump_rules.specs.DumpShape.{is_dump};
 ghost use Rattle.dump_rules.specs.RightDump.{IsRightDump};
 ghost use Rattle.dump_rules.specs.Verdict as rule;
 ghost use Rattle.rebuild_checker.specs.Faults.{Answers};
-ghost use Rattle.rebuild_checker.specs.Lent.{held_lent, held_on, nodes_lent};
+ghost use Rattle.dump_faults.specs.Lent.{held_lent, held_on, nodes_lent};
 
 use crate::CheckFault;
-use crate::current::current_pieces;
-use crate::entered::walk;
-use crate::firm::firm_on;
-use crate::index::index_of_entries;
-use crate::least::least_of;
-use crate::nodes::live_nodes;
-use crate::ranges::wrong_pieces;
-use crate::rings::wrong_ring;
-use crate::strangers::stranger;
-use crate::two_firm::twice_firm;
+use dump_faults::{
+    current_pieces, firm_on, index_of_entries, least_of, live_nodes, stranger, twice_firm, walk,
+    wrong_pieces, wrong_ring,
+};
 use dumps::{Dump, ListedHeld, ListedNode};
 use std::alloc::Global;
 

@@ -3,24 +3,10 @@
 //! `docs/RULES.md#the-dump-and-the-verdict`.
 #![tactic(auto)]
 
-mod alive;
 mod check_fault;
-mod cover;
-mod current;
-mod entered;
-mod entries;
-mod firm;
 mod first_fault;
-mod index;
-mod least;
-mod nodes;
-mod owners;
-mod ranges;
 mod read;
-mod rings;
-mod strangers;
 mod text;
-mod two_firm;
 
 pub use check_fault::CheckFault;
 pub use dumps::{

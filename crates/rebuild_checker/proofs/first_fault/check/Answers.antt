@@ -3,7 +3,7 @@ use Rattle.dump_rules.specs.Verdict.{RingDiffers, WrongRange, first_failing, has
 use Rattle.dump_rules.proofs.Shapes.{dump_right}
 use Rattle.rebuild_checker.specs.Faults.{Answers}
 use Rattle.rebuild_checker.proofs.AnswerLines.{yes_if_right}
-use Rattle.rebuild_checker.specs.Lent.{nodes_lent}
+use Rattle.dump_faults.specs.Lent.{nodes_lent}
 use Rattle.rebuild_checker.proofs.NoneFailing.{none_failing}
 use Rattle.rebuild_checker.proofs.first_fault.check.Goals as goal
 

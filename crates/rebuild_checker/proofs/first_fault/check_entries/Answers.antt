@@ -1,9 +1,9 @@
 use Rattle.std.proofs.Common.{◌≡◌, ◌∙◌, None, List, map, ap, rules, sym}
 use Rattle.dump_rules.specs.Verdict.{entry_of_held, least_grain, missing_firm, strangers}
 use Rattle.silo_address.specs.declared.Entry.{Entry}
-use Rattle.rebuild_checker.specs.Lent.{held_on, pieces_lent}
-use Rattle.rebuild_checker.specs.Named.{Named, named_apart_from}
-use Rattle.rebuild_checker.proofs.ListedEntries.{least_strange}
+use Rattle.dump_faults.specs.Lent.{held_on, pieces_lent}
+use Rattle.dump_faults.specs.Named.{Named, named_apart_from}
+use Rattle.dump_faults.proofs.ListedEntries.{least_strange}
 use Rattle.rebuild_checker.proofs.first_fault.check_entries.Goals as goal
 
 pub returns-in-Some-2 : goal.returns-in-Some-2

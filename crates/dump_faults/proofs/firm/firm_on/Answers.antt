@@ -1,0 +1,20 @@
+use Rattle.std.proofs.Common.{rules, tests}
+use Rattle.std.specs.Borrow.{Bor}
+use Rattle.std.proofs.lemmas.Iterator.{YieldsList-from_slice}
+use Rattle.std.proofs.lemmas.Iterator.Adapters.{YieldsList-from_flat_map}
+use Rattle.std.proofs.lemmas.Iterator.Consumers.{YieldsList-at, YieldsList-from_copied, YieldsList-from_filter, map_from_collect}
+use Rattle.dump_rules.specs.Dump.{DumpHeld, DumpNode}
+use Rattle.dump_rules.specs.Verdict.{is_firm_phase}
+use Rattle.dump_faults.proofs.firm.firm_on.Goals as goal
+
+pub returns : goal.returns
+returns c =
+    map_from_collect c.collect.result c.collect.ensures.ran
+    (YieldsList-from_filter _ (λ (held : DumpHeld). is_firm_phase held.phase)
+    (YieldsList-at c.filter.ensures.source
+    (YieldsList-from_flat_map _ _ _ (λ (held : Bor DumpHeld). held.now) (λ (node : Bor DumpNode). node.now.held) _
+    (λ x u q k. (search rules, λ j b. YieldsList-from_slice _ (search rules)))
+    (YieldsList-at c.flat_map.ensures.source (YieldsList-from_copied
+    (YieldsList-at c.copied.ensures.source (YieldsList-from_slice c.args.nodes.now cc))))
+    c.flat_map.ensures.closure c.flat_map.ensures.front c.flat_map.ensures.back c.flat_map.ensures.done))
+    c.filter.ensures.closure (λ x b q k. search (rules, tests)))

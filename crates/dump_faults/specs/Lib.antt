@@ -1,0 +1,9 @@
+pub mod Covers
+pub mod Lent
+pub mod Lesser
+pub mod MissingFirm
+pub mod Named
+pub mod Ready
+pub mod Rings
+pub mod Rows
+pub mod Tallies
