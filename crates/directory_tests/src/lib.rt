@@ -1,38 +1,43 @@
-//! Tests of the whole directory over public calls: of silos' nodes, the mail and clusters (`nodes`, `worlds` and those beside them); of
-//! how a script's lines are read and written and of the loop between (`script`), of whole scripts, command lines and dumps (`play`), of
-//! letters as lines (`letters`), and of all lines of a silo's process (`lines`). They stand in a crate of their own, since a crate with
-//! tests is proved twice.
+//! Tests of the whole directory over public calls, of what no contract says: that two silos are at work at once (`gate`), that what they
+//! did beside a driver that goes on posting is what their journal tells (`crowd`, `receipts`, `trials`), that readers route while rings are
+//! published (`published`); what refused memory leaves of worked scripts, what readers and writers that fail do, and damaged input (`play`,
+//! `script`); what a node makes of pages that were changed (`digits`, `handing`); limits (`limits`). They stand in a crate of their own,
+//! since a crate with tests is proved twice. Whatever else is tested of public calls runs unproved (`tests/run`).
 #![tactic(auto)]
 
 #[cfg(test)]
-mod beside;
+mod accepting;
+#[cfg(test)]
+mod crowd;
+#[cfg(test)]
+mod desk;
+#[cfg(test)]
+mod digits;
+#[cfg(test)]
+mod driver;
 #[cfg(test)]
 mod fakes;
 #[cfg(test)]
+mod gate;
+#[cfg(test)]
 mod handing;
 #[cfg(test)]
-mod leaving;
-#[cfg(test)]
-mod letters;
+mod happenings;
 #[cfg(test)]
 mod limits;
 #[cfg(test)]
-mod lines;
-#[cfg(test)]
-mod mails;
-#[cfg(test)]
-mod moving;
-#[cfg(test)]
-mod nodes;
-#[cfg(test)]
 mod play;
+#[cfg(test)]
+mod published;
+#[cfg(test)]
+mod readers;
+#[cfg(test)]
+mod receipts;
+#[cfg(test)]
+mod replay;
 #[cfg(test)]
 mod script;
 #[cfg(test)]
-mod spent;
-#[cfg(test)]
 mod steps;
 #[cfg(test)]
-mod surveys;
-#[cfg(test)]
-mod worlds;
+mod trials;

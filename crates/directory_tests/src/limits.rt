@@ -1,5 +1,6 @@
 //! The limits of a directory, each met: what comes next is refused, and changes nothing. Of activations, of which there may be more than
 //! a world has events, a smaller limit is met.
+use crate::accepting::{accept, boxed, happens_often, refuse};
 use directory_core::{EventRefusal, World};
 use directory_node::StepRefusal;
 use directory_rules::{Event, OwnStep, Settings};
@@ -28,11 +29,6 @@ fn empty(rt: &impl Abort, alloc: Global) -> Box<World> {
         .with_activations(ACTIVATIONS as usize)
         .expect(rt, "activations");
     boxed(rt, alloc, settings)
-}
-
-// The first world, in a box, which is dropped by one call. A world is dropped part by part, and what has one is slow to prove.
-pub(crate) fn boxed(rt: &impl Abort, alloc: Global, settings: Settings) -> Box<World> {
-    Box::new(alloc, World::new(alloc, settings)).expect(rt, "memory")
 }
 
 // The silo of that number, each on a machine of its own.
@@ -68,11 +64,6 @@ fn find(rt: &impl Abort, alloc: Global, number: u32) -> Event {
     }
 }
 
-// The event is accepted.
-pub(crate) fn accept(rt: &impl Abort, world: &mut World, event: Event) {
-    assert!(rt; world.apply(&event).is_ok());
-}
-
 // The one silo, which has joined with these places.
 fn alone(rt: &impl Abort, alloc: Global, places: &[u32]) -> Box<World> {
     let mut world = empty(rt, alloc);
@@ -88,37 +79,6 @@ fn joined(rt: &impl Abort, alloc: Global, places: &[u32]) -> Box<World> {
     let silo = silo(rt, alloc, 0);
     accept(rt, &mut world, Event::See { silo, version: 1 });
     world
-}
-
-// The event is accepted so often.
-pub(crate) fn happens_often(rt: &impl Abort, world: &mut World, event: &Event, times: u64) {
-    for _ in 0..times {
-        assert!(rt; world.apply(event).is_ok());
-    }
-}
-
-// Whether the event is refused by the refusal with that number, and neither counted nor sends a letter.
-pub(crate) fn refuses(
-    world: &mut World,
-    event: &Event,
-    refusal: EventRefusal,
-    number: u16,
-) -> bool {
-    let (accepted, sent) = (world.accepted(), world.sent());
-    world.apply(event) == Err(refusal)
-        && refusal.number() == Some(number)
-        && world.accepted() == accepted
-        && world.sent() == sent
-}
-
-pub(crate) fn refuse(
-    rt: &impl Abort,
-    world: &mut World,
-    event: Event,
-    refusal: EventRefusal,
-    number: u16,
-) {
-    assert!(rt; refuses(world, &event, refusal, number));
 }
 
 // The event is accepted until so many have been, the join among them, and refused the millionth time.

@@ -1,10 +1,6 @@
-//! Tests of whole scripts, played to a cluster, of command lines, carried out, and of dumps, read, written and judged.
+//! Tests of whole scripts, played to a cluster, and of dumps, read and written.
 
-mod accepted_lines;
-mod command_lines;
 mod cuts;
-mod endings;
-mod judged_rings;
 mod limits;
 mod memory;
 mod plays;

@@ -1,7 +1,4 @@
-//! Tests of how a script's lines are read, how the lines that it prints are written, and how the loop between them reads and writes.
+//! Tests of the loop that reads a script's lines and writes what is printed: whole scripts of every length, over streams that fail.
 
-mod commands;
 mod echo;
-mod endings;
-mod output;
 mod transfers;

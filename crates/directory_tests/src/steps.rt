@@ -2,14 +2,13 @@
 //! form that any one refusal of an allocation leaves true: a call that is refused leaves the node as it was, and is made again.
 ghost use Rattle.std.specs.Prelude.{◌≤◌};
 ghost use Rattle.directory_node.specs.InputModel.{input_of};
-ghost use Rattle.directory_node.specs.Placed.{IsPlaced};
+ghost use Rattle.directory_node.specs.Placed.{ArePlaced, IsPlaced};
 ghost use Rattle.directory_node.specs.Plans.{Fits};
 
-use crate::nodes::check_placed;
 use directory_letters::Letter;
 use directory_node::{Change, Input, Node, Plan};
 use directory_rules::{Effect, OwnStep, Settings};
-use hash_ring::{Hashing, Places};
+use hash_ring::{Hashing, Places, Ring};
 use membership_view::{View, Views};
 use silo_address::{ActivationId, Entry, GrainId, SiloAddress};
 use std::alloc::Global;
@@ -95,6 +94,25 @@ fn places(rt: &impl Abort, alloc: Global) -> Places {
     give(rt, &mut places, first(rt), 10);
     give(rt, &mut places, second(rt), 2_000_000_000);
     places
+}
+
+// What a sight asks: the places are those of the silos that are Active before it and after it, and the node's ring is by them.
+pub(crate) fn check_placed(
+    rt: &impl Abort,
+    alloc: Global,
+    node: &Node,
+    before: &View,
+    view: &View,
+    places: &Places,
+)
+    ensures { ArePlaced node.now before.now view.now places.now }
+{
+    assert!(rt; places.has_active_of(before) && places.has_active_of(view));
+    let own = match Ring::anew(alloc, node.view(), places) {
+        Ok(ring) => ring,
+        Err(_) => Ring::anew(alloc, node.view(), places).expect(rt, "a ring"),
+    };
+    assert!(rt; node.ring().same(&own));
 }
 
 // The node sees the version; what it sends.
@@ -237,20 +255,6 @@ pub(crate) fn does_one(
     requires { IsPlaced node.old (input_of input.now) }
 {
     only(rt, alloc, does(rt, alloc, node, input, effect))
-}
-
-// The node takes a step, by which it sends no letter.
-pub(crate) fn does_alone(
-    rt: &impl Abort,
-    alloc: Global,
-    node: &mut Node,
-    input: &Input<'_>,
-    effect: Effect,
-)
-    requires { IsPlaced node.old (input_of input.now) }
-{
-    let sent = does(rt, alloc, node, input, effect);
-    assert!(rt; sent.is_empty());
 }
 
 // The moved grain's first activation on the silo.

@@ -1,6 +1,0 @@
-use Rattle.std.proofs.Common.{◌≡◌}
-use Rattle.parts_tests.proofs.published.start_all.Given as goal
-
--- handing readers out leaves the ring that is shown
-abbrev pub invariant-loop-reader : goal.invariant-loop-reader
-invariant-loop-reader g l = l.publisher.last ≡ l.initial.publisher.last
