@@ -33,8 +33,9 @@ import (
 type Options struct {
 	Config   operation.Config
 	Sequence *membership.Sequence
-	Line     transport.Line                // for letters; the member closes it
-	Ended    func(old directory.Silo) bool // whether an older generation has surely ended
+	Line     transport.Line                              // for letters; the member closes it
+	Ended    func(old directory.Silo, token string) bool // whether an older generation, which joined by that token, has surely ended
+	Joined   func(me directory.Silo, token string)       // told the join of this generation
 	Guard    Guard
 	Now      clock.Clock
 	Ready    func(directory.Silo) // told when the silo's ranges were settled for the first time
@@ -113,6 +114,9 @@ func Join(ctx context.Context, options Options) (*Member, error) {
 		m.listener.Close()
 		options.Line.Close()
 		return nil, err
+	}
+	if options.Joined != nil {
+		options.Joined(m.me, hex.EncodeToString(token))
 	}
 	if err := m.start(hex.EncodeToString(token)); err != nil {
 		m.End(err.Error())

@@ -60,7 +60,7 @@ func (s *Sequence) Bury(ctx context.Context, but directory.Silo) (directory.Silo
 type JoinOptions struct {
 	Endpoint string
 	Token    string                                        // random: by it the agent knows the join for its own
-	Ended    func(old directory.Silo) bool                 // whether the older generation, all its work with it, has surely ended
+	Ended    func(old directory.Silo, token string) bool   // whether the older generation, which joined by that token, and all its work have surely ended
 	Sent     func(clock.Time)                              // told when the join, and the beat with it, was sent that was decided
 	Waits    func(old directory.Silo, still time.Duration) // told while the older generation may still be there
 }
@@ -147,7 +147,7 @@ func (s *Sequence) attempt(options JoinOptions) attempt {
 		return a
 	}
 	a.transaction.Delete = []string{beatKey(old), statusKey(old)}
-	if options.Ended != nil && options.Ended(old) {
+	if options.Ended != nil && options.Ended(old, s.views.Token(old)) {
 		return a
 	}
 	revision, isOver := s.overdue(old)

@@ -195,7 +195,7 @@ func TestNextGeneration(t *testing.T) {
 		joined := make(chan directory.Silo, 1)
 		go func() {
 			silo, err := s.Join(context.Background(), JoinOptions{Endpoint: a.Endpoint(), Token: "second", Sent: func(clock.Time) {},
-				Ended: func(old directory.Silo) bool { return ended && old == a },
+				Ended: func(old directory.Silo, token string) bool { return ended && old == a && token == "t1001" },
 				Waits: func(directory.Silo, time.Duration) { atomic.AddInt32(&waits, 1) }})
 			if err != nil {
 				t.Error(err)

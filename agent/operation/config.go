@@ -10,6 +10,7 @@ import (
 	"io"
 	"io/fs"
 	"os"
+	"path/filepath"
 	"regexp"
 	"strconv"
 	"strings"
@@ -31,7 +32,8 @@ type Config struct {
 	Nats, NatsCredentials                    string
 	LockDelay, SilentAfter, SiloTimeout      time.Duration
 	TransportTimeout, LeaveTimeout           time.Duration
-	Rejoin, AfterEnd, KillApplications       bool
+	AfterEnd                                 string
+	Rejoin, KillApplications                 bool
 	Log                                      Level
 }
 
@@ -118,7 +120,7 @@ func (c *Config) options() options {
 		duration("silo-timeout", &c.SiloTimeout, "the silo is given up where its process writes nothing for so long"),
 		duration("transport-timeout", &c.TransportTimeout, "the silo is given up where the transport is lost for so long, and another member has it"),
 		truth("kill-applications", &c.KillApplications, "a guard kills applications that haven't hung up when the silo is fenced"),
-		truth("after-end", &c.AfterEnd, "the supervisor has surely ended this endpoint's last agent and its applications: don't wait for its beat"),
+		text("after-end", &c.AfterEnd, "a file, which goes with the boot: the supervisor has surely ended the agent that noted its join there, and its applications"),
 		truth("rejoin", &c.Rejoin, "a fenced agent joins anew as the next generation; else it ends with status 3"),
 		duration("leave-timeout", &c.LeaveTimeout, "how long applications may take to end their activations at SIGTERM"),
 		text("http", &c.HTTP, "where to serve /metrics, /healthz and /ring.svg, as 127.0.0.1:9700"),
@@ -224,6 +226,9 @@ func (c *Config) check() error {
 		if one.what < 0 || one.what > one.most || one.what == 0 && one.name != "lock-delay" {
 			return fmt.Errorf("--%s is %v: something up to %v is wanted", one.name, one.what, one.most)
 		}
+	}
+	if c.AfterEnd != "" && !filepath.IsAbs(c.AfterEnd) {
+		return fmt.Errorf("--after-end is %q: the path of a file is wanted, as /run/grain-directory-1/joined", c.AfterEnd)
 	}
 	for name, files := range map[string]Certificates{"etcd": c.EtcdTLS, "nats": c.NatsTLS, "tcp": c.TCPTLS} {
 		if (files.Certificate == "") != (files.Key == "") {

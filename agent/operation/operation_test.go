@@ -15,12 +15,12 @@ import (
 func TestConfig(t *testing.T) {
 	file := filepath.Join(t.TempDir(), "agent.conf")
 	os.WriteFile(file, []byte("# of this machine\nendpoint = 10.0.0.1:7000\nsocket=/run/s\n\nttl = 30s\nkill-applications = true\nsocket-mode = 0600\n"), 0o600)
-	c, err := ReadConfig([]string{"--config", file, "--ttl=5s", "-points", "4", "--after-end"}, io.Discard)
+	c, err := ReadConfig([]string{"--config", file, "--ttl=5s", "-points", "4", "--after-end=/run/joined"}, io.Discard)
 	if err != nil {
 		t.Fatal(err)
 	}
 	if c.Endpoint != "10.0.0.1:7000" || c.Socket != "/run/s" || c.Settings.TTL != 5*time.Second || !c.KillApplications || c.SocketMode != 0o600 ||
-		c.Settings.Points != 4 || !c.AfterEnd || !c.Rejoin || c.Log != Info || c.Settings.Transport != "nats" {
+		c.Settings.Points != 4 || c.AfterEnd != "/run/joined" || !c.Rejoin || c.Log != Info || c.Settings.Transport != "nats" {
 		t.Errorf("%+v", c)
 	}
 }
@@ -33,6 +33,7 @@ func TestFaultyConfigs(t *testing.T) {
 		"": "--endpoint A.B.C.D:PORT", "--config=" + file: "line 2", "--config=/nowhere": "no such file", "--ttl=1": "ttl", "--ttl=1ms": "1s to 1h",
 		"--points=0": "1 to 128", "--transport=mqtt": "nats or tcp", "--cluster=a/b": "letters", "x": "no option", "--nonsense": "nonsense",
 		"--log=loud": "debug", "--tcp-ca=x": "belong together", "--etcd-cert=x": "belong together", "--silo-timeout=0s": "silo-timeout", "--socket-mode=9": "socket-mode",
+		"--after-end=true": "path of a file",
 	} {
 		all := append([]string(nil), good...)
 		if words == "" {

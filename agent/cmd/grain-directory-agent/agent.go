@@ -33,6 +33,7 @@ const (
 type agent struct {
 	config operation.Config
 	logger *operation.Logger
+	word   word
 
 	mu      sync.Mutex
 	current *member.Member
@@ -123,11 +124,13 @@ func (a *agent) agree(ctx context.Context, store membership.Store) error {
 func (a *agent) generations(ctx context.Context, sequence *membership.Sequence) int {
 	var last member.Outcome
 	var between pauses
-	supervised := a.endedBySupervisor()
+	a.word.open(a.config.AfterEnd)
 	for ctx.Err() == nil {
 		began := clock.Boot()
 		var outcome member.Outcome
-		m, err := a.join(ctx, sequence, func(old directory.Silo) bool { return last.Ended && old == last.Silo || supervised(old) })
+		m, err := a.join(ctx, sequence, func(old directory.Silo, token string) bool {
+			return last.Ended && old == last.Silo || a.word.isAbout(old, token)
+		})
 		if err != nil {
 			if ctx.Err() != nil {
 				return left
@@ -159,24 +162,13 @@ func (a *agent) generations(ctx context.Context, sequence *membership.Sequence) 
 	return left
 }
 
-// endedBySupervisor says of one older generation, the first there is, that it has surely ended, where the supervisor's word is given for that.
-func (a *agent) endedBySupervisor() func(directory.Silo) bool {
-	var first directory.Silo
-	return func(old directory.Silo) bool {
-		if first == "" {
-			first = old
-		}
-		return a.config.AfterEnd && old == first
-	}
-}
-
 // join makes the next generation.
-func (a *agent) join(ctx context.Context, sequence *membership.Sequence, ended func(directory.Silo) bool) (*member.Member, error) {
+func (a *agent) join(ctx context.Context, sequence *membership.Sequence, ended func(directory.Silo, string) bool) (*member.Member, error) {
 	line, err := a.openLine(ctx)
 	if err != nil {
 		return nil, err
 	}
-	options := member.Options{Config: a.config, Sequence: sequence, Line: line, Ended: ended, Now: clock.Boot, Ready: func(silo directory.Silo) {
+	options := member.Options{Config: a.config, Sequence: sequence, Line: line, Ended: ended, Joined: a.word.joined, Now: clock.Boot, Ready: func(silo directory.Silo) {
 		log.Printf("is ready")
 		operation.Notify("READY=1\nSTATUS=" + string(silo))
 	}}

@@ -108,6 +108,13 @@ func (p *process) says(what string, count int) {
 	})
 }
 
+// count is how often it has logged something.
+func (p *process) count(what string) int {
+	p.mu.Lock()
+	defer p.mu.Unlock()
+	return strings.Count(strings.Join(p.log, "\n"), what)
+}
+
 func (p *process) until(what string, isSo func() bool) {
 	p.Helper()
 	until(p.T, what, isSo)
