@@ -137,6 +137,9 @@ func (s *Service) Serve(listener *net.UnixListener) {
 		app := &application{conn: conn, out: out, number: number, serves: map[string]bool{}, expects: map[string]bool{}}
 		app.process = processOf(conn)
 		app.began = Began(app.process)
+		if !s.admits(app) {
+			continue
+		}
 		if !s.joins(app) {
 			conn.Close()
 			continue
@@ -340,8 +343,8 @@ func (s *Service) Kill() {
 // KillProcess ends a process by signal 9, if it is still the one that began then.
 func KillProcess(process int, when string) {
 	if process > 1 && process != os.Getpid() && when != "" && Began(process) == when {
-		log.Printf("warning: kills the process %d, which hasn't ended", process)
-		syscall.Kill(process, syscall.SIGKILL)
+		syscall.Kill(process, syscall.SIGKILL) // before it is told: a log that is stuck must not hold it up
+		log.Printf("warning: killed the process %d, which hadn't ended", process)
 	}
 }
 

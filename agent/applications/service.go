@@ -61,8 +61,9 @@ type Options struct {
 	Members func() string                             // what `members` answers
 	Took    func(what string, took time.Duration)     // told how long each question took that was granted
 
-	Connected    func(process int, began string) // told each process that connects, and when it began
-	Disconnected func(process int)               // told each process that has hung up, with all its connections
+	Admits       func(process int, began string) error // why a process may not connect, or nil; nil: all may
+	Connected    func(process int, began string)       // told each process that connects, and when it began
+	Disconnected func(process int)                     // told each process that has hung up, with all its connections
 }
 
 // Service has the activations of one silo, and the connections that they belong to.

@@ -32,7 +32,7 @@ func TestRun(t *testing.T) {
 		var at int64
 		killed, ended := map[int]string{}, make(chan bool)
 		go func() {
-			Run(in, func() clock.Time { return clock.Time(atomic.LoadInt64(&at)) }, func(process int, began string) { killed[process] = began })
+			Run(in, io.Discard, func() clock.Time { return clock.Time(atomic.LoadInt64(&at)) }, func(process int, began string) { killed[process] = began })
 			close(ended)
 		}()
 		for _, line := range one.lines {

@@ -43,6 +43,7 @@ type Options struct {
 
 // Guard ends what this agent can't end itself, where it is frozen.
 type Guard interface {
+	CanEnd(process int, began string) error
 	Watch(process int, began string)
 	Forget(process int)
 	Until(until clock.Time)
@@ -129,7 +130,7 @@ func Join(ctx context.Context, options Options) (*Member, error) {
 func (m *Member) start(token string) error {
 	config := m.options.Config
 	m.service = applications.New(applications.Options{Silo: (*late)(m), May: m.fence.May, Until: m.fence.Until, Now: m.options.Now, Another: m.another,
-		Status: m.statusLine, Members: m.membersLine, Took: m.noteTook, Connected: m.watch, Disconnected: m.forget})
+		Status: m.statusLine, Members: m.membersLine, Took: m.noteTook, Admits: m.admits, Connected: m.watch, Disconnected: m.forget})
 	m.post = transport.New(m.me, m.fence.May, (*letters)(m))
 	m.fence.OnExtended(func(until clock.Time) {
 		m.service.Deadline(until)
@@ -190,6 +191,14 @@ func (m *Member) watch(process int, began string) {
 	if m.options.Guard != nil {
 		m.options.Guard.Watch(process, began)
 	}
+}
+
+// admits says why an application may not connect: there is a guard, which couldn't end it.
+func (m *Member) admits(process int, began string) error {
+	if m.options.Guard == nil {
+		return nil
+	}
+	return m.options.Guard.CanEnd(process, began)
 }
 
 func (m *Member) forget(process int) {

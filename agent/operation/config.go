@@ -120,7 +120,7 @@ func (c *Config) options() options {
 		duration("silo-timeout", &c.SiloTimeout, "the silo is given up where its process writes nothing for so long"),
 		duration("transport-timeout", &c.TransportTimeout, "the silo is given up where the transport is lost for so long, and another member has it"),
 		truth("kill-applications", &c.KillApplications, "a guard kills applications that haven't hung up when the silo is fenced"),
-		text("after-end", &c.AfterEnd, "a file, which goes with the boot: the supervisor has surely ended the agent that noted its join there, and its applications"),
+		text("after-end", &c.AfterEnd, "a file of this boot: the supervisor has ended the agent that noted its join there, and its applications"),
 		truth("rejoin", &c.Rejoin, "a fenced agent joins anew as the next generation; else it ends with status 3"),
 		duration("leave-timeout", &c.LeaveTimeout, "how long applications may take to end their activations at SIGTERM"),
 		text("http", &c.HTTP, "where to serve /metrics, /healthz and /ring.svg, as 127.0.0.1:9700"),

@@ -173,7 +173,7 @@ func (a *agent) join(ctx context.Context, sequence *membership.Sequence, ended f
 		operation.Notify("READY=1\nSTATUS=" + string(silo))
 	}}
 	if a.config.KillApplications {
-		started, err := guard.Start()
+		started, err := guard.Start(a.config.Settings.TTL / 2)
 		if err != nil {
 			line.Close()
 			return nil, err

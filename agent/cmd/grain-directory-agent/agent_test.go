@@ -6,6 +6,7 @@ import (
 	"errors"
 	"fmt"
 	"io"
+	"net"
 	"net/http"
 	"os"
 	"os/exec"
@@ -39,6 +40,7 @@ type cluster struct {
 	folder, etcd, nats string
 	ports              map[int]int
 	https              map[int]int
+	within             []string // the words in front of an agent's, as of unshare
 }
 
 // process is an agent's process.
@@ -65,8 +67,9 @@ func (c *cluster) agent(number int, words ...string) *process {
 		c.ports[number], c.https[number] = servers.Port(c), servers.Port(c)
 	}
 	p := &process{T: c.T, socket: filepath.Join(c.folder, fmt.Sprintf("s%d", number)), http: fmt.Sprintf("127.0.0.1:%d", c.https[number])}
-	p.command = exec.Command(os.Args[0], append([]string{fmt.Sprintf("--endpoint=127.0.0.1:%d", c.ports[number]), "--socket=" + p.socket, "--etcd=" + c.etcd,
-		"--nats=" + c.nats, "--program=" + os.Getenv("SILO_PROGRAM"), "--ttl=2s", "--lock-delay=200ms", "--points=4", "--http=" + p.http}, words...)...)
+	all := append(append([]string{}, c.within...), os.Args[0])
+	p.command = exec.Command(all[0], append(all[1:], append([]string{fmt.Sprintf("--endpoint=127.0.0.1:%d", c.ports[number]), "--socket=" + p.socket, "--etcd=" + c.etcd,
+		"--nats=" + c.nats, "--program=" + os.Getenv("SILO_PROGRAM"), "--ttl=2s", "--lock-delay=200ms", "--points=4", "--http=" + p.http}, words...)...)...)
 	p.command.Env = append(os.Environ(), "AS_AGENT=1")
 	p.command.SysProcAttr = &syscall.SysProcAttr{Setpgid: true}
 	out, err := p.command.StderrPipe()
@@ -329,6 +332,28 @@ func TestFrozen(t *testing.T) {
 		two.says("ends: ", 1)
 		two.says("joined", 2)
 	}
+}
+
+// An application that the guard couldn't end isn't let in: here the agent can't see it, since that has a pid namespace of its own.
+func TestUnseenApplication(t *testing.T) {
+	if os.Getuid() != 0 || exec.Command("unshare", "--pid", "--fork", "true").Run() != nil {
+		t.Skip("a pid namespace needs root")
+	}
+	c := start(t)
+	c.within = []string{"unshare", "--pid", "--fork", "--kill-child", "--mount-proc"}
+	guarded, other := c.agent(1, "--kill-applications"), c.agent(2)
+	guarded.says("is ready", 1)
+	other.says("is ready", 1)
+	firm(t, other.dial(nil), "user/ann")
+	conn, err := net.Dial("unix", guarded.socket)
+	if err != nil {
+		t.Fatal(err)
+	}
+	conn.SetDeadline(time.Now().Add(10 * time.Second))
+	if said, err := io.ReadAll(conn); err != nil || !strings.HasPrefix(string(said), "event lost ") || !strings.Contains(string(said), "pid namespace") {
+		t.Errorf("it is told %q, %v", said, err)
+	}
+	guarded.says("an application isn't let in", 1)
 }
 
 // While the store is away for less than a deadline nothing is noticed; for longer, all are fenced, and come again with it.

@@ -9,6 +9,7 @@ import (
 	"os"
 	"os/signal"
 	"syscall"
+	"time"
 
 	"agent/guard"
 	"agent/operation"
@@ -35,7 +36,8 @@ func main() {
 		fmt.Fprintf(os.Stderr, "grain-directory-agent: %v\n", err)
 		os.Exit(mistaken)
 	}
-	logger := &operation.Logger{Out: os.Stderr, Level: config.Log, Journal: os.Getenv("JOURNAL_STREAM") != ""}
+	behind := operation.NewBehind(os.Stderr)
+	logger := &operation.Logger{Out: behind, Level: config.Log, Journal: os.Getenv("JOURNAL_STREAM") != ""}
 	logger.Named(config.Endpoint)
 	log.SetFlags(0)
 	log.SetOutput(logger)
@@ -49,5 +51,6 @@ func main() {
 	a := &agent{config: config, logger: logger}
 	status := a.run(ctx)
 	stop()
+	behind.Close(time.Second)
 	os.Exit(status)
 }
