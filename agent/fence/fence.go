@@ -11,11 +11,13 @@ package fence
 
 import (
 	"context"
+	"errors"
 	"fmt"
 	"log"
 	"sync"
 	"time"
 
+	"agent/beats"
 	"agent/clock"
 	"agent/planted"
 )
@@ -112,6 +114,12 @@ func (f *Fence) Give(reason string) {
 // Given is closed once the silo was given up; Reason says why.
 func (f *Fence) Given() <-chan struct{} { return f.given }
 
+func (f *Fence) wasGiven() bool {
+	f.mu.Lock()
+	defer f.mu.Unlock()
+	return f.isGiven
+}
+
 // Reason is why the silo was given up.
 func (f *Fence) Reason() string {
 	f.mu.Lock()
@@ -119,25 +127,26 @@ func (f *Fence) Reason() string {
 	return f.reason
 }
 
-// Keep beats until ctx ends, and gives the silo up at its deadline, or once its beat is gone. beat says whether it was still there.
-func (f *Fence) Keep(ctx context.Context, beat func(context.Context) (bool, error)) {
+// Keep beats until ctx ends, and gives the silo up at its deadline, or once its beats have ended. A beat that is confirmed has no fault.
+func (f *Fence) Keep(ctx context.Context, beat func(context.Context) error) {
 	go f.watch(ctx)
-	for ctx.Err() == nil {
+	for ctx.Err() == nil && !f.wasGiven() {
 		wait := f.ttl / 10
 		sent := f.now()
 		calling, done := context.WithTimeout(ctx, f.ttl/6) // so that others of the store's servers are tried before the deadline
-		isThere, err := beat(calling)
+		err := beat(calling)
 		done()
+		var ended beats.Ended
 		switch {
 		case ctx.Err() != nil:
+			return
+		case errors.As(err, &ended) && planted.NoFence:
+		case errors.As(err, &ended):
+			f.Give(ended.Error())
 			return
 		case err != nil:
 			log.Printf("warning: the beat isn't confirmed, %v are left: %v", f.Until().Sub(f.now()).Round(time.Millisecond), err)
 			wait /= 10
-		case !isThere && planted.NoFence:
-		case !isThere:
-			f.Give("this silo's beat is gone from the store: it was declared dead, replaced or voted out")
-			return
 		case !f.Confirm(sent):
 			f.Give("a beat was confirmed behind the deadline")
 			return

@@ -3,11 +3,13 @@ package fence
 import (
 	"context"
 	"errors"
+	"fmt"
 	"strings"
 	"sync/atomic"
 	"testing"
 	"time"
 
+	"agent/beats"
 	"agent/clock"
 )
 
@@ -72,19 +74,19 @@ func TestGiven(t *testing.T) {
 func TestKeep(t *testing.T) {
 	for _, one := range []struct {
 		name   string
-		beat   func(h *hands) (bool, error)
+		beat   func(h *hands) error
 		reason string
 	}{
-		{"gone", func(*hands) (bool, error) { return false, nil }, "this silo's beat is gone"},
-		{"cut off", func(h *hands) (bool, error) { h.set(8 * time.Second); return false, errors.New("cut off") }, "no beat was confirmed for 8s"},
-		{"late", func(h *hands) (bool, error) { h.set(8 * time.Second); return true, nil }, ""},
+		{"gone", func(*hands) error { return fmt.Errorf("beat: %w", beats.Ended{Verdict: beats.Gone}) }, "this silo's beat is gone"},
+		{"cut off", func(h *hands) error { h.set(8 * time.Second); return errors.New("cut off") }, "no beat was confirmed for 8s"},
+		{"late", func(h *hands) error { h.set(8 * time.Second); return nil }, ""},
 	} {
 		h := &hands{}
 		f := New(ttl, 0, h.now)
 		ctx, stop := context.WithCancel(context.Background())
 		ended := make(chan bool)
 		go func() {
-			f.Keep(ctx, func(context.Context) (bool, error) { return one.beat(h) })
+			f.Keep(ctx, func(context.Context) error { return one.beat(h) })
 			close(ended)
 		}()
 		if got := reason(f, 5*time.Second); got == "" || !strings.HasPrefix(got, one.reason) {
@@ -102,7 +104,7 @@ func TestKeptOn(t *testing.T) {
 	f := New(500*time.Millisecond, clock.Boot(), clock.Boot)
 	ctx, stop := context.WithCancel(context.Background())
 	defer stop()
-	go f.Keep(ctx, func(context.Context) (bool, error) { return true, nil })
+	go f.Keep(ctx, func(context.Context) error { return nil })
 	if got := reason(f, time.Second); got != "" || !f.May() {
 		t.Errorf("given up by %q", got)
 	}

@@ -30,8 +30,9 @@ func (m *Member) End(reason string) Outcome {
 	m.mu.Lock()
 	wasReady := m.settled != 0
 	m.mu.Unlock()
-	outcome := Outcome{Silo: m.me, Reason: reason, Ready: wasReady, Ended: m.awaitApplications()}
-	log.Printf("the silo's process has ended; all applications have hung up: %v", outcome.Ended)
+	haveHungUp := m.awaitApplications()
+	log.Printf("the silo's process has ended; all applications have hung up: %v", haveHungUp)
+	outcome := Outcome{Silo: m.me, Reason: reason, Ready: wasReady, Ended: haveHungUp && m.options.Sequence.Owns(m.me)} // a copy's may go on
 	if outcome.Ended {
 		ctx, done := context.WithTimeout(context.Background(), 2*time.Second)
 		if err := m.options.Sequence.Die(ctx, m.me); err != nil {

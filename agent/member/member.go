@@ -101,14 +101,14 @@ func Join(ctx context.Context, options Options) (*Member, error) {
 		options.Line.Close()
 		return nil, err
 	}
-	waits := directory.Silo("")
+	waits := ""
 	config := options.Config
 	m.me, err = options.Sequence.Join(ctx, membership.JoinOptions{Endpoint: config.Endpoint, Token: hex.EncodeToString(token), Ended: options.Ended,
 		Sent: func(sent clock.Time) { m.fence = fence.New(config.Settings.TTL, sent, options.Now) },
-		Waits: func(old directory.Silo, left time.Duration) {
-			if waits != old {
-				log.Printf("waits up to %v for the end of %s, which had this endpoint", left.Round(time.Millisecond), old)
-				waits = old
+		Waits: func(why string, left time.Duration) {
+			if waits != why {
+				log.Printf("waits up to %v for %s", left.Round(time.Millisecond), why)
+				waits = why
 			}
 		}})
 	if err != nil {
@@ -137,7 +137,7 @@ func (m *Member) start(token string) error {
 		m.guardUntil(until)
 	})
 	m.run(func() {
-		m.fence.Keep(m.ctx, func(ctx context.Context) (bool, error) { return m.options.Sequence.Beat(ctx, m.me) })
+		m.fence.Keep(m.ctx, func(ctx context.Context) error { return m.options.Sequence.Beat(ctx, m.me) })
 	})
 	carrier, err := m.options.Line.Carry(m.me, m.post.Take)
 	if err != nil {

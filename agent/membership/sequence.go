@@ -8,6 +8,7 @@ import (
 	"sync"
 	"time"
 
+	"agent/beats"
 	"agent/clock"
 	"agent/directory"
 )
@@ -20,34 +21,35 @@ type Timing struct {
 	Retry     time.Duration // between two tries
 }
 
-// beat is the state of a silo's beat, and since when this agent has seen it so, by its own clock.
-type beat struct {
-	revision Revision // Absent: it is gone
-	since    clock.Time
-}
-
 // Sequence follows the changes of a directory, and proposes changes.
 type Sequence struct {
 	store  Store
 	timing Timing
 	now    clock.Clock
 
-	mu       sync.Mutex
-	views    *directory.Views
-	changes  []directory.Change
-	beats    map[directory.Silo]beat
-	statuses map[directory.Silo]string
-	fault    error
-	caughtUp bool
-	moved    chan struct{} // closed, and made anew, when something was read
-	read     clock.Time    // when that was
-	reread   func()        // ends the watch that there is
+	beating sync.Mutex // held by who writes a beat of this agent's silo
+
+	mu        sync.Mutex
+	views     *directory.Views
+	changes   []directory.Change
+	revisions []Revision // of the changes
+	last      Entry      // the last change, as it stands in the store
+	beats     map[directory.Silo]beats.Seen
+	chains    map[directory.Silo]beats.Chain // the beats of those that joined by this sequence
+	statuses  map[directory.Silo]string
+	fault     error
+	highest   Revision // of all answers
+	caughtUp  bool
+	began     clock.Time    // when all was read for the first time
+	moved     chan struct{} // closed, and made anew, when something was read
+	read      clock.Time    // when that was
+	reread    func()        // ends the watch that there is
 }
 
 // New follows a directory in a store, once Follow runs.
 func New(store Store, timing Timing, now clock.Clock) *Sequence {
-	return &Sequence{store: store, timing: timing, now: now, views: directory.NewViews(), beats: map[directory.Silo]beat{},
-		statuses: map[directory.Silo]string{}, moved: make(chan struct{})}
+	return &Sequence{store: store, timing: timing, now: now, views: directory.NewViews(), beats: map[directory.Silo]beats.Seen{},
+		chains: map[directory.Silo]beats.Chain{}, statuses: map[directory.Silo]string{}, moved: make(chan struct{})}
 }
 
 const settingsKey = "settings"
@@ -57,22 +59,6 @@ func beatKey(silo directory.Silo) string   { return "beat/" + string(silo) }
 func statusKey(silo directory.Silo) string { return "status/" + string(silo) }
 func (s *Sequence) call(ctx context.Context) (context.Context, context.CancelFunc) {
 	return context.WithTimeout(ctx, s.timing.Call)
-}
-
-// Agree writes the settings if the directory has none, and compares them with those that it has: nil, a directory.Difference, or the store's
-// fault.
-func Agree(ctx context.Context, store Store, settings directory.Settings) error {
-	if _, err := store.Commit(ctx, Transaction{If: []Condition{{settingsKey, Absent}}, Put: []Entry{{Key: settingsKey, Value: settings.Text()}}}); err != nil {
-		return err
-	}
-	entries, _, err := store.Read(ctx, settingsKey)
-	if err != nil {
-		return err
-	}
-	if len(entries) == 0 {
-		return fmt.Errorf("the store has no settings, though they were written")
-	}
-	return settings.Compare(entries[0].Value)
 }
 
 // Follow reads all there is, and then all news, until ctx ends. Where the watch is lost, be it by a compaction, all is read again.
@@ -89,7 +75,7 @@ func (s *Sequence) Follow(ctx context.Context) {
 
 func (s *Sequence) readAndWatch(ctx context.Context) error {
 	calling, done := s.call(ctx)
-	entries, revision, err := s.store.Read(calling, "")
+	entries, revision, err := s.readAt(calling, "")
 	done()
 	if err != nil {
 		return err
@@ -130,7 +116,7 @@ func (s *Sequence) testNews() {
 func (s *Sequence) BeatSeen(silo directory.Silo) clock.Time {
 	s.mu.Lock()
 	defer s.mu.Unlock()
-	return s.beats[silo].since
+	return s.beats[silo].Since
 }
 
 // takeAll takes all entries: what isn't among them is gone.
@@ -142,6 +128,11 @@ func (s *Sequence) takeAll(entries []Entry) {
 		there[entry.Key] = true
 		s.takeOne(Event{Entry: entry})
 	}
+	for _, change := range s.changes {
+		if !there[changeKey(change.Version)] {
+			s.hurt("%v is gone from the store", change)
+		}
+	}
 	for silo := range s.statuses {
 		if !there[statusKey(silo)] {
 			delete(s.statuses, silo)
@@ -149,10 +140,12 @@ func (s *Sequence) takeAll(entries []Entry) {
 	}
 	for _, silo := range s.views.Members() {
 		if !there[beatKey(silo)] {
-			s.saw(silo, Absent)
+			s.saw(silo, beats.Beat{})
 		}
 	}
-	s.caughtUp = true
+	if !s.caughtUp {
+		s.caughtUp, s.began = true, s.now()
+	}
 	s.announce()
 }
 
@@ -161,6 +154,9 @@ func (s *Sequence) take(events []Event) {
 	defer s.mu.Unlock()
 	for _, event := range events {
 		s.takeOne(event)
+		if event.Revision > s.highest {
+			s.highest = event.Revision
+		}
 	}
 	s.announce()
 }
@@ -177,15 +173,13 @@ func (s *Sequence) takeOne(event Event) {
 	silo := directory.Silo(name)
 	switch part {
 	case "change":
-		if err := s.takeChange(event); err != nil && s.fault == nil {
-			s.fault = err
-		}
+		s.takeChange(event)
 	case "beat":
-		revision := event.Revision
 		if event.Gone {
-			revision = Absent
+			s.saw(silo, beats.Beat{})
+		} else {
+			s.saw(silo, beatOf(event.Entry))
 		}
-		s.saw(silo, revision)
 	case "status":
 		if event.Gone {
 			delete(s.statuses, silo)
@@ -195,37 +189,44 @@ func (s *Sequence) takeOne(event Event) {
 	}
 }
 
-func (s *Sequence) saw(silo directory.Silo, revision Revision) {
+func beatOf(entry Entry) beats.Beat {
+	return beats.Beat{Revision: int64(entry.Revision), Value: entry.Value}
+}
+
+func (s *Sequence) saw(silo directory.Silo, beat beats.Beat) {
 	if s.views.Status(silo) == directory.IsDead {
 		delete(s.beats, silo)
-	} else if old, isKnown := s.beats[silo]; !isKnown || old.revision != revision {
-		s.beats[silo] = beat{revision, s.now()}
+	} else if old, isKnown := s.beats[silo]; isKnown {
+		s.beats[silo] = old.Saw(beat, s.now())
+	} else {
+		s.beats[silo] = beats.Seen{Beat: beat, Since: s.now(), Old: !s.caughtUp}
 	}
 }
 
-// takeChange takes a change if it is the next; one that is known has to be the same.
-func (s *Sequence) takeChange(event Event) error {
+// takeChange takes a change if it is the next; one that is known has to be the same, as it was written.
+func (s *Sequence) takeChange(event Event) {
 	change, err := readChange(event)
 	if err != nil {
-		return err
+		s.hurt("%v", err)
+		return
 	}
-	if change.Version <= s.views.Version() {
-		if s.changes[change.Version-1] != change {
-			return fmt.Errorf("change %d was %v, and is now %v: somebody rewrote the store; stop all agents of this directory, and begin another",
-				change.Version, s.changes[change.Version-1], change)
+	if known := change.Version - 1; change.Version <= s.views.Version() {
+		if s.changes[known] != change || s.revisions[known] != event.Revision {
+			s.hurt("change %d was %v, written at revision %d, and is now %v, written at %d", change.Version, s.changes[known], s.revisions[known], change,
+				event.Revision)
 		}
-		return nil
+		return
 	}
 	died, err := s.views.Take(change)
 	if err != nil {
-		return fmt.Errorf("the store has a change that silos refuse: %v", err)
+		s.hurt("the store has a change that silos refuse: %v", err)
+		return
 	}
-	s.changes = append(s.changes, change)
+	s.changes, s.revisions, s.last = append(s.changes, change), append(s.revisions, event.Revision), event.Entry
 	if died != "" {
 		delete(s.beats, died)
 		delete(s.statuses, died)
 	}
-	return nil
 }
 
 func changeText(c directory.Change) string {
@@ -249,13 +250,6 @@ func readChange(event Event) (change directory.Change, err error) {
 		change.Token = words[2]
 	}
 	return change, nil
-}
-
-// Fault is why the directory can't go on, or nil: its sequence of changes was hurt.
-func (s *Sequence) Fault() error {
-	s.mu.Lock()
-	defer s.mu.Unlock()
-	return s.fault
 }
 
 // Moved is closed when something more was read.

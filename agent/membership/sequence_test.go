@@ -10,6 +10,7 @@ import (
 	"testing"
 	"time"
 
+	"agent/beats"
 	"agent/clock"
 	"agent/directory"
 	. "agent/membership"
@@ -28,13 +29,21 @@ func (h *hands) advance(wait time.Duration) { atomic.AddInt64(&h.at, int64(wait)
 func follow(t *testing.T, store Store, h *hands) *Sequence {
 	ctx, stop := context.WithCancel(context.Background())
 	s := New(store, timing, h.now)
-	ended := make(chan bool)
+	ended, read := make(chan bool), s.Moved()
 	go func() {
 		s.Follow(ctx)
 		close(ended)
 	}()
 	t.Cleanup(func() { stop(); <-ended })
+	<-read
+	h.advance(timing.TTL + timing.LockDelay) // what a join waits for has passed
 	return s
+}
+
+// hasEnded says whether a fault is that an agent beats no more, and why.
+func hasEnded(err error, verdict beats.Verdict) bool {
+	var ended beats.Ended
+	return errors.As(err, &ended) && ended.Verdict == verdict
 }
 
 func join(t *testing.T, s *Sequence, port int) directory.Silo {
@@ -115,8 +124,8 @@ func TestBury(t *testing.T) {
 	}
 	h.advance(timing.TTL + timing.LockDelay - 1)
 	bury("")
-	if isThere, err := s.Beat(ctx, a); !isThere || err != nil {
-		t.Fatal(isThere, err)
+	if err := s.Beat(ctx, a); err != nil {
+		t.Fatal(err)
 	}
 	// the beat may not have been told yet: either way it isn't buried
 	h.advance(1)
@@ -128,8 +137,8 @@ func TestBury(t *testing.T) {
 		dead, err := s.Bury(ctx, b)
 		return dead == a && err == nil
 	})
-	if isThere, err := s.Beat(ctx, a); isThere || err != nil {
-		t.Errorf("the dead beats on: %v, %v", isThere, err)
+	if err := s.Beat(ctx, a); !hasEnded(err, beats.Gone) {
+		t.Errorf("the dead beats on: %v", err)
 	}
 	until(t, "it is known", func() bool { return s.Status(a) == directory.IsDead })
 	bury("")
@@ -149,8 +158,8 @@ func TestOldLook(t *testing.T) {
 	})
 	store.Compact() // which cuts the watch off, so no more is read
 	time.Sleep(20 * time.Millisecond)
-	if isThere, err := s.Beat(context.Background(), a); !isThere || err != nil {
-		t.Fatal(isThere, err)
+	if err := s.Beat(context.Background(), a); err != nil {
+		t.Fatal(err)
 	}
 	h.advance(2 * timing.TTL)
 	if dead, err := s.Bury(context.Background(), ""); dead != "" || err != nil {
@@ -170,7 +179,7 @@ func TestVoteOut(t *testing.T) {
 	if err := s.VoteOut(ctx, a); err != nil {
 		t.Fatal(err)
 	}
-	if isThere, _ := s.Beat(ctx, a); isThere {
+	if err := s.Beat(ctx, a); !hasEnded(err, beats.Gone) {
 		t.Error("it beats on")
 	}
 	until(t, "the vote is known", func() bool { return !s.HasBeat(a) })
@@ -196,7 +205,7 @@ func TestNextGeneration(t *testing.T) {
 		go func() {
 			silo, err := s.Join(context.Background(), JoinOptions{Endpoint: a.Endpoint(), Token: "second", Sent: func(clock.Time) {},
 				Ended: func(old directory.Silo, token string) bool { return ended && old == a && token == "t1001" },
-				Waits: func(directory.Silo, time.Duration) { atomic.AddInt32(&waits, 1) }})
+				Waits: func(string, time.Duration) { atomic.AddInt32(&waits, 1) }})
 			if err != nil {
 				t.Error(err)
 			}
@@ -210,7 +219,7 @@ func TestNextGeneration(t *testing.T) {
 			t.Errorf("%s joined", silo)
 		}
 		until(t, "the older is dead", func() bool { return s.Status(a) == directory.IsDead })
-		if isThere, _ := s.Beat(context.Background(), a); isThere {
+		if err := s.Beat(context.Background(), a); !hasEnded(err, beats.Gone) {
 			t.Error("the older beats on")
 		}
 	}
@@ -222,10 +231,11 @@ func TestLostAnswer(t *testing.T) {
 		h := &hands{at: 5}
 		store := lossy{memorystore.New(), h, lost, new(int32)}
 		s := follow(t, store, h)
+		began := h.now() - 5
 		var sent clock.Time
 		silo, err := s.Join(context.Background(), JoinOptions{Endpoint: "10.0.0.1:1001", Token: "t", Sent: func(at clock.Time) { sent = at }})
-		if err != nil || silo != "10.0.0.1:1001@1" || sent != expected {
-			t.Errorf("%q, %v, sent at %d", silo, err, sent)
+		if err != nil || silo != "10.0.0.1:1001@1" || sent-began != expected {
+			t.Errorf("%q, %v, sent at %d", silo, err, sent-began)
 		}
 		if version := s.Version(); version != 1 {
 			t.Errorf("version %d", version)
@@ -241,13 +251,13 @@ type lossy struct {
 	calls *int32
 }
 
-func (l lossy) Commit(ctx context.Context, transaction Transaction) (bool, error) {
-	made, err := l.Store.Commit(ctx, transaction)
+func (l lossy) Commit(ctx context.Context, transaction Transaction) (bool, Revision, error) {
+	made, at, err := l.Store.Commit(ctx, transaction)
 	l.hands.advance(10)
 	if atomic.AddInt32(l.calls, 1) <= l.lost {
-		return false, errors.New("the answer is lost")
+		return false, 0, errors.New("the answer is lost")
 	}
-	return made, err
+	return made, at, err
 }
 
 // Changes made while the watch was cut off, and compacted, are read again.
@@ -286,7 +296,7 @@ func TestHurtStore(t *testing.T) {
 		store := memorystore.New()
 		s := follow(t, store, &hands{})
 		join(t, s, 1001)
-		if _, err := store.Commit(context.Background(), Transaction{Put: []Entry{put}}); err != nil {
+		if _, _, err := store.Commit(context.Background(), Transaction{Put: []Entry{put}}); err != nil {
 			t.Fatal(err)
 		}
 		until(t, name, func() bool { return s.Fault() != nil })
@@ -296,6 +306,14 @@ func TestHurtStore(t *testing.T) {
 func TestAgree(t *testing.T) {
 	store, ctx := memorystore.New(), context.Background()
 	settings := directory.DefaultSettings()
+	if err := Agree(ctx, store, settings); !errors.Is(err, ErrNoDirectory) {
+		t.Errorf("a directory is there that nobody created: %v", err)
+	}
+	for _, isNew := range []bool{true, false} {
+		if made, err := Create(ctx, store, settings); made != isNew || err != nil {
+			t.Error(made, err)
+		}
+	}
 	if err := Agree(ctx, store, settings); err != nil {
 		t.Fatal(err)
 	}
@@ -305,6 +323,12 @@ func TestAgree(t *testing.T) {
 	}
 	if err := Agree(ctx, store, directory.DefaultSettings()); err != nil {
 		t.Error(err)
+	}
+	if _, _, err := store.Commit(ctx, Transaction{Put: []Entry{{Key: "change/0000000001", Value: "joined 10.0.0.1:1@1"}}, Delete: []string{"settings"}}); err != nil {
+		t.Fatal(err)
+	}
+	if made, err := Create(ctx, store, settings); made || err != nil {
+		t.Error("what is left of a directory is taken for none", err)
 	}
 }
 
@@ -318,7 +342,7 @@ func TestReread(t *testing.T) {
 	atomic.StoreInt32(&store.isDeaf, 1)
 	before := s.BeatSeen(a)
 	h.advance(time.Second)
-	if isThere, err := s.Beat(context.Background(), a); !isThere || err != nil {
+	if err := s.Beat(context.Background(), a); err != nil {
 		t.Fatal(err)
 	}
 	time.Sleep(20 * time.Millisecond)
@@ -363,14 +387,14 @@ type deafAndLossy struct {
 	calls *int32
 }
 
-func (d deafAndLossy) Commit(ctx context.Context, transaction Transaction) (made bool, err error) {
+func (d deafAndLossy) Commit(ctx context.Context, transaction Transaction) (made bool, at Revision, err error) {
 	call := atomic.AddInt32(d.calls, 1)
 	d.hands.advance(2 * timing.Call)
 	if call > d.lost || call%2 == 1 {
-		made, err = d.deaf.Commit(ctx, transaction)
+		made, at, err = d.deaf.Commit(ctx, transaction)
 	}
 	if call <= d.lost {
-		return false, errors.New("the answer is lost")
+		return false, 0, errors.New("the answer is lost")
 	}
-	return made, err
+	return made, at, err
 }

@@ -4,8 +4,8 @@
 // In the store stand, under the name of the directory:
 //
 //	settings           what all silos share
-//	change/0000000007  the change that made version 7: written once, in a transaction that wants it absent and the one before there
-//	beat/SILO          written often by the silo's agent while it lasts; its end is what a death wants
+//	change/0000000007  the change that made version 7: written once, in a transaction that wants it absent, and the one before as it was read
+//	beat/SILO          written often by the silo's agent while it lasts, each on the one before; its end is what a death wants
 //	status/SILO        what the silo has seen and settled, and whom it doesn't hear
 package membership
 
@@ -32,10 +32,12 @@ type Event struct {
 	Gone bool
 }
 
-// Condition wants an entry Absent, Present, or unchanged since a revision.
+// Condition wants an entry Absent, Present, or unchanged since a revision. Where a value is named, it has to have that, too: a store that was turned
+// back gives revisions anew.
 type Condition struct {
 	Key      string
 	Revision Revision
+	Value    string
 }
 
 // Transaction is carried out whole if all its conditions hold, and else not at all.
@@ -52,8 +54,8 @@ type Store interface {
 	// Watch tells what is written behind a revision, in order, with nothing left out. It returns when ctx ends, or with an error when it can't
 	// go on, be it that what it has to tell was compacted: then everything has to be read again.
 	Watch(ctx context.Context, after Revision, tell func([]Event)) error
-	// Commit carries a transaction out, and says whether its conditions held.
-	Commit(ctx context.Context, transaction Transaction) (bool, error)
+	// Commit carries a transaction out, and says whether its conditions held, and at which revision that was; it is that of what was written.
+	Commit(ctx context.Context, transaction Transaction) (bool, Revision, error)
 	// Close gives the store's connections back.
 	Close() error
 }

@@ -33,7 +33,7 @@ type Config struct {
 	LockDelay, SilentAfter, SiloTimeout      time.Duration
 	TransportTimeout, LeaveTimeout           time.Duration
 	AfterEnd                                 string
-	Rejoin, KillApplications                 bool
+	Rejoin, KillApplications, Create         bool
 	Log                                      Level
 }
 
@@ -44,6 +44,8 @@ const usage = `grain-directory-agent runs one silo of a grain directory: it star
 messages, fences it, and serves the applications of this machine over a Unix socket.
 
 usage: grain-directory-agent --endpoint A.B.C.D:PORT --socket PATH [OPTION ..]
+
+       grain-directory-agent --create [OPTION ..]
 
 Each option may stand in a file instead, a line "name = value" each, named by --config; the command line comes first.
 `
@@ -115,6 +117,7 @@ func (c *Config) options() options {
 		text("tcp-ca", &c.TCPTLS.Authority, "with --transport=tcp: the authority that signed all agents' certificates; without, there is no TLS"),
 		text("tcp-cert", &c.TCPTLS.Certificate, "this agent's certificate, which names its address"),
 		text("tcp-key", &c.TCPTLS.Key, "its key"),
+		truth("create", &c.Create, "begin a directory of this name, with these settings, and end: once, on the command line"),
 		duration("lock-delay", &c.LockDelay, "what this agent waits beyond a TTL before it declares another silo dead"),
 		duration("silent-after", &c.SilentAfter, "who leaves questions unanswered for so long is suspected; suspected by most, it is voted out"),
 		duration("silo-timeout", &c.SiloTimeout, "the silo is given up where its process writes nothing for so long"),
@@ -188,6 +191,10 @@ func readFile(path string, flags *flag.FlagSet, given map[string]bool) error {
 		}
 		name, text, found := strings.Cut(line, "=")
 		name = strings.TrimSpace(name)
+		if name == "create" {
+			return fmt.Errorf("%s, line %d: a directory is created once, by --create on the command line: else one whose store is wiped would begin anew",
+				path, number)
+		}
 		if !found || name == "config" || flags.Lookup(name) == nil {
 			return fmt.Errorf("%s, line %d: %q is no option: --help lists them, and a line is: name = value", path, number, name)
 		}
@@ -205,10 +212,10 @@ var clusterName = regexp.MustCompile(`^[A-Za-z0-9_-]{1,64}$`)
 
 // check says what is wrong with a configuration, and what to do.
 func (c *Config) check() error {
-	if c.Endpoint == "" || c.Socket == "" {
+	if (c.Endpoint == "" || c.Socket == "") && !c.Create {
 		return errors.New("--endpoint A.B.C.D:PORT and --socket PATH are wanted; --help tells all options")
 	}
-	if err := directory.CheckEndpoint(c.Endpoint); err != nil {
+	if err := directory.CheckEndpoint(c.Endpoint); err != nil && !(c.Create && c.Endpoint == "") {
 		return fmt.Errorf("--endpoint: %w", err)
 	}
 	if !clusterName.MatchString(c.Cluster) {
@@ -255,7 +262,8 @@ func (o options) print(out io.Writer) {
 	}
 	fmt.Fprint(out, `
 SIGTERM leaves: applications are told to end their activations, and the silo is dead once nothing is held.
-Status: 0 it left; 1 it can't start or go on; 2 the command line, or a setting that differs from the directory's; 3 it was fenced, with --rejoin=false.
+Status: 0 it left; 1 it can't start or go on; 2 the command line, or a setting that differs from the directory's; 3 it was fenced, with --rejoin=false;
+4 the store forgot or changed what was decided: stop all agents, and begin another directory.
 `)
 }
 

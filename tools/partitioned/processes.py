@@ -3,7 +3,7 @@
 import os
 from pathlib import Path
 from signal import SIGCONT, SIGKILL, SIGTERM
-from subprocess import STDOUT, Popen
+from subprocess import STDOUT, Popen, run
 from time import monotonic, sleep
 
 ETCDS = ("e1", "e2", "e3")
@@ -44,13 +44,20 @@ class Processes:
         here, other = self.network.hosts[name], self.network.hosts[BROKERS[1 - BROKERS.index(name)]]
         return ["nats-server", "-a", here, "-p", "4222", "--cluster", f"nats://{here}:6222", "--cluster_name", "c", "--routes", f"nats://{other}:6222"]
 
+    def directory(self):
+        """The words that all agents share."""
+        return [self.programs["agent"], "--cluster=trial", f"--ttl={TTL}s", f"--transport={self.transport}", "--points=8",
+                "--etcd=" + ",".join(f"{self.network.hosts[one]}:2379" for one in ETCDS)]
+
+    def create(self):
+        """Begins the directory, once etcd answers."""
+        run([*self.network.inside(self.agents[0]), *self.directory(), "--create"], check=True, env=self.environment)
+
     def agent(self, name):
         hosts = self.network.hosts
-        return [self.programs["agent"], f"--endpoint={hosts[name]}:7000", f"--socket={self.socket(name)}", "--cluster=trial", f"--ttl={TTL}s",
-                f"--program={self.programs['silo']}", f"--transport={self.transport}", "--lock-delay=500ms", "--silent-after=3s",
-                "--transport-timeout=6s", "--leave-timeout=10s", "--points=8",
-                "--etcd=" + ",".join(f"{hosts[one]}:2379" for one in ETCDS), "--nats=" + ",".join(f"nats://{hosts[one]}:4222" for one in BROKERS),
-                *self.words]
+        return [*self.directory(), f"--endpoint={hosts[name]}:7000", f"--socket={self.socket(name)}",
+                f"--program={self.programs['silo']}", "--lock-delay=500ms", "--silent-after=3s", "--transport-timeout=6s", "--leave-timeout=10s",
+                "--nats=" + ",".join(f"nats://{hosts[one]}:4222" for one in BROKERS), *self.words]
 
     def socket(self, name):
         return f"{self.folder}/{name}.sock"

@@ -54,6 +54,9 @@ func (a *agent) set(m *member.Member) {
 
 // run runs until the agent is told to leave, and answers the program's status.
 func (a *agent) run(ctx context.Context) int {
+	if a.config.Create {
+		return a.create(ctx)
+	}
 	if err := silo.Check(a.config.Program, directory.At(a.config.Endpoint, 1), a.config.Settings); err != nil {
 		log.Printf("error: %v", err)
 		return cannot
@@ -99,11 +102,24 @@ func (a *agent) call() time.Duration {
 	return call
 }
 
-// agree tests the settings, as soon as the store answers.
+// agree tests the settings, as soon as the store answers and has a directory.
 func (a *agent) agree(ctx context.Context, store membership.Store) error {
-	for told := false; ; told = true {
-		calling, done := context.WithTimeout(ctx, call)
+	var complaint operation.Complaint
+	return a.ask(ctx, func(calling context.Context) error {
 		err := membership.Agree(calling, store, a.config.Settings)
+		if errors.Is(err, membership.ErrNoDirectory) && complaint.IsDue(clock.Boot()) {
+			log.Printf("error: %q at %s: %v", a.config.Cluster, a.config.StoreName(), err)
+		}
+		return err
+	})
+}
+
+// ask asks the store until it answers; a difference of the settings is an answer.
+func (a *agent) ask(ctx context.Context, question func(context.Context) error) error {
+	var complaint operation.Complaint
+	for {
+		calling, done := context.WithTimeout(ctx, call)
+		err := question(calling)
 		done()
 		var difference directory.Difference
 		if err == nil || errors.As(err, &difference) {
@@ -112,12 +128,37 @@ func (a *agent) agree(ctx context.Context, store membership.Store) error {
 		if ctx.Err() != nil {
 			return ctx.Err()
 		}
-		if !told {
-			log.Printf("warning: the store can't be reached, and is tried again: %v", err)
+		if !errors.Is(err, membership.ErrNoDirectory) && complaint.IsDue(clock.Boot()) {
+			log.Printf("warning: the store can't be reached at %s, and is tried again: %v", a.config.StoreName(), err)
 			operation.Notify("STATUS=waits for the store")
 		}
 		pause(ctx, retry)
 	}
+}
+
+// create begins a directory, if there is none of its name.
+func (a *agent) create(ctx context.Context) int {
+	store, err := a.openStore(ctx)
+	if err != nil {
+		log.Printf("error: the store: %v", err)
+		return cannot
+	}
+	defer store.Close()
+	isNew := false
+	err = a.ask(ctx, func(calling context.Context) (err error) {
+		isNew, err = membership.Create(calling, store, a.config.Settings)
+		return err
+	})
+	switch {
+	case err != nil:
+		log.Printf("error: the directory %q isn't created: %v", a.config.Cluster, err)
+		return cannot
+	case !isNew:
+		log.Printf("error: there is a directory %q at %s already, or what is left of one", a.config.Cluster, a.config.StoreName())
+		return cannot
+	}
+	log.Printf("created the directory %q at %s; its first agent waits for a TTL and a lock delay", a.config.Cluster, a.config.StoreName())
+	return left
 }
 
 // generations runs generations of the silo until it leaves.
@@ -136,7 +177,10 @@ func (a *agent) generations(ctx context.Context, sequence *membership.Sequence) 
 				return left
 			}
 			log.Printf("error: it doesn't join: %v", err)
-			if sequence.Fault() != nil || !a.config.Rejoin {
+			if isHurt(sequence) {
+				return hurt
+			}
+			if !a.config.Rejoin {
 				return cannot
 			}
 		} else {
@@ -145,8 +189,8 @@ func (a *agent) generations(ctx context.Context, sequence *membership.Sequence) 
 				operation.Notify("STATUS=has left")
 				return left
 			}
-			if sequence.Fault() != nil {
-				return cannot
+			if isHurt(sequence) {
+				return hurt
 			}
 			if !a.config.Rejoin {
 				return fenced
@@ -160,6 +204,15 @@ func (a *agent) generations(ctx context.Context, sequence *membership.Sequence) 
 		pause(ctx, wait)
 	}
 	return left
+}
+
+// isHurt says whether the store forgot or changed what was decided: then no generation may follow.
+func isHurt(sequence *membership.Sequence) bool {
+	err := sequence.Fault()
+	if err != nil {
+		log.Printf("error: %v", err)
+	}
+	return err != nil
 }
 
 // join makes the next generation.
@@ -212,15 +265,15 @@ func (a *agent) openStore(ctx context.Context) (membership.Store, error) {
 	if a.config.Postgres == "" {
 		return a.openEtcd()
 	}
-	for told := false; ; told = true {
+	for complaint := (operation.Complaint{}); ; {
 		calling, done := context.WithTimeout(ctx, call)
 		store, err := postgresstore.Open(calling, a.config.Postgres, a.config.Cluster)
 		done()
 		if err == nil {
 			return store, nil
 		}
-		if !told {
-			log.Printf("warning: PostgreSQL can't be used, and is tried again: %v", err)
+		if complaint.IsDue(clock.Boot()) {
+			log.Printf("warning: PostgreSQL can't be used at %s, and is tried again: %v", a.config.StoreName(), err)
 			operation.Notify("STATUS=waits for the store")
 		}
 		if pause(ctx, retry); ctx.Err() != nil {

@@ -40,6 +40,7 @@ type cluster struct {
 	folder, etcd, nats string
 	ports              map[int]int
 	https              map[int]int
+	isCreated          bool     // the directory, or nobody is to create it
 	within             []string // the words in front of an agent's, as of unshare
 }
 
@@ -67,9 +68,13 @@ func (c *cluster) agent(number int, words ...string) *process {
 		c.ports[number], c.https[number] = servers.Port(c), servers.Port(c)
 	}
 	p := &process{T: c.T, socket: filepath.Join(c.folder, fmt.Sprintf("s%d", number)), http: fmt.Sprintf("127.0.0.1:%d", c.https[number])}
-	all := append(append([]string{}, c.within...), os.Args[0])
-	p.command = exec.Command(all[0], append(all[1:], append([]string{fmt.Sprintf("--endpoint=127.0.0.1:%d", c.ports[number]), "--socket=" + p.socket, "--etcd=" + c.etcd,
-		"--nats=" + c.nats, "--program=" + os.Getenv("SILO_PROGRAM"), "--ttl=2s", "--lock-delay=200ms", "--points=4", "--http=" + p.http}, words...)...)...)
+	words = append([]string{fmt.Sprintf("--endpoint=127.0.0.1:%d", c.ports[number]), "--socket=" + p.socket, "--etcd=" + c.etcd,
+		"--nats=" + c.nats, "--program=" + os.Getenv("SILO_PROGRAM"), "--ttl=2s", "--lock-delay=200ms", "--points=4", "--http=" + p.http}, words...)
+	if !c.isCreated {
+		c.create(words...)
+	}
+	all := append(append(append([]string{}, c.within...), os.Args[0]), words...)
+	p.command = exec.Command(all[0], all[1:]...)
 	p.command.Env = append(os.Environ(), "AS_AGENT=1")
 	p.command.SysProcAttr = &syscall.SysProcAttr{Setpgid: true}
 	out, err := p.command.StderrPipe()
@@ -99,6 +104,17 @@ func (c *cluster) agent(number int, words ...string) *process {
 		}
 	})
 	return p
+}
+
+// create begins the directory, as its operator does once.
+func (c *cluster) create(words ...string) {
+	c.Helper()
+	command := exec.Command(os.Args[0], append(words, "--create")...)
+	command.Env = append(os.Environ(), "AS_AGENT=1")
+	if said, err := command.CombinedOutput(); err != nil {
+		c.Fatalf("the directory isn't created: %v: %s", err, said)
+	}
+	c.isCreated = true
 }
 
 // says waits until the agent logs something.
@@ -286,7 +302,7 @@ func TestNoStore(t *testing.T) {
 	if os.Getenv("SILO_PROGRAM") == "" {
 		t.Skip("SILO_PROGRAM names no silo's program")
 	}
-	c := &cluster{T: t, folder: t.TempDir(), etcd: "127.0.0.1:1", nats: "nats://127.0.0.1:1", ports: map[int]int{}, https: map[int]int{}}
+	c := &cluster{T: t, folder: t.TempDir(), etcd: "127.0.0.1:1", nats: "nats://127.0.0.1:1", isCreated: true, ports: map[int]int{}, https: map[int]int{}}
 	one := c.agent(1)
 	one.says("the store can't be reached", 1)
 	one.command.Process.Signal(syscall.SIGTERM)

@@ -21,6 +21,7 @@ const (
 	cannot   = 1
 	mistaken = 2
 	fenced   = 3
+	hurt     = 4
 )
 
 func main() {

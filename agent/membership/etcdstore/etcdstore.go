@@ -126,7 +126,7 @@ func (s *Store) watch(ctx context.Context, client *clientv3.Client, after member
 }
 
 // Commit implements membership.Store.
-func (s *Store) Commit(ctx context.Context, transaction membership.Transaction) (bool, error) {
+func (s *Store) Commit(ctx context.Context, transaction membership.Transaction) (made bool, at membership.Revision, err error) {
 	var conditions []clientv3.Cmp
 	for _, condition := range transaction.If {
 		key := s.prefix + condition.Key
@@ -138,6 +138,9 @@ func (s *Store) Commit(ctx context.Context, transaction membership.Transaction) 
 		default:
 			conditions = append(conditions, clientv3.Compare(clientv3.ModRevision(key), "=", int64(condition.Revision)))
 		}
+		if condition.Value != "" {
+			conditions = append(conditions, clientv3.Compare(clientv3.Value(key), "=", condition.Value))
+		}
 	}
 	var then []clientv3.Op
 	for _, key := range transaction.Delete {
@@ -146,13 +149,14 @@ func (s *Store) Commit(ctx context.Context, transaction membership.Transaction) 
 	for _, put := range transaction.Put {
 		then = append(then, clientv3.OpPut(s.prefix+put.Key, put.Value))
 	}
-	var made bool
-	err := s.on(func(client *clientv3.Client) error {
+	err = s.on(func(client *clientv3.Client) error {
 		answer, err := client.Txn(ctx).If(conditions...).Then(then...).Commit()
-		made = err == nil && answer.Succeeded
+		if err == nil {
+			made, at = answer.Succeeded, membership.Revision(answer.Header.Revision)
+		}
 		return err
 	})
-	return made, err
+	return made, at, err
 }
 
 // Close implements membership.Store.

@@ -59,7 +59,7 @@ func TestServerStandsStill(t *testing.T) {
 	commit := func() bool {
 		ctx, cancel := context.WithTimeout(context.Background(), 500*time.Millisecond)
 		defer cancel()
-		made, err := store.Commit(ctx, membership.Transaction{Put: []membership.Entry{{Key: "beat/s", Value: "on"}}})
+		made, _, err := store.Commit(ctx, membership.Transaction{Put: []membership.Entry{{Key: "beat/s", Value: "on"}}})
 		return made && err == nil
 	}
 	for i := 0; !commit(); i++ {

@@ -61,6 +61,18 @@ func (s *Store) Compact() {
 	s.some.Broadcast()
 }
 
+// Copy is a copy of what stands here now, as from a backup.
+func (s *Store) Copy() *Store {
+	s.mu.Lock()
+	defer s.mu.Unlock()
+	other := New()
+	other.revision, other.compacted = s.revision, s.revision
+	for key, entry := range s.entries {
+		other.entries[key] = entry
+	}
+	return other
+}
+
 // Read implements membership.Store.
 func (s *Store) Read(ctx context.Context, prefix string) ([]membership.Entry, membership.Revision, error) {
 	if err := s.fault(ctx, "read"); err != nil {
@@ -122,9 +134,9 @@ func (s *Store) Watch(ctx context.Context, after membership.Revision, tell func(
 }
 
 // Commit implements membership.Store.
-func (s *Store) Commit(ctx context.Context, transaction membership.Transaction) (bool, error) {
+func (s *Store) Commit(ctx context.Context, transaction membership.Transaction) (bool, membership.Revision, error) {
 	if err := s.fault(ctx, "commit"); err != nil {
-		return false, err
+		return false, 0, err
 	}
 	s.mu.Lock()
 	defer s.mu.Unlock()
@@ -137,8 +149,8 @@ func (s *Store) Commit(ctx context.Context, transaction membership.Transaction) 
 		case membership.Present:
 			holds = isThere
 		}
-		if !holds {
-			return false, nil
+		if !holds || condition.Value != "" && entry.Value != condition.Value {
+			return false, s.revision, nil
 		}
 	}
 	s.revision++
@@ -154,7 +166,7 @@ func (s *Store) Commit(ctx context.Context, transaction membership.Transaction) 
 		s.events = append(s.events, membership.Event{Entry: put})
 	}
 	s.some.Broadcast()
-	return true, nil
+	return true, s.revision, nil
 }
 
 // Close implements membership.Store.

@@ -102,8 +102,7 @@ func (s *Store) read(ctx context.Context, prefix string) (entries []membership.E
 		return nil, 0, err
 	}
 	defer tx.Rollback()
-	row := tx.QueryRowContext(ctx, `SELECT coalesce(max(revision), 0) FROM grain_directory_revision_of WHERE directory = $1`, s.directory)
-	if err := row.Scan(&at); err != nil {
+	if at, err = s.revision(ctx, tx, nil); err != nil {
 		return nil, 0, err
 	}
 	rows, err := tx.QueryContext(ctx, `SELECT key, value, revision FROM grain_directory WHERE directory = $1 AND starts_with(key, $2) AND value IS NOT NULL
@@ -168,30 +167,52 @@ func (s *Store) since(ctx context.Context, after membership.Revision) (events []
 
 var errUnmet = errors.New("a condition doesn't hold")
 
-// Commit implements membership.Store.
-func (s *Store) Commit(ctx context.Context, transaction membership.Transaction) (bool, error) {
-	return bounded(ctx, func() (bool, error) { return s.commit(ctx, transaction) })
+// outcomeOf is what a Commit gives.
+type outcomeOf struct {
+	made bool
+	at   membership.Revision
 }
 
-func (s *Store) commit(ctx context.Context, transaction membership.Transaction) (bool, error) {
-	err := s.in(ctx, func(tx *sql.Tx) error {
+// Commit implements membership.Store.
+func (s *Store) Commit(ctx context.Context, transaction membership.Transaction) (bool, membership.Revision, error) {
+	done, err := bounded(ctx, func() (outcomeOf, error) { return s.commit(ctx, transaction) })
+	return done.made, done.at, err
+}
+
+func (s *Store) commit(ctx context.Context, transaction membership.Transaction) (done outcomeOf, err error) {
+	err = s.in(ctx, func(tx *sql.Tx) error {
 		for _, condition := range transaction.If {
 			if err := s.test(ctx, tx, condition); err != nil {
+				if errors.Is(err, errUnmet) {
+					done.at, err = s.revision(ctx, tx, err)
+				}
 				return err
 			}
 		}
-		return s.write(ctx, tx, transaction)
+		done.at, err = s.write(ctx, tx, transaction)
+		return err
 	})
 	if errors.Is(err, errUnmet) {
-		return false, nil
+		return done, nil
 	}
-	return err == nil, err
+	done.made = err == nil
+	return done, err
+}
+
+// revision is the last one, beside a fault.
+func (s *Store) revision(ctx context.Context, tx *sql.Tx, fault error) (at membership.Revision, err error) {
+	row := tx.QueryRowContext(ctx, `SELECT coalesce(max(revision), 0) FROM grain_directory_revision_of WHERE directory = $1`, s.directory)
+	if err := row.Scan(&at); err != nil {
+		return 0, err
+	}
+	return at, fault
 }
 
 func (s *Store) test(ctx context.Context, tx *sql.Tx, condition membership.Condition) error {
 	var revision membership.Revision
-	err := tx.QueryRowContext(ctx, `SELECT revision FROM grain_directory WHERE directory = $1 AND key = $2 AND value IS NOT NULL`, s.directory,
-		condition.Key).Scan(&revision)
+	var value string
+	err := tx.QueryRowContext(ctx, `SELECT revision, value FROM grain_directory WHERE directory = $1 AND key = $2 AND value IS NOT NULL`, s.directory,
+		condition.Key).Scan(&revision, &value)
 	isThere := err == nil
 	if err != nil && !errors.Is(err, sql.ErrNoRows) {
 		return err
@@ -203,34 +224,33 @@ func (s *Store) test(ctx context.Context, tx *sql.Tx, condition membership.Condi
 	case membership.Present:
 		holds = isThere
 	}
-	if !holds {
+	if !holds || condition.Value != "" && value != condition.Value {
 		return errUnmet
 	}
 	return nil
 }
 
-func (s *Store) write(ctx context.Context, tx *sql.Tx, transaction membership.Transaction) error {
-	var revision int64
+func (s *Store) write(ctx context.Context, tx *sql.Tx, transaction membership.Transaction) (revision membership.Revision, err error) {
 	if err := tx.QueryRowContext(ctx, `INSERT INTO grain_directory_revision_of VALUES ($1, 1)
 		ON CONFLICT (directory) DO UPDATE SET revision = grain_directory_revision_of.revision + 1 RETURNING revision`, s.directory).Scan(&revision); err != nil {
-		return err
+		return 0, err
 	}
 	for _, key := range transaction.Delete {
 		if _, err := tx.ExecContext(ctx, `UPDATE grain_directory SET value = NULL, revision = $3 WHERE directory = $1 AND key = $2 AND value IS NOT NULL`,
 			s.directory, key, revision); err != nil {
-			return err
+			return 0, err
 		}
 	}
 	for _, put := range transaction.Put {
 		if strings.IndexByte(put.Value, 0) >= 0 {
-			return fmt.Errorf("%s has a value that PostgreSQL doesn't take", put.Key)
+			return 0, fmt.Errorf("%s has a value that PostgreSQL doesn't take", put.Key)
 		}
 		if _, err := tx.ExecContext(ctx, `INSERT INTO grain_directory VALUES ($1, $2, $3, $4)
 			ON CONFLICT (directory, key) DO UPDATE SET value = excluded.value, revision = excluded.revision`, s.directory, put.Key, put.Value, revision); err != nil {
-			return err
+			return 0, err
 		}
 	}
-	return nil
+	return revision, nil
 }
 
 // Close implements membership.Store.

@@ -41,7 +41,7 @@ func TestServerStandsStill(t *testing.T) {
 	call := func() error {
 		calling, done := context.WithTimeout(ctx, 200*time.Millisecond)
 		defer done()
-		_, err := store.Commit(calling, membership.Transaction{Put: []membership.Entry{{Key: "beat/s", Value: "on"}}})
+		_, _, err := store.Commit(calling, membership.Transaction{Put: []membership.Entry{{Key: "beat/s", Value: "on"}}})
 		return err
 	}
 	if err := call(); err != nil {

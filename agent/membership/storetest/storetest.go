@@ -46,10 +46,13 @@ func keys(t *testing.T, store membership.Store, ctx context.Context, prefix stri
 }
 
 func transactions(ctx context.Context, t *testing.T, store membership.Store) {
+	var last membership.Revision // of the answers, which never falls
 	commit := func(made bool, transaction membership.Transaction) {
 		t.Helper()
-		if got, err := store.Commit(ctx, transaction); err != nil || got != made {
-			t.Fatalf("%+v: %v, %v", transaction, got, err)
+		if got, at, err := store.Commit(ctx, transaction); err != nil || got != made || at < last {
+			t.Fatalf("%+v: %v at %d, %v", transaction, got, at, err)
+		} else {
+			last = at
 		}
 	}
 	absent, present := membership.Absent, membership.Present
@@ -64,8 +67,12 @@ func transactions(ctx context.Context, t *testing.T, store membership.Store) {
 	commit(true, membership.Transaction{If: []membership.Condition{{Key: "a", Revision: before[0].Revision}}, Put: put("a")})
 	commit(false, membership.Transaction{If: []membership.Condition{{Key: "a", Revision: before[0].Revision}}, Put: put("e")})
 	after, _, err := store.Read(ctx, "a")
-	if err != nil || len(after) != 1 || after[0].Revision <= before[0].Revision {
+	if err != nil || len(after) != 1 || after[0].Revision != last || after[0].Revision <= before[0].Revision {
 		t.Fatalf("%+v, %v", after, err)
+	}
+	for value, made := range map[string]bool{"another": false, "value of a": true} {
+		commit(made, membership.Transaction{If: []membership.Condition{{Key: "a", Revision: after[0].Revision, Value: value}}, Put: put("c")})
+		commit(made, membership.Transaction{If: []membership.Condition{{Key: "a", Revision: present, Value: value}}, Put: put("c")})
 	}
 	commit(true, membership.Transaction{If: []membership.Condition{{Key: "a", Revision: present}}, Put: put("b/1", "b/2"), Delete: []string{"a", "nothing"}})
 	commit(false, membership.Transaction{If: []membership.Condition{{Key: "a", Revision: after[0].Revision}}})
@@ -88,7 +95,7 @@ func oneOfMany(ctx context.Context, t *testing.T, store membership.Store) {
 			defer wait.Done()
 			var err error
 			for {
-				made[i], err = store.Commit(ctx, membership.Transaction{If: []membership.Condition{{Key: "k"}},
+				made[i], _, err = store.Commit(ctx, membership.Transaction{If: []membership.Condition{{Key: "k"}},
 					Put: []membership.Entry{{Key: "k", Value: fmt.Sprint(i)}}})
 				if err == nil {
 					return
@@ -112,7 +119,7 @@ func oneOfMany(ctx context.Context, t *testing.T, store membership.Store) {
 func watch(ctx context.Context, t *testing.T, store membership.Store, compact func(t *testing.T)) {
 	commit := func(transaction membership.Transaction) {
 		t.Helper()
-		if made, err := store.Commit(ctx, transaction); !made || err != nil {
+		if made, _, err := store.Commit(ctx, transaction); !made || err != nil {
 			t.Fatal(made, err)
 		}
 	}
@@ -176,13 +183,13 @@ func watch(ctx context.Context, t *testing.T, store membership.Store, compact fu
 }
 
 func apart(ctx context.Context, t *testing.T, one, other membership.Store) {
-	if _, err := one.Commit(ctx, membership.Transaction{Put: put("k")}); err != nil {
+	if _, _, err := one.Commit(ctx, membership.Transaction{Put: put("k")}); err != nil {
 		t.Fatal(err)
 	}
 	if got := keys(t, other, ctx, ""); len(got) != 0 {
 		t.Errorf("%q is in another directory", got)
 	}
-	if made, err := other.Commit(ctx, membership.Transaction{If: []membership.Condition{{Key: "k"}}, Put: put("k", "l")}); !made || err != nil {
+	if made, _, err := other.Commit(ctx, membership.Transaction{If: []membership.Condition{{Key: "k"}}, Put: put("k", "l")}); !made || err != nil {
 		t.Error(made, err)
 	}
 	if got := keys(t, one, ctx, ""); !reflect.DeepEqual(got, []string{"k"}) {
