@@ -465,7 +465,7 @@ func (m *Member) isUpElsewhere(reports map[directory.Silo]peers.Report) bool {
 	return false
 }
 
-// vote ends the beat of a member that most don't hear.
+// vote ends the beat of a member that most don't hear, this one among them, though it beats on.
 func (m *Member) vote(members []directory.Silo, reports map[directory.Silo]peers.Report) {
 	suspicions := map[directory.Silo][]directory.Silo{}
 	for silo, report := range reports {
@@ -474,7 +474,8 @@ func (m *Member) vote(members []directory.Silo, reports map[directory.Silo]peers
 		}
 	}
 	out := peers.VotedOut(members, suspicions)
-	if out == "" || !m.fence.May() || !m.options.Sequence.HasBeat(out) {
+	since, isSilent := m.silence.Since(out)
+	if out == "" || !m.fence.May() || !isSilent || !peers.Beats(since, m.options.Sequence.BeatSeen(out), m.options.Config.Settings.TTL) {
 		return
 	}
 	if err := m.options.Sequence.VoteOut(m.ctx, out); err != nil {

@@ -51,6 +51,18 @@ func (s *Silence) Forget() {
 	s.since = map[directory.Silo]clock.Time{}
 }
 
+// Since is since when a silo has left questions unanswered, if it has.
+func (s *Silence) Since(silo directory.Silo) (since clock.Time, isSilent bool) {
+	s.mu.Lock()
+	defer s.mu.Unlock()
+	since, isSilent = s.since[silo]
+	return since, isSilent
+}
+
+// Beats says whether a silo that has been silent since then has beaten well after that. One that hasn't may be dead, and is waited for already: to end
+// its beat would have that waiting begin anew. A beat comes each tenth of a TTL, and may be seen late by as much.
+func Beats(silent, seen clock.Time, ttl time.Duration) bool { return seen.Sub(silent) > ttl/10 }
+
 // Suspects are the members that have been silent for so long. Who hears nothing from half of the members or more suspects nobody: itself or the
 // transport is at fault, and an outage of that must not end everybody.
 func (s *Silence) Suspects(long time.Duration, members []directory.Silo) (silent []directory.Silo) {

@@ -12,6 +12,16 @@ import (
 
 const a, b, c, d = directory.Silo("a"), directory.Silo("b"), directory.Silo("c"), directory.Silo("d")
 
+// Who beat when its silence began, or was seen to a moment later, may be dead; who beats on isn't.
+func TestBeats(t *testing.T) {
+	const ttl = 10 * time.Second
+	for seen, expected := range map[clock.Time]bool{0: false, 100: false, clock.Time(100 + time.Second): false, clock.Time(101 + time.Second): true} {
+		if Beats(100, seen, ttl) != expected {
+			t.Errorf("silent since 100, seen to beat at %d", seen)
+		}
+	}
+}
+
 func TestSilence(t *testing.T) {
 	var at clock.Time
 	s := New(func() clock.Time { return at })
