@@ -47,6 +47,7 @@ func (m *Member) Metrics(out io.Writer) {
 	page.Counter("lost_total", "what was lost here, since too much waited or the transport was down", float64(carried.MessagesLost), "what", "messages")
 	page.Counter("lost_total", "", float64(carried.PartsLost), "what", "parts")
 	page.Counter("lost_total", "", float64(letters.LettersLost), "what", "letters to a slow silo")
+	page.Counter("lost_total", "", float64(carried.Forged), "what", "letters that are from others than they say, or have numbers that can't be")
 	page.Counter("silo_faults_total", "letters that the silo refused or could not read", float64(letters.Faults))
 	page.Gauge("silo_pending_bytes", "bytes that wait for the silo", float64(m.silo.Pending()))
 	page.Gauge("transport_up", "whether the transport is connected", truth(m.post.Up()))

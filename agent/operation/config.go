@@ -34,6 +34,7 @@ type Config struct {
 	TransportTimeout, LeaveTimeout           time.Duration
 	AfterEnd                                 string
 	Rejoin, KillApplications, Create         bool
+	TCPPlain                                 bool // without TLS
 	Log                                      Level
 }
 
@@ -114,9 +115,10 @@ func (c *Config) options() options {
 		text("nats-ca", &c.NatsTLS.Authority, "the authority that signed NATS's certificate"),
 		text("nats-cert", &c.NatsTLS.Certificate, "this agent's certificate for NATS"),
 		text("nats-key", &c.NatsTLS.Key, "its key"),
-		text("tcp-ca", &c.TCPTLS.Authority, "with --transport=tcp: the authority that signed all agents' certificates; without, there is no TLS"),
-		text("tcp-cert", &c.TCPTLS.Certificate, "this agent's certificate, which names its address"),
+		text("tcp-ca", &c.TCPTLS.Authority, "with --transport=tcp: the authority that signed all agents' certificates"),
+		text("tcp-cert", &c.TCPTLS.Certificate, "this agent's certificate, which names its address, or its endpoint by grain-directory://A.B.C.D:PORT"),
 		text("tcp-key", &c.TCPTLS.Key, "its key"),
+		truth("tcp-plain", &c.TCPPlain, "without certificates: whoever reaches an agent's endpoint can make two activations of a grain"),
 		truth("create", &c.Create, "begin a directory of this name, with these settings, and end: once, on the command line"),
 		duration("lock-delay", &c.LockDelay, "what this agent waits beyond a TTL before it declares another silo dead"),
 		duration("silent-after", &c.SilentAfter, "who leaves questions unanswered for so long is suspected; suspected by most, it is voted out"),
@@ -244,6 +246,9 @@ func (c *Config) check() error {
 	}
 	if c.TCPTLS.Authority != "" && c.TCPTLS.Certificate == "" || c.TCPTLS.Authority == "" && c.TCPTLS.Certificate != "" {
 		return errors.New("--tcp-ca, --tcp-cert and --tcp-key belong together: both ends of each connection show a certificate")
+	}
+	if c.Settings.Transport == "tcp" && c.TCPTLS.Authority == "" && !c.TCPPlain && !c.Create {
+		return errors.New("--transport=tcp wants --tcp-ca, --tcp-cert and --tcp-key; or --tcp-plain, on a network that no stranger reaches")
 	}
 	return nil
 }

@@ -57,6 +57,9 @@ func newParts() parts { return parts{letters: map[string]*partial{}} }
 // take takes a part, and gives the letter that is whole by it, or nil; lost says that a letter was given up.
 func (p *parts) take(data []byte) (line []byte, lost bool) {
 	head, rest, found := bytes.Cut(data, []byte("\n"))
+	if len(head) > headRoom { // so that what is kept of a sender is counted
+		return nil, true
+	}
 	var sender string
 	var number uint64
 	var index, count, size int
@@ -73,6 +76,9 @@ func (p *parts) take(data []byte) (line []byte, lost bool) {
 		if index != 0 {
 			return nil, true
 		}
+		if _, err := directory.ReadSilo(sender); err != nil {
+			return nil, true
+		}
 		letter = &partial{number: number, count: count, size: size}
 		p.letters[sender] = letter
 		p.size += besides
@@ -86,7 +92,7 @@ func (p *parts) take(data []byte) (line []byte, lost bool) {
 	p.size += len(rest)
 	if letter.next == count {
 		p.drop(sender)
-		if len(letter.bytes) != size {
+		if len(letter.bytes) != size || !bytes.HasPrefix(letter.bytes, []byte("letter "+sender+" ")) {
 			return nil, true
 		}
 		return letter.bytes, lost

@@ -8,9 +8,11 @@ package transport
 
 import (
 	"bytes"
+	"log"
 	"sync"
 	"sync/atomic"
 
+	"agent/clock"
 	"agent/directory"
 	"agent/planted"
 )
@@ -42,8 +44,11 @@ type Line interface {
 	Close()
 }
 
-// Receiver takes what carriers bring. It may be called by several goroutines, and doesn't wait.
-type Receiver func(message []byte)
+// Receiver takes what carriers bring, and from whom. It may be called by several goroutines, and doesn't wait.
+type Receiver func(message []byte, sender Sender)
+
+// Sender says whether who sent a message may carry letters from an endpoint. nil: that isn't known, and who reaches the carrier may carry any.
+type Sender func(endpoint string) bool
 
 // Listener hears of letters.
 type Listener interface {
@@ -56,7 +61,7 @@ type Listener interface {
 }
 
 // Counts are what was carried so far.
-type Counts struct{ Sent, Received, BytesSent, BytesReceived, MessagesLost, Cut, PartsLost int64 }
+type Counts struct{ Sent, Received, BytesSent, BytesReceived, MessagesLost, Cut, PartsLost, Forged int64 }
 
 // Post carries the letters of one silo.
 type Post struct {
@@ -74,8 +79,10 @@ type Post struct {
 	ended  chan struct{}
 	once   sync.Once
 
-	mu    sync.Mutex
-	parts parts
+	mu        sync.Mutex
+	parts     parts
+	numbers   numbers
+	complains sync.Once
 }
 
 type message struct {
@@ -127,7 +134,8 @@ func (p *Post) Up() bool { return p.carrier != nil && p.carrier.Up() }
 func (p *Post) Counts() Counts {
 	load := func(count *int64) int64 { return atomic.LoadInt64(count) }
 	c := &p.counts
-	return Counts{load(&c.Sent), load(&c.Received), load(&c.BytesSent), load(&c.BytesReceived), load(&c.MessagesLost), load(&c.Cut), load(&c.PartsLost)}
+	return Counts{load(&c.Sent), load(&c.Received), load(&c.BytesSent), load(&c.BytesReceived), load(&c.MessagesLost), load(&c.Cut), load(&c.PartsLost),
+		load(&c.Forged)}
 }
 
 func (p *Post) most() int {
@@ -190,8 +198,9 @@ func (p *Post) publish(to directory.Silo, data []byte) {
 	atomic.AddInt64(&p.counts.MessagesLost, 1)
 }
 
-// Take is the post's Receiver. Letters to this silo go on, and nothing else: a stranger's command would be obeyed.
-func (p *Post) Take(data []byte) {
+// Take is the post's Receiver. Letters to this silo go on, from silos whose letters the sender may carry, and nothing else: a stranger's command
+// would be obeyed.
+func (p *Post) Take(data []byte, sender Sender) {
 	atomic.AddInt64(&p.counts.BytesReceived, int64(len(data)))
 	switch {
 	case len(data) == 0:
@@ -203,7 +212,7 @@ func (p *Post) Take(data []byte) {
 			} else {
 				rest = nil
 			}
-			p.deliver(line)
+			p.deliver(line, sender)
 		}
 	case data[0] == 'P':
 		p.mu.Lock()
@@ -213,17 +222,35 @@ func (p *Post) Take(data []byte) {
 			atomic.AddInt64(&p.counts.PartsLost, 1)
 		}
 		if line != nil {
-			p.deliver(line)
+			p.deliver(line, sender)
 		}
 	}
 }
 
-func (p *Post) deliver(line []byte) {
-	words := bytes.SplitN(line, []byte(" "), 4)
-	if len(words) < 4 || string(words[0]) != "letter" || string(words[2]) != string(p.me) || bytes.IndexByte(line, '\n') >= 0 {
+func (p *Post) deliver(line []byte, sender Sender) {
+	words := bytes.SplitN(line, []byte(" "), 7) // letter FROM TO VERSION KIND NUMBER ..
+	if len(words) < 5 || string(words[0]) != "letter" || string(words[2]) != string(p.me) || bytes.IndexByte(line, '\n') >= 0 {
+		return
+	}
+	from, err := directory.ReadSilo(string(words[1]))
+	if err != nil || sender != nil && !sender(from.Endpoint()) || len(words) > 5 && !p.mayCome(from, words[4], words[5]) {
+		p.forged(string(words[1]))
 		return
 	}
 	atomic.AddInt64(&p.counts.Received, 1)
-	p.listener.Heard(directory.Silo(words[1]))
+	p.listener.Heard(from)
 	p.listener.Receive(line)
+}
+
+// mayCome says whether a request may have its number.
+func (p *Post) mayCome(from directory.Silo, kind, word []byte) bool {
+	number, isNumbered := numberOf(kind, word)
+	return !isNumbered || p.numbers.takes(from, number, clock.Boot())
+}
+
+func (p *Post) forged(from string) {
+	atomic.AddInt64(&p.counts.Forged, 1)
+	p.complains.Do(func() {
+		log.Printf("warning: a letter came that says it is from %.64q, and isn't, or has a number that can't be: it is lost, and others like it", from)
+	})
 }

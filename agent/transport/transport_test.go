@@ -70,7 +70,7 @@ func (w *wire) Publish(to directory.Silo, message []byte) error {
 		return fmt.Errorf("%d bytes are too many", len(message))
 	}
 	if w.lose == nil || !w.lose(w.messages) {
-		w.to[to].Take(message)
+		w.to[to].Take(message, nil)
 	}
 	return nil
 }
@@ -149,20 +149,20 @@ func TestPartsOfTwo(t *testing.T) {
 	e := newEar()
 	p := New(c, yes, e)
 	for i := range ones {
-		p.Take(ones[i])
-		p.Take(others[i])
+		p.Take(ones[i], nil)
+		p.Take(others[i], nil)
 	}
 	e.has(t, first, second)
 	third, fourth := cut(a, 2, []byte(letter(a, c, 2, 900)), 400), cut(a, 3, []byte(letter(a, c, 3, 900)), 400)
 	for _, order := range [][]int{{0, 1, 12, 0}, {0, 11, 2}, {10, 1, 2}, {0, 1, 11, 12}, {0, 0, 1, 1, 2, 2}, {2, 1, 0}} {
 		for _, index := range order {
 			if index >= 10 {
-				p.Take(fourth[index-10])
+				p.Take(fourth[index-10], nil)
 			} else {
-				p.Take(third[index])
+				p.Take(third[index], nil)
 			}
 		}
-		p.Take(cut(a, 9, []byte(letter(a, c, 9, 900)), 400)[0]) // whatever is under way ends
+		p.Take(cut(a, 9, []byte(letter(a, c, 9, 900)), 400)[0], nil) // whatever is under way ends
 	}
 	e.has(t, first, second)
 	if p.Counts().PartsLost == 0 || p.parts.size > 400+besides {
@@ -177,7 +177,7 @@ func TestStrangers(t *testing.T) {
 	for _, message := range []string{"", "L", "X", "Lwake user/eve", "L\n\n", "Lletter " + string(b) + " " + string(c) + " 1 nothing 1", "P", "P\n", "Px 1 0 1 5\nab",
 		"Px 1 -1 1 2\nab", "Px 1 1 1 2\nab", "Px 1 0 0 2\nab", "Px 1 0 1 99999999999\nab", "Px 1 0 2 1\nab", "Px 1 0 1 2\nab", "Px 1 0 1 5\na\nb\nc",
 		"Px 1 0 1 56\nletter " + string(b) + " " + string(a) + " 1 nothing 1\nwake x/y"} {
-		p.Take([]byte(message))
+		p.Take([]byte(message), nil)
 	}
 	e.has(t)
 	if p.parts.size != 0 {

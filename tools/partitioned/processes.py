@@ -57,6 +57,7 @@ class Processes:
         hosts = self.network.hosts
         return [*self.directory(), f"--endpoint={hosts[name]}:7000", f"--socket={self.socket(name)}",
                 f"--program={self.programs['silo']}", "--lock-delay=500ms", "--silent-after=3s", "--transport-timeout=6s", "--leave-timeout=10s",
+                "--tcp-plain",
                 "--nats=" + ",".join(f"nats://{hosts[one]}:4222" for one in BROKERS), *self.words]
 
     def socket(self, name):

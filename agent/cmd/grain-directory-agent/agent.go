@@ -61,6 +61,9 @@ func (a *agent) run(ctx context.Context) int {
 		log.Printf("error: %v", err)
 		return cannot
 	}
+	if a.config.Settings.Transport == "tcp" && a.config.TCPTLS.Authority == "" {
+		log.Printf("warning: letters go without certificates: whoever reaches %s can forge them, and make two activations of a grain", a.config.Endpoint)
+	}
 	store, err := a.openStore(ctx)
 	if ctx.Err() != nil {
 		return left

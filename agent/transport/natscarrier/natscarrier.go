@@ -66,7 +66,7 @@ func Open(options Options) (*Line, error) {
 
 // Carry takes the messages to a silo.
 func (l *Line) Carry(me directory.Silo, take transport.Receiver) (transport.Carrier, error) {
-	subscription, err := l.conn.Subscribe(l.prefix+string(me), func(m *nats.Msg) { take(m.Data) })
+	subscription, err := l.conn.Subscribe(l.prefix+string(me), func(m *nats.Msg) { take(m.Data, nil) })
 	if err == nil {
 		err = subscription.SetPendingLimits(-1, mostWaiting)
 	}

@@ -1,6 +1,6 @@
 // Package tcpcarrier carries messages from agent to agent over TCP, without a broker: who has letters for a silo connects to its endpoint. With
-// certificates both ends show one that the same authority signed, and that of the called names its address. A message is its length in four bytes,
-// and its bytes. What a connection that breaks has under way is lost.
+// certificates both ends show one that the same authority signed. That of the called names its address, and that of the caller those from which it may
+// carry letters. A message is its length in four bytes, and its bytes. What a connection that breaks has under way is lost.
 package tcpcarrier
 
 import (
@@ -49,7 +49,7 @@ type Line struct {
 
 	mu       sync.Mutex
 	peers    map[directory.Silo]chan []byte
-	incoming map[net.Conn]bool
+	incoming map[net.Conn]time.Time // since when nothing came
 }
 
 // Open listens at an endpoint. certificates has what both ends of each connection show and want; nil is for networks that no stranger reaches.
@@ -59,7 +59,7 @@ func Open(endpoint string, certificates *tls.Config) (*Line, error) {
 		return nil, fmt.Errorf("letters over TCP come in at the silo's own endpoint: %w", err)
 	}
 	ctx, stop := context.WithCancel(context.Background())
-	return &Line{listener: listener, tls: certificates, ctx: ctx, stop: stop, peers: map[directory.Silo]chan []byte{}, incoming: map[net.Conn]bool{}}, nil
+	return &Line{listener: listener, tls: certificates, ctx: ctx, stop: stop, peers: map[directory.Silo]chan []byte{}, incoming: map[net.Conn]time.Time{}}, nil
 }
 
 // Carry takes what comes in.
@@ -108,15 +108,34 @@ func (c *Line) accept(take transport.Receiver) {
 	}
 }
 
-// note keeps an incoming connection, if there aren't too many.
+// note keeps an incoming connection. Where there are too many, the one that has been idle for longest goes.
 func (c *Line) note(conn net.Conn) bool {
 	c.mu.Lock()
 	defer c.mu.Unlock()
-	if len(c.incoming) >= mostIncoming || c.ctx.Err() != nil {
+	if c.ctx.Err() != nil {
 		return false
 	}
-	c.incoming[conn] = true
+	if len(c.incoming) >= mostIncoming {
+		var oldest net.Conn
+		for one, since := range c.incoming {
+			if oldest == nil || since.Before(c.incoming[oldest]) {
+				oldest = one
+			}
+		}
+		oldest.Close()
+		delete(c.incoming, oldest)
+	}
+	c.incoming[conn] = time.Now()
 	return true
+}
+
+// came notes that a message came.
+func (c *Line) came(conn net.Conn) {
+	c.mu.Lock()
+	defer c.mu.Unlock()
+	if _, isThere := c.incoming[conn]; isThere {
+		c.incoming[conn] = time.Now()
+	}
 }
 
 func (c *Line) forget(conn net.Conn) {
@@ -128,7 +147,7 @@ func (c *Line) forget(conn net.Conn) {
 
 // serve takes the messages of a connection that came in.
 func (c *Line) serve(raw net.Conn, take transport.Receiver) error {
-	conn := raw
+	conn, sender := raw, transport.Sender(nil)
 	if c.tls != nil {
 		secure := tls.Server(raw, c.tls)
 		raw.SetDeadline(time.Now().Add(patience))
@@ -137,14 +156,16 @@ func (c *Line) serve(raw net.Conn, take transport.Receiver) error {
 			return err
 		}
 		raw.SetDeadline(time.Time{})
-		conn = secure
+		conn, sender = secure, named(secure.ConnectionState().PeerCertificates[0])
 	}
 	reader := bufio.NewReaderSize(conn, 64<<10)
-	for {
+	for wait := patience; ; wait = 2 * idle { // who connects has something to say, and hangs up when it has been idle
 		var size [4]byte
+		raw.SetReadDeadline(time.Now().Add(wait))
 		if _, err := io.ReadFull(reader, size[:]); err != nil {
 			return err
 		}
+		raw.SetReadDeadline(time.Now().Add(5 * patience))
 		length := binary.BigEndian.Uint32(size[:])
 		if length > longestMessage {
 			return fmt.Errorf("a message of %d bytes", length)
@@ -153,7 +174,8 @@ func (c *Line) serve(raw net.Conn, take transport.Receiver) error {
 		if _, err := io.ReadFull(reader, message); err != nil {
 			return err
 		}
-		take(message)
+		c.came(raw)
+		take(message, sender)
 	}
 }
 

@@ -7,11 +7,15 @@ import (
 	"crypto/tls"
 	"crypto/x509"
 	"crypto/x509/pkix"
+	"errors"
 	"fmt"
+	"io"
 	"math/big"
 	"net"
+	"net/url"
 	"strings"
 	"sync/atomic"
+	"syscall"
 	"testing"
 	"time"
 
@@ -30,7 +34,7 @@ func open(t *testing.T, me directory.Silo, certificates *tls.Config) (transport.
 	if err != nil {
 		t.Fatal(err)
 	}
-	c, _ := line.Carry(me, func(message []byte) { came <- string(message) })
+	c, _ := line.Carry(me, func(message []byte, _ transport.Sender) { came <- string(message) })
 	t.Cleanup(c.Close)
 	return c, came
 }
@@ -86,7 +90,7 @@ func TestComesAgain(t *testing.T) {
 		if err != nil {
 			t.Fatal(err)
 		}
-		c.Carry(b, func(message []byte) { came <- string(message) })
+		c.Carry(b, func(message []byte, _ transport.Sender) { came <- string(message) })
 		if !comes(from, b, came, 5*time.Second) {
 			t.Fatal("nothing comes")
 		}
@@ -172,5 +176,58 @@ func TestStuck(t *testing.T) {
 	}
 	if !full {
 		t.Error("a thousand messages of 1 MiB were taken for a silo that reads none")
+	}
+}
+
+// A certificate says from which endpoints its owner may carry letters: from those of its address, or from those that it names.
+func TestNamed(t *testing.T) {
+	ours := newAuthority(t)
+	a, b := silo(t, "127.0.0.1"), silo(t, "127.0.0.1")
+	from, _ := open(t, a, ours.settings("127.0.0.1"))
+	line, err := Open(b.Endpoint(), ours.settings("127.0.0.1"))
+	if err != nil {
+		t.Fatal(err)
+	}
+	senders := make(chan transport.Sender, 100)
+	carrier, _ := line.Carry(b, func(_ []byte, sender transport.Sender) { senders <- sender })
+	t.Cleanup(carrier.Close)
+	from.Publish(b, []byte("hello"))
+	select {
+	case sender := <-senders:
+		if sender == nil || !sender(a.Endpoint()) || sender("127.0.0.2:7000") || sender("nonsense") || !sender("127.0.0.1:1") {
+			t.Error("it isn't taken for whom its certificate names")
+		}
+	case <-time.After(5 * time.Second):
+		t.Fatal("nothing comes")
+	}
+	uri, _ := url.Parse("grain-directory://127.0.0.1:7001")
+	one := named(&x509.Certificate{URIs: []*url.URL{uri}, IPAddresses: []net.IP{net.ParseIP("127.0.0.1")}})
+	if !one("127.0.0.1:7001") || one("127.0.0.1:7002") || !one("127.0.0.1:7001") {
+		t.Error("one that names an endpoint may carry another's letters")
+	}
+}
+
+// Strangers who connect, and say nothing, keep nobody out.
+func TestIdle(t *testing.T) {
+	a, b := silo(t, "127.0.0.1"), silo(t, "127.0.0.1")
+	from, _ := open(t, a, nil)
+	_, came := open(t, b, nil)
+	var all []net.Conn
+	for i := 0; i < mostIncoming+50; i++ {
+		conn, err := net.Dial("tcp", b.Endpoint())
+		if err != nil {
+			t.Skip(err)
+		}
+		defer conn.Close()
+		all = append(all, conn)
+	}
+	if !comes(from, b, came, 5*time.Second) {
+		t.Error("nothing comes beside idle connections")
+	}
+	for _, conn := range []net.Conn{all[0], all[len(all)-1]} {
+		conn.SetDeadline(time.Now().Add(5 * patience))
+		if _, err := conn.Read(make([]byte, 1)); err != io.EOF && !errors.Is(err, syscall.ECONNRESET) {
+			t.Errorf("an idle connection stays: %v", err)
+		}
 	}
 }
