@@ -21,6 +21,7 @@ import (
 const (
 	mostOut          = 16 << 20
 	mostNews         = 1 << 20
+	mostUnread       = 256 << 10 // answers, beyond which its questions wait
 	mostUnanswered   = 4096
 	longestLine      = 4096
 	mostApplications = 1024
@@ -195,14 +196,19 @@ func (s *Service) serve(app *application) {
 
 // waitForRoom lets an application wait that doesn't read its answers, or has many questions under way.
 func (s *Service) waitForRoom(app *application) {
-	for atomic.LoadInt64(&app.unanswered) >= mostUnanswered || app.out.Size() > mostOut/2 {
+	app.out.AwaitRoom(mostUnread)
+	const longest = 200 * time.Millisecond
+	for wait := time.Millisecond; atomic.LoadInt64(&app.unanswered) >= mostUnanswered; {
 		s.mu.Lock()
 		isOver := s.over != ""
 		s.mu.Unlock()
 		if isOver {
 			return
 		}
-		time.Sleep(time.Millisecond)
+		time.Sleep(wait)
+		if wait *= 2; wait > longest {
+			wait = longest
+		}
 	}
 }
 

@@ -101,14 +101,16 @@ func Join(ctx context.Context, options Options) (*Member, error) {
 		options.Line.Close()
 		return nil, err
 	}
-	waits := ""
+	waits, complaint := "", operation.Complaint{}
 	config := options.Config
 	m.me, err = options.Sequence.Join(ctx, membership.JoinOptions{Endpoint: config.Endpoint, Token: hex.EncodeToString(token), Ended: options.Ended,
 		Sent: func(sent clock.Time) { m.fence = fence.New(config.Settings.TTL, sent, options.Now) },
 		Waits: func(why string, left time.Duration) {
 			if waits != why {
+				waits, complaint = why, operation.Complaint{}
+			}
+			if complaint.IsDue(options.Now()) {
 				log.Printf("waits up to %v for %s", left.Round(time.Millisecond), why)
-				waits = why
 			}
 		}})
 	if err != nil {
@@ -144,7 +146,8 @@ func (m *Member) start(token string) error {
 		return err
 	}
 	m.post.Carry(carrier)
-	if m.silo, err = silo.Start(silo.Options{Program: config.Program, Silo: m.me, Settings: config.Settings, Token: token, May: m.fence.May},
+	if m.silo, err = silo.Start(silo.Options{Program: config.Program, Silo: m.me, Settings: config.Settings, Most: config.Activations, Token: token,
+		May: m.fence.May},
 		(*lines)(m)); err != nil {
 		return err
 	}

@@ -176,7 +176,7 @@ func (s *Sequence) attempt(options JoinOptions) attempt {
 	seen, isKnown := s.beats[old]
 	a.transaction.If = append(a.transaction.If, stands(old, seen.Beat))
 	if !isKnown || !seen.IsOverdue(s.now(), s.patience()) {
-		a.waits, a.left = "the end of "+string(old)+", which had this endpoint", s.patience()-s.now().Sub(seen.Since)
+		a.waits, a.left = "the end of "+string(old)+", which had this endpoint, counted from its last beat", s.patience()-s.now().Sub(seen.Since)
 	}
 	return a
 }

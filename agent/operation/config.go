@@ -35,6 +35,7 @@ type Config struct {
 	AfterEnd                                 string
 	Rejoin, KillApplications, Create         bool
 	TCPPlain                                 bool // without TLS
+	Activations                              int
 	Log                                      Level
 }
 
@@ -97,6 +98,7 @@ func (c *Config) options() options {
 			return err
 		}},
 		text("program", &c.Program, "the program of the silo, built by ./build"),
+		number("activations", &c.Activations, "that this silo may hold, 1 to 16777216; each takes up to 2 KB of memory"),
 		text("cluster", &c.Cluster, "the directory's name: letters, digits, - and _"),
 		text("hashing", &c.Settings.Hashing, "sha256, or stated for examples"),
 		number("points", &c.Settings.Points, "of each silo on the ring, 1 to 128"),
@@ -136,11 +138,14 @@ func (c *Config) options() options {
 	}
 }
 
+// mostActivations is what a silo may hold at most.
+const mostActivations = 1 << 24
+
 // NewConfig has the defaults.
 func NewConfig() Config {
 	return Config{Cluster: "main", Program: "grain-directory", SocketMode: 0o660, Settings: directory.DefaultSettings(), Etcd: "127.0.0.1:2379",
 		Nats: "nats://127.0.0.1:4222", LockDelay: time.Second, SilentAfter: 5 * time.Second, SiloTimeout: 5 * time.Second,
-		TransportTimeout: 10 * time.Second, LeaveTimeout: 30 * time.Second, Rejoin: true, Log: Info}
+		Activations: 1000000, TransportTimeout: 10 * time.Second, LeaveTimeout: 30 * time.Second, Rejoin: true, Log: Info}
 }
 
 // ReadConfig reads the command line, and the file that it names.
@@ -235,6 +240,9 @@ func (c *Config) check() error {
 		if one.what < 0 || one.what > one.most || one.what == 0 && one.name != "lock-delay" {
 			return fmt.Errorf("--%s is %v: something up to %v is wanted", one.name, one.what, one.most)
 		}
+	}
+	if c.Activations < 1 || c.Activations > mostActivations {
+		return fmt.Errorf("--activations is %d: 1 to %d are wanted", c.Activations, mostActivations)
 	}
 	if c.AfterEnd != "" && !filepath.IsAbs(c.AfterEnd) {
 		return fmt.Errorf("--after-end is %q: the path of a file is wanted, as /run/grain-directory-1/joined", c.AfterEnd)

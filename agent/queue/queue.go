@@ -9,16 +9,18 @@ import (
 // Lines is a queue of lines, written many at once by one goroutine.
 type Lines struct {
 	mu      sync.Mutex
-	some    *sync.Cond
+	some    *sync.Cond // that lines wait, or the queue is closed
+	taken   *sync.Cond // that lines are being written, or the queue is closed
 	most    int
 	pending []byte
 	closed  bool
+	ended   bool // nobody writes the lines any more
 }
 
 // New makes a queue for so many bytes.
 func New(most int) *Lines {
 	q := &Lines{most: most}
-	q.some = sync.NewCond(&q.mu)
+	q.some, q.taken = sync.NewCond(&q.mu), sync.NewCond(&q.mu)
 	return q
 }
 
@@ -42,6 +44,15 @@ func (q *Lines) Size() int {
 	return len(q.pending)
 }
 
+// AwaitRoom waits until so many bytes wait at most, or the queue is closed, or nobody writes them any more.
+func (q *Lines) AwaitRoom(most int) {
+	q.mu.Lock()
+	defer q.mu.Unlock()
+	for len(q.pending) > most && !q.closed && !q.ended {
+		q.taken.Wait()
+	}
+}
+
 // Most is the queue's bound in bytes.
 func (q *Lines) Most() int { return q.most }
 
@@ -51,11 +62,20 @@ func (q *Lines) Close() {
 	defer q.mu.Unlock()
 	q.closed = true
 	q.some.Signal()
+	q.taken.Broadcast()
+}
+
+func (q *Lines) end() {
+	q.mu.Lock()
+	defer q.mu.Unlock()
+	q.ended = true
+	q.taken.Broadcast()
 }
 
 // Run writes what is added, until the queue is closed and empty, a write fails, or may, which is asked before each write, says no.
 func (q *Lines) Run(w io.Writer, may func() bool) {
 	const keep = 1 << 20 // a buffer that grew larger is given back
+	defer q.end()
 	var spare []byte
 	for {
 		q.mu.Lock()
@@ -64,6 +84,7 @@ func (q *Lines) Run(w io.Writer, may func() bool) {
 		}
 		lines := q.pending
 		q.pending = spare[:0]
+		q.taken.Broadcast()
 		q.mu.Unlock()
 		if len(lines) == 0 {
 			return

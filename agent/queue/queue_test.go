@@ -4,6 +4,7 @@ import (
 	"bytes"
 	"errors"
 	"testing"
+	"time"
 )
 
 func TestBound(t *testing.T) {
@@ -41,5 +42,32 @@ func TestEnds(t *testing.T) {
 	q.Run(&out, func() bool { return false })
 	if out.Len() != 0 {
 		t.Error("written though it may not be")
+	}
+}
+
+// Who waits for room goes on when lines are taken, and when nobody takes them any more.
+func TestAwaitRoom(t *testing.T) {
+	for name, end := range map[string]func(*Lines){"taken": func(q *Lines) { q.Run(&bytes.Buffer{}, func() bool { q.Close(); return true }) },
+		"closed": func(q *Lines) { q.Close() }, "broken": func(q *Lines) { q.Run(faulty{}, nil) }} {
+		q := New(10)
+		q.AwaitRoom(0)
+		q.Add([]byte("a"), 10)
+		q.AwaitRoom(2)
+		waited := make(chan bool)
+		go func() {
+			q.AwaitRoom(1)
+			close(waited)
+		}()
+		select {
+		case <-waited:
+			t.Errorf("%s: it doesn't wait", name)
+		case <-time.After(20 * time.Millisecond):
+		}
+		go end(q)
+		select {
+		case <-waited:
+		case <-time.After(5 * time.Second):
+			t.Errorf("%s: it waits for ever", name)
+		}
 	}
 }

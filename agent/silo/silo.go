@@ -44,6 +44,7 @@ type Options struct {
 	Program  string             // the path of grain-directory, or of what does the same
 	Silo     directory.Silo     //
 	Settings directory.Settings //
+	Most     int                // activations that it may hold; 0: as many as the program has by itself
 	Token    string             // what its join was decided with: by another join of its silo the process doesn't join
 	May      func() bool        // whether the silo may be told anything now; asked before each write
 }
@@ -128,6 +129,9 @@ func Start(options Options, listener Listener) (*Silo, error) {
 	settings := options.Settings
 	command := exec.Command(options.Program, "silo", string(options.Silo), "--join", options.Token, "--hashing", settings.Hashing,
 		"--points", strconv.Itoa(settings.Points), "--cache", strconv.Itoa(settings.Cache))
+	if options.Most > 0 {
+		command.Args = append(command.Args, "--activations", strconv.Itoa(options.Most))
+	}
 	// A group of its own: a ^C at a terminal is for the agent, which leaves in order. When the agent ends, the silo's input does, and so the
 	// silo. (Pdeathsig would be wrong: it comes when the thread ends that started the process, and Go ends threads.)
 	command.SysProcAttr = &syscall.SysProcAttr{Setpgid: true}
@@ -150,9 +154,9 @@ func Start(options Options, listener Listener) (*Silo, error) {
 }
 
 // Check says what is wrong with a program as a silo's, or nil: each join that comes to nothing uses up a generation.
-func Check(program string, silo directory.Silo, settings directory.Settings) error {
+func Check(program string, silo directory.Silo, settings directory.Settings, most int) error {
 	const patience = 20 * time.Second
-	s, err := Start(Options{Program: program, Silo: silo, Settings: settings, Token: "none"}, deaf{})
+	s, err := Start(Options{Program: program, Silo: silo, Settings: settings, Most: most, Token: "none"}, deaf{})
 	if err != nil {
 		return err
 	}

@@ -467,12 +467,12 @@ func TestNoProgram(t *testing.T) {
 
 func TestCheck(t *testing.T) {
 	for _, program := range []string{"/bin/true", "/bin/false", "/nowhere"} {
-		if err := Check(program, me, directory.DefaultSettings()); err == nil || !strings.Contains(err.Error(), "--program") {
+		if err := Check(program, me, directory.DefaultSettings(), 1000); err == nil || !strings.Contains(err.Error(), "--program") {
 			t.Errorf("%s: %v", program, err)
 		}
 	}
 	if program := os.Getenv("SILO_PROGRAM"); program != "" {
-		if err := Check(program, me, directory.DefaultSettings()); err != nil {
+		if err := Check(program, me, directory.DefaultSettings(), 1000); err != nil {
 			t.Error(err)
 		}
 	}

@@ -5,6 +5,7 @@ import (
 	"errors"
 	"log"
 	"os"
+	"path/filepath"
 	"strings"
 	"sync"
 	"time"
@@ -57,7 +58,7 @@ func (a *agent) run(ctx context.Context) int {
 	if a.config.Create {
 		return a.create(ctx)
 	}
-	if err := silo.Check(a.config.Program, directory.At(a.config.Endpoint, 1), a.config.Settings); err != nil {
+	if err := silo.Check(a.config.Program, directory.At(a.config.Endpoint, 1), a.config.Settings, a.config.Activations); err != nil {
 		log.Printf("error: %v", err)
 		return cannot
 	}
@@ -220,6 +221,9 @@ func isHurt(sequence *membership.Sequence) bool {
 
 // join makes the next generation.
 func (a *agent) join(ctx context.Context, sequence *membership.Sequence, ended func(directory.Silo, string) bool) (*member.Member, error) {
+	if err := a.awaitSocketFolder(ctx); err != nil {
+		return nil, err
+	}
 	line, err := a.openLine(ctx)
 	if err != nil {
 		return nil, err
@@ -302,14 +306,32 @@ func (a *agent) openEtcd() (membership.Store, error) {
 		Directory: a.config.Cluster})
 }
 
+// awaitSocketFolder waits until the folder of the socket is there: who can't be reached doesn't join.
+func (a *agent) awaitSocketFolder(ctx context.Context) error {
+	folder := filepath.Dir(a.config.Socket)
+	for complaint := (operation.Complaint{}); ; {
+		info, err := os.Stat(folder)
+		if err == nil && info.IsDir() {
+			return nil
+		}
+		if complaint.IsDue(clock.Boot()) {
+			log.Printf("error: the folder of --socket isn't there: %s; it is looked for again", folder)
+			operation.Notify("STATUS=waits for the folder of its socket")
+		}
+		if pause(ctx, retry); ctx.Err() != nil {
+			return ctx.Err()
+		}
+	}
+}
+
 // openLine connects the transport, as soon as that can be: who reaches nobody doesn't join.
 func (a *agent) openLine(ctx context.Context) (transport.Line, error) {
-	for told := false; ; told = true {
+	for complaint := (operation.Complaint{}); ; {
 		line, err := a.tryLine()
 		if err == nil {
 			return line, nil
 		}
-		if !told {
+		if complaint.IsDue(clock.Boot()) {
 			log.Printf("warning: %v; tried again", err)
 			operation.Notify("STATUS=waits for the transport")
 		}
