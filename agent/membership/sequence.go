@@ -61,24 +61,35 @@ func (s *Sequence) call(ctx context.Context) (context.Context, context.CancelFun
 	return context.WithTimeout(ctx, s.timing.Call)
 }
 
-// Follow reads all there is, and then all news, until ctx ends. Where the watch is lost, be it by a compaction, all is read again.
+// mostRead is how long a reading of all may take at most. It may be large, and isn't what beats wait for.
+const mostRead = time.Minute
+
+// Follow reads all there is, and then all news, until ctx ends. Where the watch is lost, be it by a compaction, all is read again. A reading that takes
+// longer than a call may has ever more time, since another server may have been at fault.
 func (s *Sequence) Follow(ctx context.Context) {
+	patience := s.timing.Call
 	for ctx.Err() == nil {
-		err := s.readAndWatch(ctx)
+		wasRead, err := s.readAndWatch(ctx, patience)
 		if ctx.Err() != nil {
 			return
+		}
+		if patience *= 2; patience > mostRead {
+			patience = mostRead
+		}
+		if wasRead {
+			patience = s.timing.Call
 		}
 		log.Printf("warning: the store is lost, and tried again: %v", err)
 		pause(ctx, s.timing.Retry)
 	}
 }
 
-func (s *Sequence) readAndWatch(ctx context.Context) error {
-	calling, done := s.call(ctx)
+func (s *Sequence) readAndWatch(ctx context.Context, patience time.Duration) (wasRead bool, err error) {
+	calling, done := context.WithTimeout(ctx, patience)
 	entries, revision, err := s.readAt(calling, "")
 	done()
 	if err != nil {
-		return err
+		return false, err
 	}
 	s.takeAll(entries)
 	watching, stop := context.WithCancel(ctx)
@@ -86,7 +97,7 @@ func (s *Sequence) readAndWatch(ctx context.Context) error {
 	s.mu.Lock()
 	s.reread = stop
 	s.mu.Unlock()
-	return s.store.Watch(watching, revision, s.take)
+	return true, s.store.Watch(watching, revision, s.take)
 }
 
 // Reread has all read again, where the watch tells nothing: as where a silo's own beats, which the store confirmed, don't come by it.

@@ -36,6 +36,7 @@ type Config struct {
 	Rejoin, KillApplications, Create         bool
 	TCPPlain                                 bool // without TLS
 	Activations                              int
+	EtcdQuota                                int // MiB
 	Log                                      Level
 }
 
@@ -111,6 +112,7 @@ func (c *Config) options() options {
 		text("etcd-ca", &c.EtcdTLS.Authority, "the authority that signed etcd's certificate, a PEM file"),
 		text("etcd-cert", &c.EtcdTLS.Certificate, "this agent's certificate for etcd"),
 		text("etcd-key", &c.EtcdTLS.Key, "its key"),
+		number("etcd-quota", &c.EtcdQuota, "etcd's quota (--quota-backend-bytes) in MiB: the agent warns when three quarters of it are used"),
 		text("postgres", &c.Postgres, "PostgreSQL instead of etcd: a URL, or words as libpq takes them"),
 		text("nats", &c.Nats, "NATS's URLs, with commas; users and passwords may stand in them"),
 		text("nats-credentials", &c.NatsCredentials, "a file of credentials for NATS"),
@@ -145,7 +147,7 @@ const mostActivations = 1 << 24
 func NewConfig() Config {
 	return Config{Cluster: "main", Program: "grain-directory", SocketMode: 0o660, Settings: directory.DefaultSettings(), Etcd: "127.0.0.1:2379",
 		Nats: "nats://127.0.0.1:4222", LockDelay: time.Second, SilentAfter: 5 * time.Second, SiloTimeout: 5 * time.Second,
-		Activations: 1000000, TransportTimeout: 10 * time.Second, LeaveTimeout: 30 * time.Second, Rejoin: true, Log: Info}
+		Activations: 1000000, EtcdQuota: 2048, TransportTimeout: 10 * time.Second, LeaveTimeout: 30 * time.Second, Rejoin: true, Log: Info}
 }
 
 // ReadConfig reads the command line, and the file that it names.
@@ -243,6 +245,9 @@ func (c *Config) check() error {
 	}
 	if c.Activations < 1 || c.Activations > mostActivations {
 		return fmt.Errorf("--activations is %d: 1 to %d are wanted", c.Activations, mostActivations)
+	}
+	if c.EtcdQuota < 1 {
+		return fmt.Errorf("--etcd-quota is %d: a number of MiB is wanted", c.EtcdQuota)
 	}
 	if c.AfterEnd != "" && !filepath.IsAbs(c.AfterEnd) {
 		return fmt.Errorf("--after-end is %q: the path of a file is wanted, as /run/grain-directory-1/joined", c.AfterEnd)

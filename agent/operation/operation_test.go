@@ -33,7 +33,7 @@ func TestFaultyConfigs(t *testing.T) {
 		"": "--endpoint A.B.C.D:PORT", "--config=" + file: "line 2", "--config=/nowhere": "no such file", "--ttl=1": "ttl", "--ttl=1ms": "1s to 1h",
 		"--points=0": "1 to 128", "--transport=mqtt": "nats or tcp", "--cluster=a/b": "letters", "x": "no option", "--nonsense": "nonsense",
 		"--log=loud": "debug", "--tcp-ca=x": "belong together", "--transport=tcp": "--tcp-plain", "--etcd-cert=x": "belong together", "--silo-timeout=0s": "silo-timeout", "--socket-mode=9": "socket-mode",
-		"--after-end=true": "path of a file", "--activations=0": "1 to 16777216",
+		"--after-end=true": "path of a file", "--activations=0": "1 to 16777216", "--etcd-quota=0": "MiB",
 	} {
 		all := append([]string(nil), good...)
 		if words == "" {

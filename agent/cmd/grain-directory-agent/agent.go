@@ -93,6 +93,7 @@ func (a *agent) run(ctx context.Context) int {
 	go a.watchdog()
 	following, stop := context.WithCancel(context.Background())
 	defer stop()
+	go a.watchQuota(following, store)
 	sequence := membership.New(store, membership.Timing{TTL: a.config.Settings.TTL, LockDelay: a.config.LockDelay, Call: a.call(), Retry: retry}, clock.Boot)
 	go sequence.Follow(following)
 	return a.generations(ctx, sequence)

@@ -159,6 +159,18 @@ func (s *Store) Commit(ctx context.Context, transaction membership.Transaction) 
 	return made, at, err
 }
 
+// Size is how many bytes the database of the server has that is used now.
+func (s *Store) Size(ctx context.Context) (size int64, err error) {
+	err = s.on(func(client *clientv3.Client) error {
+		answer, err := client.Status(ctx, client.Endpoints()[0])
+		if err == nil {
+			size = answer.DbSize
+		}
+		return err
+	})
+	return size, err
+}
+
 // Close implements membership.Store.
 func (s *Store) Close() (err error) {
 	for _, client := range s.clients {
