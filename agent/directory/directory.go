@@ -102,6 +102,32 @@ func NewViews() *Views {
 	return &Views{status: map[Silo]Status{}, living: map[string]Silo{}, newest: map[string]int{}, tokens: map[Silo]string{}}
 }
 
+// ViewsFrom has the view of a version, by what that lists and by what the silos' joins were decided with.
+func ViewsFrom(version uint64, rows []Listed, tokens map[Silo]string) (*Views, error) {
+	v := NewViews()
+	v.version = version
+	for _, row := range rows {
+		if _, err := ReadSilo(string(row.Silo)); err != nil {
+			return nil, err
+		}
+		endpoint, generation := row.Silo.Split()
+		if v.newest[endpoint] != 0 {
+			return nil, fmt.Errorf("view %d lists %s twice", version, endpoint)
+		}
+		switch v.newest[endpoint], v.status[row.Silo] = generation, row.Status; row.Status {
+		case IsActive, IsLeaving:
+			v.living[endpoint] = row.Silo
+		case IsDead:
+		default:
+			return nil, fmt.Errorf("view %d lists %s as %q", version, row.Silo, row.Status)
+		}
+		if token := tokens[row.Silo]; token != "" {
+			v.tokens[row.Silo] = token
+		}
+	}
+	return v, nil
+}
+
 // Version is the last version that was made.
 func (v *Views) Version() uint64 { return v.version }
 

@@ -2,6 +2,7 @@ package directory
 
 import (
 	"errors"
+	"fmt"
 	"testing"
 	"time"
 )
@@ -82,5 +83,34 @@ func TestSettings(t *testing.T) {
 	}
 	if err := settings.Check(); err != nil {
 		t.Error(err)
+	}
+}
+
+// A view that begins with what another lists goes on as that does.
+func TestViewsFrom(t *testing.T) {
+	views := NewViews()
+	for i, change := range []Change{{Kind: Joined, Silo: "10.0.0.1:1@1", Token: "a"}, {Kind: Joined, Silo: "10.0.0.2:1@4", Token: "b"}, {Kind: Leaving, Silo: "10.0.0.2:1@4"},
+		{Kind: Joined, Silo: "10.0.0.3:1@1"}, {Kind: Dead, Silo: "10.0.0.3:1@1"}, {Kind: Joined, Silo: "10.0.0.1:1@2", Token: "c"}} {
+		change.Version = uint64(i + 1)
+		if _, err := views.Take(change); err != nil {
+			t.Fatal(err)
+		}
+	}
+	from, err := ViewsFrom(views.Version(), views.Listing(), map[Silo]string{"10.0.0.1:1@2": "c"})
+	if err != nil || fmt.Sprint(from.Listing()) != fmt.Sprint(views.Listing()) || from.Version() != 6 || from.Token("10.0.0.1:1@2") != "c" ||
+		from.Occupant("10.0.0.2:1") != "10.0.0.2:1@4" || from.Occupant("10.0.0.3:1") != "" || len(from.Members()) != 2 || from.Newest("10.0.0.3:1") != 1 {
+		t.Errorf("%v, %v, of %v", err, from, views)
+	}
+	for _, change := range []Change{{Kind: Joined, Silo: "10.0.0.3:1@1"}, {Kind: Joined, Silo: "10.0.0.1:1@1"}, {Kind: Dead, Silo: "10.0.0.1:1@1"}, {Kind: Dead, Silo: "10.0.0.2:1@4"},
+		{Kind: Joined, Silo: "10.0.0.3:1@2"}, {Kind: Leaving, Silo: "10.0.0.2:1@4"}} {
+		change.Version = 7
+		if one, other := from.Check(change), views.Check(change); (one == nil) != (other == nil) {
+			t.Errorf("%v: %v, not %v", change, one, other)
+		}
+	}
+	for _, rows := range [][]Listed{{{"nonsense", IsActive}}, {{"10.0.0.1:1@1", "sleeping"}}, {{"10.0.0.1:1@1", IsActive}, {"10.0.0.1:1@2", IsActive}}} {
+		if _, err := ViewsFrom(1, rows, nil); err == nil {
+			t.Errorf("%v is a view", rows)
+		}
 	}
 }

@@ -161,6 +161,7 @@ func (m *Member) start(token string) error {
 	m.run(m.settle)
 	m.run(m.report)
 	m.run(m.bury)
+	m.run(m.compact)
 	return nil
 }
 

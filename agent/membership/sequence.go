@@ -4,6 +4,7 @@ import (
 	"context"
 	"fmt"
 	"log"
+	"strconv"
 	"strings"
 	"sync"
 	"time"
@@ -31,9 +32,14 @@ type Sequence struct {
 
 	mu        sync.Mutex
 	views     *directory.Views
-	changes   []directory.Change
-	revisions []Revision // of the changes
-	last      Entry      // the last change, as it stands in the store
+	base      uint64             // the version with which this began: 0, or that of a view
+	first     string             // that view
+	view      uint64             // the version of the view in the store: changes up to it may be gone
+	viewEntry Entry              // as it stands there
+	oldest    uint64             // up to which version changes are gone, by what was read
+	changes   []directory.Change // behind the base
+	revisions []Revision         // of the changes
+	last      Entry              // the last change, as it stands in the store
 	beats     map[directory.Silo]beats.Seen
 	chains    map[directory.Silo]beats.Chain // the beats of those that joined by this sequence
 	statuses  map[directory.Silo]string
@@ -135,12 +141,23 @@ func (s *Sequence) takeAll(entries []Entry) {
 	s.mu.Lock()
 	defer s.mu.Unlock()
 	there := map[string]bool{}
+	s.viewEntry = Entry{}
+	for _, entry := range entries {
+		if entry.Key == viewKey { // before the changes
+			s.viewEntry = entry
+			s.takeView(Event{Entry: entry})
+		}
+	}
+	s.oldest = s.view
+	if s.view > 0 && s.viewEntry.Revision == 0 {
+		s.hurt("the view of version %d is gone from the store", s.view)
+	}
 	for _, entry := range entries {
 		there[entry.Key] = true
 		s.takeOne(Event{Entry: entry})
 	}
 	for _, change := range s.changes {
-		if !there[changeKey(change.Version)] {
+		if !there[changeKey(change.Version)] && change.Version > s.view {
 			s.hurt("%v is gone from the store", change)
 		}
 	}
@@ -185,6 +202,11 @@ func (s *Sequence) takeOne(event Event) {
 	switch part {
 	case "change":
 		s.takeChange(event)
+	case viewKey:
+		if s.caughtUp {
+			s.viewEntry = event.Entry
+			s.takeView(event)
+		}
 	case "beat":
 		if event.Gone {
 			s.saw(silo, beats.Beat{})
@@ -216,12 +238,22 @@ func (s *Sequence) saw(silo directory.Silo, beat beats.Beat) {
 
 // takeChange takes a change if it is the next; one that is known has to be the same, as it was written.
 func (s *Sequence) takeChange(event Event) {
+	if version := versionOf(event.Key); version > 0 && version <= s.view { // compacted, and taken away some time
+		if !event.Gone && version-1 < s.oldest {
+			s.oldest = version - 1
+		} else if event.Gone && version == s.oldest+1 {
+			s.oldest = version
+		}
+		if event.Gone || version <= s.base {
+			return
+		}
+	}
 	change, err := readChange(event)
 	if err != nil {
 		s.hurt("%v", err)
 		return
 	}
-	if known := change.Version - 1; change.Version <= s.views.Version() {
+	if known := change.Version - 1 - s.base; change.Version <= s.views.Version() {
 		if s.changes[known] != change || s.revisions[known] != event.Revision {
 			s.hurt("change %d was %v, written at revision %d, and is now %v, written at %d", change.Version, s.changes[known], s.revisions[known], change,
 				event.Revision)
@@ -248,12 +280,21 @@ func changeText(c directory.Change) string {
 	return text
 }
 
+// versionOf is the version of a change's key, 0 where that is none.
+func versionOf(key string) uint64 {
+	version, err := strconv.ParseUint(strings.TrimPrefix(key, "change/"), 10, 64)
+	if err != nil || changeKey(version) != key {
+		return 0
+	}
+	return version
+}
+
 func readChange(event Event) (change directory.Change, err error) {
 	words := strings.Fields(event.Value)
 	if event.Gone || len(words) < 2 || len(words) > 3 {
 		return change, fmt.Errorf("%s is gone from the store, or can't be read: %q", event.Key, event.Value)
 	}
-	if _, err := fmt.Sscanf(event.Key, "change/%d", &change.Version); err != nil || change.Version == 0 || changeKey(change.Version) != event.Key {
+	if change.Version = versionOf(event.Key); change.Version == 0 {
 		return change, fmt.Errorf("%q is no key of a change", event.Key)
 	}
 	change.Kind, change.Silo = directory.Kind(words[0]), directory.Silo(words[1])
@@ -274,15 +315,22 @@ func (s *Sequence) Moved() <-chan struct{} {
 func (s *Sequence) Changes(after uint64) []directory.Change {
 	s.mu.Lock()
 	defer s.mu.Unlock()
-	return s.changes[after:len(s.changes):len(s.changes)]
+	if after < s.base {
+		return nil // they were compacted, which no silo that lives waits for
+	}
+	return s.changes[after-s.base : len(s.changes) : len(s.changes)]
 }
 
-// Before is the version before a silo's join, and what its view lists, once the join is known; else version 0, which lists nothing.
+// Before is the version before a silo's join, and what its view lists, once the join is known; else version 0, which lists nothing. A join that was
+// compacted is known no more: all members had seen it.
 func (s *Sequence) Before(silo directory.Silo) (version uint64, rows []directory.Listed) {
 	s.mu.Lock()
-	changes := s.changes
+	changes, base := s.changes, s.base
 	s.mu.Unlock()
-	views := directory.NewViews()
+	views, err := s.viewsAt(base)
+	if err != nil {
+		return 0, nil
+	}
 	for _, change := range changes {
 		if change.Kind == directory.Joined && change.Silo == silo {
 			return views.Version(), views.Listing()

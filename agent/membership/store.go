@@ -5,6 +5,7 @@
 //
 //	settings           what all silos share
 //	change/0000000007  the change that made version 7: written once, in a transaction that wants it absent, and the one before as it was read
+//	view               what changes up to its version made: they may be gone. An agent that starts begins with it
 //	beat/SILO          written often by the silo's agent while it lasts, each on the one before; its end is what a death wants
 //	status/SILO        what the silo has seen and settled, and whom it doesn't hear
 package membership
