@@ -159,16 +159,14 @@ func (s *Store) Commit(ctx context.Context, transaction membership.Transaction) 
 	return made, at, err
 }
 
-// Size is how many bytes the database of the server has that is used now.
-func (s *Store) Size(ctx context.Context) (size int64, err error) {
-	err = s.on(func(client *clientv3.Client) error {
-		answer, err := client.Status(ctx, client.Endpoints()[0])
-		if err == nil {
-			size = answer.DbSize
-		}
-		return err
-	})
-	return size, err
+// Size is how many bytes the database of the server has that is used now. One that doesn't tell it is used all the same.
+func (s *Store) Size(ctx context.Context) (int64, error) {
+	client := s.clients[atomic.LoadInt32(&s.current)]
+	answer, err := client.Status(ctx, client.Endpoints()[0])
+	if err != nil {
+		return 0, err
+	}
+	return answer.DbSize, nil
 }
 
 // Close implements membership.Store.
