@@ -2,6 +2,7 @@ package beats
 
 import (
 	"fmt"
+	"strconv"
 	"strings"
 	"testing"
 	"time"
@@ -76,19 +77,55 @@ func (w world) clone() world {
 	return w
 }
 
+// key tells worlds apart, in few bytes: there are many.
 func (w world) key() string {
-	var text strings.Builder
-	fmt.Fprint(&text, w.now, w.revision, w.values, w.beat, w.seen, w.dead, w.wasRestored, w.isCopied, w.backupAt, w.since)
-	if w.backup != nil {
-		fmt.Fprint(&text, *w.backup)
-	}
-	for _, o := range w.ones {
-		fmt.Fprint(&text, ";", o.chain, o.deadline, o.under, o.awaits, o.confirmed, o.isOver)
-		if o.made != nil {
-			fmt.Fprint(&text, *o.made)
+	key := make([]byte, 0, 128)
+	number := func(numbers ...int) {
+		for _, n := range numbers {
+			key = strconv.AppendInt(key, int64(n), 36)
+			key = append(key, ' ')
 		}
 	}
-	return text.String()
+	truth := func(is bool) {
+		if is {
+			key = append(key, '!')
+		}
+		key = append(key, ' ')
+	}
+	beat := func(b Beat) {
+		key = append(key, b.Value...)
+		number(int(b.Revision))
+	}
+	sent := func(c call) {
+		beat(c.want)
+		beat(c.beat)
+		number(c.sent)
+	}
+	number(w.now, w.revision, w.values, w.backupAt, w.since, int(w.seen.Since))
+	beat(w.beat)
+	beat(w.seen.Beat)
+	for _, is := range []bool{w.dead, w.wasRestored, w.isCopied, w.backup != nil} {
+		truth(is)
+	}
+	if w.backup != nil {
+		beat(*w.backup)
+	}
+	for _, o := range w.ones {
+		key = append(key, ';')
+		beat(o.chain.Last)
+		for _, try := range o.chain.Tries {
+			key = append(append(key, try...), ',')
+		}
+		number(int(o.chain.Lost), o.deadline, o.awaits, o.confirmed, len(o.under))
+		for _, c := range o.under {
+			sent(c)
+		}
+		truth(o.isOver)
+		if o.made != nil {
+			sent(*o.made)
+		}
+	}
+	return string(key)
 }
 
 // next are all worlds that may come next; a fault says which promise the step broke.
@@ -286,6 +323,9 @@ func explore(r rules, b bounds) (fault string, worlds int) {
 // In no order of beats, answers, looks and deaths is a silo declared dead that works, nor with a copy of its agent. Of two copies one ends; and an
 // agent whose store was turned back behind its beat has no further one confirmed, so that it ends by the next.
 func TestAllOrders(t *testing.T) {
+	if isRace {
+		t.Skip("one goroutine alone, for minutes")
+	}
 	for name, b := range map[string]bounds{
 		"nothing else": {ticks: 7, beats: 3},
 		"a copy":       {ticks: 5, beats: 2, copied: true},
@@ -304,6 +344,9 @@ func TestAllOrders(t *testing.T) {
 
 // Rules that are wrong are found.
 func TestPlanted(t *testing.T) {
+	if isRace {
+		t.Skip("one goroutine alone, for minutes")
+	}
 	for name, planted := range map[string]struct {
 		rules
 		bounds

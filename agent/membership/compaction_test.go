@@ -55,20 +55,20 @@ func rows(s *Sequence) (text string) {
 
 // Changes that all have seen are compacted into a view: who knew them goes on, and who comes begins with it.
 func TestCompacted(t *testing.T) {
-	store, h := many(t, 6000), &hands{at: 1}
+	store, h := many(t, 4000), &hands{at: 1}
 	one, other := follow(t, store, h), follow(t, store, h)
 	a := join(t, one, 1001)
-	until(t, "all is known", func() bool { return other.Version() == 6001 })
-	for _, seen := range []uint64{0, 2000} {
-		if compact(t, one, seen); changesIn(store) != 6001-int(seen) {
+	until(t, "all is known", func() bool { return other.Version() == 4001 })
+	for _, seen := range []uint64{0, 500} {
+		if compact(t, one, seen); changesIn(store) != 4001-int(seen) {
 			t.Errorf("%d changes stand in the store, though all have seen %d", changesIn(store), seen)
 		}
 	}
-	compact(t, one, 6001)
+	compact(t, one, 4001)
 	if count := changesIn(store); count != 1000 {
 		t.Errorf("%d changes stand in the store", count)
 	}
-	compact(t, one, 6001)
+	compact(t, one, 4001)
 	for i := 0; i < 3; i++ {
 		one.Reread()
 		other.Reread()
@@ -85,15 +85,15 @@ func TestCompacted(t *testing.T) {
 		t.Errorf("it has %d changes behind version 0", len(changes))
 	}
 	b := join(t, fresh, 1002)
-	if version, listed := fresh.Before(b); version != 6001 || !strings.Contains(fmt.Sprint(listed), string(a)+":active") || len(listed) != 2 {
+	if version, listed := fresh.Before(b); version != 4001 || !strings.Contains(fmt.Sprint(listed), string(a)+":active") || len(listed) != 2 {
 		t.Errorf("before %s: version %d, %v", b, version, listed)
 	}
-	if changes := fresh.Changes(6001); len(changes) != 1 || changes[0].Silo != b {
+	if changes := fresh.Changes(4001); len(changes) != 1 || changes[0].Silo != b {
 		t.Errorf("behind that: %v", changes)
 	}
 	again, err := fresh.Join(context.Background(), JoinOptions{Endpoint: "10.0.0.9:7000", Token: "again", Sent: func(clock.Time) {}})
-	if err != nil || again != "10.0.0.9:7000@3001" {
-		t.Errorf("%s joins, behind generation 3000: %v", again, err)
+	if err != nil || again != "10.0.0.9:7000@2001" {
+		t.Errorf("%s joins, behind generation 2000: %v", again, err)
 	}
 	until(t, "the first knows all", func() bool { return rows(one) == rows(fresh) })
 	if err := one.Die(context.Background(), a); err != nil {
@@ -105,14 +105,14 @@ func TestCompacted(t *testing.T) {
 func TestHurtCompacted(t *testing.T) {
 	for name, hurt := range map[string]Transaction{
 		"the view is gone":       {Delete: []string{"view"}},
-		"the view has fallen":    {Put: []Entry{{Key: "view", Value: "4000 10.0.0.9:7000@2000/dead"}}},
-		"the view can't be read": {Put: []Entry{{Key: "view", Value: "5001 nonsense"}}},
-		"a change is gone":       {Delete: []string{"change/0000005500"}},
-		"a change is another":    {Put: []Entry{{Key: "change/0000005500", Value: "dead 10.0.0.9:7000@1"}}},
+		"the view has fallen":    {Put: []Entry{{Key: "view", Value: "2000 10.0.0.9:7000@1000/dead"}}},
+		"the view can't be read": {Put: []Entry{{Key: "view", Value: "3001 nonsense"}}},
+		"a change is gone":       {Delete: []string{"change/0000003500"}},
+		"a change is another":    {Put: []Entry{{Key: "change/0000003500", Value: "dead 10.0.0.9:7000@1"}}},
 	} {
-		store, h := many(t, 6000), &hands{at: 1}
+		store, h := many(t, 4000), &hands{at: 1}
 		s := follow(t, store, h)
-		compact(t, s, 6000)
+		compact(t, s, 4000)
 		if _, _, err := store.Commit(context.Background(), hurt); err != nil {
 			t.Fatal(err)
 		}
@@ -126,7 +126,7 @@ func TestCutOffWhileCompacted(t *testing.T) {
 	cut := &deaf{Store: store}
 	s := follow(t, cut, h)
 	cut.isDeaf = 1
-	for version := 11; version <= 6000; version++ {
+	for version := 11; version <= 4000; version++ {
 		text := fmt.Sprintf("joined 10.0.0.9:7000@%d token%d", (version+1)/2, version)
 		if version%2 == 0 {
 			text = fmt.Sprintf("dead 10.0.0.9:7000@%d", version/2)
@@ -135,12 +135,12 @@ func TestCutOffWhileCompacted(t *testing.T) {
 			t.Fatal(err)
 		}
 	}
-	compact(t, follow(t, store, h), 6000)
+	compact(t, follow(t, store, h), 4000)
 	if s.Version() != 10 {
 		t.Fatal("it wasn't cut off")
 	}
 	s.Reread()
-	until(t, "it begins with the view", func() bool { return s.Version() == 6000 })
+	until(t, "it begins with the view", func() bool { return s.Version() == 4000 })
 	if s.Fault() != nil {
 		t.Error(s.Fault())
 	}

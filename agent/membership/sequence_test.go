@@ -48,7 +48,7 @@ func hasEnded(err error, verdict beats.Verdict) bool {
 
 func join(t *testing.T, s *Sequence, port int) directory.Silo {
 	t.Helper()
-	ctx, cancel := context.WithTimeout(context.Background(), 5*time.Second)
+	ctx, cancel := context.WithTimeout(context.Background(), 20*time.Second)
 	defer cancel()
 	silo, err := s.Join(ctx, JoinOptions{Endpoint: fmt.Sprintf("10.0.0.1:%d", port), Token: fmt.Sprintf("t%d", port), Sent: func(clock.Time) {}})
 	if err != nil {
