@@ -50,11 +50,17 @@ node(Name, Servers, Cluster) -> node(Name, Servers, Cluster, []).
 node(Name, Servers, Cluster, Words) -> vm(Name, agent(Name, Servers, Cluster, Words)).
 
 agent(Name, Servers = #{etcd := Etcd, nats := Nats}, Cluster, Words) ->
+    create(Etcd, Cluster, Words),
     Door = maps:get(doors, Servers, open),
     Doors = #{etcd => grain_door:Door(Etcd), nats => grain_door:Door(Nats)},
     Socket = filename:join("/tmp", lists:concat(["grain-", os:getpid(), "-", Name, erlang:unique_integer([positive])])),
     A = #{servers => Servers, doors => Doors, socket => Socket, cluster => Cluster, port => free_port(), words => Words},
     A#{agent => start_agent(A)}.
+
+%% The directory's first agent has it created; for the others it is there already.
+create(Etcd, Cluster, Words) ->
+    os:cmd(lists:flatten(lists:join(" ", ["timeout 20 \"$AGENT\" --create --ttl=5s --points=8", lists:concat(["--etcd=127.0.0.1:", Etcd]), "--cluster=" ++ Cluster
+                                          | Words]))).
 
 start_agent(#{doors := #{etcd := Etcd, nats := Nats}, socket := Socket, cluster := Cluster, port := Port, words := Words}) ->
     spawn_program(os:getenv("AGENT"), [lists:concat(["--endpoint=127.0.0.1:", Port]), "--socket=" ++ Socket, "--program=" ++ os:getenv("SILO_PROGRAM"),
