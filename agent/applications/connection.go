@@ -34,6 +34,7 @@ const (
 type outbox interface {
 	Add(line []byte, within int) bool
 	Size() int
+	AwaitRoom(most int)
 	Close()
 }
 

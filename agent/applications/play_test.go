@@ -26,7 +26,7 @@ type party struct {
 	hears    func(number int, line string)
 }
 
-// Add, Size and Close make it an outbox.
+// Add, Size, AwaitRoom and Close make it an outbox.
 func (p *party) Add(line []byte, _ int) bool {
 	if p.isHung || p.isClosed {
 		return false
@@ -36,7 +36,11 @@ func (p *party) Add(line []byte, _ int) bool {
 	return true
 }
 func (p *party) Size() int { return 0 }
-func (p *party) Close()    { p.isClosed = true }
+
+// AwaitRoom has nobody wait.
+func (p *party) AwaitRoom(int) {}
+
+func (p *party) Close() { p.isClosed = true }
 
 // world is an agent's service between two parties and a silo.
 type world struct {

@@ -6,6 +6,7 @@ import (
 	"testing"
 	"time"
 
+	"agent/clients/go/graindirectory"
 	"agent/membership"
 	"agent/membership/etcdstore"
 )
@@ -51,8 +52,11 @@ func TestManyChanges(t *testing.T) {
 	}
 	three := c.agent(3, words)
 	three.says("is ready", 1)
-	for _, client := range []interface{ Find(string) (string, error) }{b, three.dial(nil)} {
-		until(t, "it is found", func() bool { at, err := client.Find("user/ann fresh"); return err == nil && at == ann.Activation })
+	for _, client := range []*graindirectory.Client{b, three.dial(nil)} {
+		until(t, "it is found", func() bool {
+			at, err := client.Find(forever, "user/ann fresh")
+			return err == nil && at == ann.Activation
+		})
 	}
 	if !ann.May() || one.count("ends: ")+two.count("ends: ") > 0 {
 		t.Error("an agent ended")

@@ -27,7 +27,7 @@ func TestKilledUnderTraffic(t *testing.T) {
 					case <-ended:
 						return
 					default:
-						client.Find(fmt.Sprintf("user/%d fresh", i))
+						client.Find(forever, fmt.Sprintf("user/%d fresh", i))
 						time.Sleep(50 * time.Millisecond)
 					}
 				}

@@ -28,7 +28,7 @@ func TestClearLines(t *testing.T) {
 	for i := 0; i < 2; i++ {
 		firm(t, a, fmt.Sprintf("user/%d", i))
 	}
-	if _, err := a.Activate("user/more"); err == nil {
+	if _, err := a.Activate(forever, "user/more"); err == nil {
 		t.Error("it has more activations than it may")
 	}
 

@@ -32,13 +32,13 @@ func firmTwice(one, other *process, while time.Duration) int {
 		works[fmt.Sprintf("user/g%d", i)] = map[*process]*graindirectory.Work{}
 	}
 	for _, p := range []*process{one, other} {
-		client, err := graindirectory.Dial(p.socket, nil)
+		client, err := graindirectory.Dial(forever, p.socket, nil)
 		if err != nil {
 			continue // it has ended
 		}
 		for grain := range works {
 			go func(p *process, grain string) {
-				if work, err := client.Activate(grain); err == nil {
+				if work, err := client.Activate(forever, grain); err == nil {
 					mu.Lock()
 					defer mu.Unlock()
 					works[grain][p] = work

@@ -58,7 +58,7 @@ func TestAfterEndElsewhere(t *testing.T) {
 	one.command.Process.Kill()
 	one.command.Wait()
 	<-a.Lost
-	ann.Deactivate()
+	ann.Deactivate(forever)
 	began := time.Now()
 	again := c.agent(1, here, "--ttl=8s")
 	again.says("joined", 1)
