@@ -28,7 +28,12 @@ pub(crate) fn joining(rt: &impl Abort, alloc: Global) -> Box<Node> {
 }
 
 // It sees version 2, by which it asks the first one; the page that comes.
-pub(crate) fn page_for(rt: &impl Abort, alloc: Global, old: &mut Node, new: &mut Node) -> Box<Letter> {
+pub(crate) fn page_for(
+    rt: &impl Abort,
+    alloc: Global,
+    old: &mut Node,
+    new: &mut Node,
+) -> Box<Letter> {
     let ask = sees_one(rt, alloc, new, 2, Effect::Next);
     sends(rt, alloc, old, &ask, Effect::Page)
 }
@@ -46,7 +51,13 @@ pub(crate) fn is_handed_over(old: &Node, new: &Node, range: &RingRange) -> bool 
 }
 
 // The page comes, and that it has come, which comes twice.
-pub(crate) fn hand_over(rt: &impl Abort, alloc: Global, old: &mut Node, new: &mut Node, page: &Letter) {
+pub(crate) fn hand_over(
+    rt: &impl Abort,
+    alloc: Global,
+    old: &mut Node,
+    new: &mut Node,
+    page: &Letter,
+) {
     let done = sends(rt, alloc, new, page, Effect::Installed);
     takes(rt, alloc, old, &done, Effect::Deleted);
     takes(rt, alloc, old, &done, Effect::Ignored);
