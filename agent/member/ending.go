@@ -28,11 +28,12 @@ func (m *Member) End(reason string) Outcome {
 	}
 	log.Printf("ends: %s", reason) // not before: a log that is stuck must not hold the end up
 	m.mu.Lock()
-	wasReady := m.settled != 0
+	wasReady, severed := m.settled != 0, m.severed
 	m.mu.Unlock()
 	haveHungUp := m.awaitApplications()
 	log.Printf("the silo's process has ended; all applications have hung up: %v", haveHungUp)
-	outcome := Outcome{Silo: m.me, Reason: reason, Ready: wasReady, Ended: haveHungUp && m.options.Sequence.Owns(m.me)} // a copy's may go on
+	outcome := Outcome{Silo: m.me, Reason: reason, Ready: wasReady, Severed: severed,
+		Ended: haveHungUp && m.options.Sequence.Owns(m.me)} // a copy's may go on
 	if outcome.Ended {
 		ctx, done := context.WithTimeout(context.Background(), 2*time.Second)
 		if err := m.options.Sequence.Die(ctx, m.me); err != nil {
@@ -129,7 +130,7 @@ func (m *Member) wait(ctx context.Context, what string, most time.Duration, isSo
 // Health says what is wrong with this silo, or nil.
 func (m *Member) Health() error {
 	m.mu.Lock()
-	settled, told := m.settled, m.told
+	settled, told, through, yields := m.settled, m.told, m.through, m.yields
 	m.mu.Unlock()
 	switch {
 	case !m.fence.May():
@@ -138,6 +139,8 @@ func (m *Member) Health() error {
 		return fmt.Errorf("the transport is lost")
 	case settled < told:
 		return fmt.Errorf("settled version %d of %d", settled, told)
+	case yields:
+		return fmt.Errorf("%s", cutText(through))
 	}
 	return nil
 }

@@ -15,7 +15,7 @@ import (
 func (m *Member) Metrics(out io.Writer) {
 	page := metrics.NewPage(out, string(m.me))
 	m.mu.Lock()
-	status, settled, told, skipped := m.status, m.settled, m.told, m.skipped
+	status, settled, told, skipped, through := m.status, m.settled, m.told, m.skipped, m.through
 	m.mu.Unlock()
 	members, _ := m.members()
 	figures, letters, carried := m.service.Figures(), m.silo.Counts(), m.post.Counts()
@@ -32,6 +32,11 @@ func (m *Member) Metrics(out io.Writer) {
 	page.Gauge("snapshots_kept", "snapshots that this silo keeps for the ranges of others", float64(status.Kept))
 	page.Counter("views_skipped_total", "views that the silo skipped, and could hand nothing over", float64(skipped))
 	page.Gauge("members", "silos that are not dead", float64(len(members)))
+	page.Gauge("members_cut", "members of which one and this silo don't hear one another", float64(len(through)))
+	for _, silo := range sortedSilos(through) {
+		page.Gauge("member_cut", "by member of which one and this silo don't hear one another: 1 where letters go through a third, 2 where none go",
+			1+truth(through[silo] == ""), "member", string(silo), "through", string(through[silo]))
+	}
 	page.Gauge("applications", "connections of applications", float64(figures.Applications))
 	page.Gauge("deadline_seconds", "time that is left until the deadline", m.fence.Until().Sub(m.options.Now()).Seconds())
 	page.Counter("beats_total", "beats that the store confirmed", float64(beats))
@@ -48,6 +53,7 @@ func (m *Member) Metrics(out io.Writer) {
 	page.Counter("lost_total", "", float64(carried.PartsLost), "what", "parts")
 	page.Counter("lost_total", "", float64(letters.LettersLost), "what", "letters to a slow silo")
 	page.Counter("lost_total", "", float64(carried.Forged), "what", "letters that are from others than they say, or have numbers that can't be")
+	page.Counter("messages_relayed_total", "messages that went through another silo, or that this one handed on", float64(carried.Relayed))
 	page.Counter("silo_faults_total", "letters that the silo refused or could not read", float64(letters.Faults))
 	page.Gauge("silo_pending_bytes", "bytes that wait for the silo", float64(m.silo.Pending()))
 	page.Gauge("transport_up", "whether the transport is connected", truth(m.post.Up()))

@@ -75,6 +75,10 @@ type Member struct {
 	status  silo.Status
 	skipped int64
 
+	through map[directory.Silo]directory.Silo // of the members that this one is cut from: through whom letters go, or ""
+	yields  bool                              // it is to end for one of them, where that lasts
+	severed []directory.Silo                  // for whom it gave itself up
+
 	names map[directory.Silo]string // of each silo's applications, as was told last
 }
 
@@ -85,6 +89,8 @@ type Outcome struct {
 	Ready  bool // its ranges were settled once
 	Ended  bool // the silo's process has ended, and all applications have hung up
 	Left   bool // it left in order
+
+	Severed []directory.Silo // to whom no letters went, nor from them, so that it gave itself up
 }
 
 // Join joins a directory as the endpoint's next generation, and starts the silo. A fault leaves nothing behind.

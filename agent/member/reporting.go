@@ -29,6 +29,7 @@ func (m *Member) bury() {
 // report tells the others what this silo has seen and settled, and whom it doesn't hear, and votes.
 func (m *Member) report() {
 	said := ""
+	cuts := cuts{severed: peers.Severed{}}
 	connected, reread := m.options.Now(), m.options.Now()
 	for ; m.ctx.Err() == nil; sleep(m.ctx, 50*time.Millisecond) {
 		reread = m.testWatch(reread)
@@ -40,6 +41,7 @@ func (m *Member) report() {
 		report.Names = m.service.Names()
 		if report.Up {
 			report.Suspects = m.silence.Suspects(m.options.Config.SilentAfter, members)
+			report.Deaf = m.silence.Silent(m.options.Config.SilentAfter, members)
 		}
 		if text := report.Text(); text != said && m.options.Sequence.Report(m.ctx, m.me, text) == nil {
 			said = text
@@ -50,6 +52,8 @@ func (m *Member) report() {
 			m.fence.Give("the transport can't be reached from here, but from elsewhere")
 			return
 		}
+		reports[m.me] = report
+		m.hears(&cuts, members, reports)
 		m.vote(members, reports)
 		m.tellNames(members, reports)
 	}

@@ -31,6 +31,7 @@ type Config struct {
 	EtcdTLS, NatsTLS, TCPTLS                 Certificates
 	Nats, NatsCredentials                    string
 	LockDelay, SilentAfter, SiloTimeout      time.Duration
+	DeafAfter                                time.Duration
 	TransportTimeout, LeaveTimeout           time.Duration
 	AfterEnd                                 string
 	Rejoin, KillApplications, Create         bool
@@ -126,6 +127,7 @@ func (c *Config) options() options {
 		truth("create", &c.Create, "begin a directory of this name, with these settings, and end: once, on the command line"),
 		duration("lock-delay", &c.LockDelay, "what this agent waits beyond a TTL before it declares another silo dead"),
 		duration("silent-after", &c.SilentAfter, "who leaves questions unanswered for so long is suspected; suspected by most, it is voted out"),
+		duration("deaf-after", &c.DeafAfter, "of two silos that don't hear one another for so long, and no third hears both, one is given up"),
 		duration("silo-timeout", &c.SiloTimeout, "the silo is given up where its process writes nothing for so long"),
 		duration("transport-timeout", &c.TransportTimeout, "the silo is given up where the transport is lost for so long, and another member has it"),
 		truth("kill-applications", &c.KillApplications, "a guard kills applications that haven't hung up when the silo is fenced"),
@@ -146,7 +148,7 @@ const mostActivations = 1 << 24
 // NewConfig has the defaults.
 func NewConfig() Config {
 	return Config{Cluster: "main", Program: "grain-directory", SocketMode: 0o660, Settings: directory.DefaultSettings(), Etcd: "127.0.0.1:2379",
-		Nats: "nats://127.0.0.1:4222", LockDelay: time.Second, SilentAfter: 5 * time.Second, SiloTimeout: 5 * time.Second,
+		Nats: "nats://127.0.0.1:4222", LockDelay: time.Second, SilentAfter: 5 * time.Second, DeafAfter: time.Minute, SiloTimeout: 5 * time.Second,
 		Activations: 1000000, EtcdQuota: 2048, TransportTimeout: 10 * time.Second, LeaveTimeout: 30 * time.Second, Rejoin: true, Log: Info}
 }
 
@@ -237,7 +239,8 @@ func (c *Config) check() error {
 		name string
 		what time.Duration
 		most time.Duration
-	}{{"lock-delay", c.LockDelay, time.Hour}, {"silent-after", c.SilentAfter, time.Hour}, {"silo-timeout", c.SiloTimeout, time.Hour},
+	}{{"lock-delay", c.LockDelay, time.Hour}, {"silent-after", c.SilentAfter, time.Hour}, {"deaf-after", c.DeafAfter, 24 * time.Hour},
+		{"silo-timeout", c.SiloTimeout, time.Hour},
 		{"transport-timeout", c.TransportTimeout, time.Hour}, {"leave-timeout", c.LeaveTimeout, 24 * time.Hour}} {
 		if one.what < 0 || one.what > one.most || one.what == 0 && one.name != "lock-delay" {
 			return fmt.Errorf("--%s is %v: something up to %v is wanted", one.name, one.what, one.most)

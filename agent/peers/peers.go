@@ -68,6 +68,21 @@ func Beats(silent, seen clock.Time, ttl time.Duration) bool { return seen.Sub(si
 func (s *Silence) Suspects(long time.Duration, members []directory.Silo) (silent []directory.Silo) {
 	s.mu.Lock()
 	defer s.mu.Unlock()
+	silent = s.silent(long, members)
+	if 2*len(silent) >= len(members) {
+		return nil
+	}
+	return silent
+}
+
+// Silent are all members that have been silent for so long, by their texts.
+func (s *Silence) Silent(long time.Duration, members []directory.Silo) []directory.Silo {
+	s.mu.Lock()
+	defer s.mu.Unlock()
+	return s.silent(long, members)
+}
+
+func (s *Silence) silent(long time.Duration, members []directory.Silo) (silent []directory.Silo) {
 	isMember := map[directory.Silo]bool{}
 	for _, silo := range members {
 		isMember[silo] = true
@@ -78,9 +93,6 @@ func (s *Silence) Suspects(long time.Duration, members []directory.Silo) (silent
 		} else if s.now().Sub(since) > long {
 			silent = append(silent, silo)
 		}
-	}
-	if 2*len(silent) >= len(members) {
-		return nil
 	}
 	sort.Slice(silent, func(i, j int) bool { return silent[i] < silent[j] })
 	return silent
@@ -110,8 +122,12 @@ type Report struct {
 	Seen, Settled uint64 // the versions that its silo has seen, and at which all its ranges were settled
 	Up            bool   // whether its transport is connected
 	Suspects      []directory.Silo
-	Names         []string // of its applications, as they call themselves
+	Deaf          []directory.Silo // whom it doesn't hear, the suspects among them or not
+	Names         []string         // of its applications, as they call themselves
 }
+
+// deafTo stands in front of whom a silo doesn't hear. An older agent takes that for a suspect that is no member.
+const deafTo = "~"
 
 // Text is a report as it stands in the store.
 func (r Report) Text() string {
@@ -122,6 +138,9 @@ func (r Report) Text() string {
 	words := []string{decimal(r.Seen), decimal(r.Settled), up}
 	for _, silo := range r.Suspects {
 		words = append(words, string(silo))
+	}
+	for _, silo := range r.Deaf {
+		words = append(words, deafTo+string(silo))
 	}
 	if len(r.Names) > 0 {
 		words = append(words, "="+strings.Join(r.Names, ","))
@@ -137,9 +156,12 @@ func ReadReport(text string) (r Report) {
 	}
 	r.Seen, r.Settled, r.Up = number(words[0]), number(words[1]), words[2] == "up"
 	for _, word := range words[3:] {
-		if strings.HasPrefix(word, "=") {
+		switch {
+		case strings.HasPrefix(word, "="):
 			r.Names = strings.Split(word[1:], ",")
-		} else {
+		case strings.HasPrefix(word, deafTo):
+			r.Deaf = append(r.Deaf, directory.Silo(word[len(deafTo):]))
+		default:
 			r.Suspects = append(r.Suspects, directory.Silo(word))
 		}
 	}

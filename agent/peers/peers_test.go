@@ -83,8 +83,9 @@ func TestVotedOut(t *testing.T) {
 
 func TestReport(t *testing.T) {
 	for text, report := range map[string]Report{
-		"7 6 up": {7, 6, true, nil, nil}, "18446744073709551615 0 down a b": {1<<64 - 1, 0, false, []directory.Silo{a, b}, nil},
-		"7 6 up =x@h": {7, 6, true, nil, []string{"x@h"}}, "7 6 up a =x@h,y": {7, 6, true, []directory.Silo{a}, []string{"x@h", "y"}},
+		"7 6 up": {7, 6, true, nil, nil, nil}, "18446744073709551615 0 down a b": {1<<64 - 1, 0, false, []directory.Silo{a, b}, nil, nil},
+		"7 6 up =x@h": {7, 6, true, nil, nil, []string{"x@h"}}, "7 6 up a =x@h,y": {7, 6, true, []directory.Silo{a}, nil, []string{"x@h", "y"}},
+		"7 6 up a ~a ~b =y": {7, 6, true, []directory.Silo{a}, []directory.Silo{a, b}, []string{"y"}},
 	} {
 		if got := ReadReport(text); !reflect.DeepEqual(got, report) || report.Text() != text {
 			t.Errorf("%q: %+v, %q", text, got, report.Text())

@@ -5,7 +5,8 @@
 package planted
 
 // The faults: deadlines never pass; an end takes longer than the margin; a change of membership is written without its conditions; parts of two
-// messages of silos are put together; who has a grain is granted it again; one that migrates to `any` closes once its place is known.
+// messages of silos are put together; who has a grain is granted it again; one that migrates to `any` closes once its place is known;
+// no message goes through another silo.
 const (
 	NoFence       = false
 	SlowEnd       = false
@@ -13,6 +14,7 @@ const (
 	MixedParts    = false
 	FirmAgain     = false
 	LateClosing   = false
+	NoRelay       = false
 )
 
 // Rate is how fast this machine's clock runs.

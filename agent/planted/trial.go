@@ -18,6 +18,7 @@ var (
 	MixedParts    = planted == "mixed-parts"
 	FirmAgain     = planted == "firm-again"
 	LateClosing   = planted == "late-closing"
+	NoRelay       = planted == "no-relay"
 )
 
 // InParts has all messages of silos go in parts, of which one in a hundred is lost, by GRAIN_DIRECTORY_IN_PARTS.

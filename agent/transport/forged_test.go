@@ -71,8 +71,8 @@ func TestLongNames(t *testing.T) {
 	long := []byte("00" + strings.Repeat("x", 1<<20) + " 1 0 2 9\n")
 	for i := byte(0); i < 20; i++ {
 		long[0], long[1] = '0'+i/10, '0'+i%10
-		p.take(long)
-		p.take([]byte(fmt.Sprintf("%d 1 0 2 9\n", i)))
+		p.take(long, "")
+		p.take([]byte(fmt.Sprintf("%d 1 0 2 9\n", i)), "")
 	}
 	if len(p.letters) > 0 || p.size != 0 {
 		t.Errorf("%d senders are kept", len(p.letters))

@@ -41,8 +41,8 @@ func cut(sender directory.Silo, number uint64, line []byte, most int) (messages 
 // parts puts letters together again. The parts of a sender come in order, and those of one letter behind those of another: so of each sender
 // there is one letter at a time, and any part that isn't the next one of that letter ends it.
 type parts struct {
-	letters map[string]*partial
-	size    int // bytes of all, and what each takes besides
+	letters map[string]*partial // by sender, and whether they came through another
+	size    int                 // bytes of all, and what each takes besides
 }
 
 type partial struct {
@@ -54,8 +54,9 @@ type partial struct {
 
 func newParts() parts { return parts{letters: map[string]*partial{}} }
 
-// take takes a part, and gives the letter that is whole by it, or nil; lost says that a letter was given up.
-func (p *parts) take(data []byte) (line []byte, lost bool) {
+// take takes a part, of a silo where it came through another, and gives the letter that is whole by it, or nil; lost says that a letter was given up.
+// Parts that come straight and those that come through another silo aren't mixed: each way has them in order.
+func (p *parts) take(data []byte, of directory.Silo) (line []byte, lost bool) {
 	head, rest, found := bytes.Cut(data, []byte("\n"))
 	if len(head) > headRoom { // so that what is kept of a sender is counted
 		return nil, true
@@ -64,12 +65,16 @@ func (p *parts) take(data []byte) (line []byte, lost bool) {
 	var number uint64
 	var index, count, size int
 	if _, err := fmt.Sscanf(string(head), "%s %d %d %d %d", &sender, &number, &index, &count, &size); !found || err != nil ||
-		index < 0 || index >= count || size < 0 || size > longestLine || len(rest) > size {
+		index < 0 || index >= count || size < 0 || size > longestLine || len(rest) > size || of != "" && sender != string(of) {
 		return nil, true
 	}
-	letter := p.letters[sender]
+	way := sender
+	if of != "" {
+		way = "through another " + sender
+	}
+	letter := p.letters[way]
 	if letter != nil && !planted.MixedParts && (letter.number != number || letter.next != index || letter.count != count || letter.size != size) {
-		p.drop(sender)
+		p.drop(way)
 		letter, lost = nil, true
 	}
 	if letter == nil {
@@ -80,18 +85,18 @@ func (p *parts) take(data []byte) (line []byte, lost bool) {
 			return nil, true
 		}
 		letter = &partial{number: number, count: count, size: size}
-		p.letters[sender] = letter
+		p.letters[way] = letter
 		p.size += besides
 	}
 	if len(letter.bytes)+len(rest) > size {
-		p.drop(sender)
+		p.drop(way)
 		return nil, true
 	}
 	letter.next++
 	letter.bytes = append(letter.bytes, rest...)
 	p.size += len(rest)
 	if letter.next == count {
-		p.drop(sender)
+		p.drop(way)
 		if len(letter.bytes) != size || !bytes.HasPrefix(letter.bytes, []byte("letter "+sender+" ")) {
 			return nil, true
 		}
@@ -101,7 +106,7 @@ func (p *parts) take(data []byte) (line []byte, lost bool) {
 		if p.size <= mostParts {
 			break
 		}
-		if other != sender {
+		if other != way {
 			p.drop(other)
 			lost = true
 		}
@@ -109,7 +114,7 @@ func (p *parts) take(data []byte) (line []byte, lost bool) {
 	return nil, lost
 }
 
-func (p *parts) drop(sender string) {
-	p.size -= len(p.letters[sender].bytes) + besides
-	delete(p.letters, sender)
+func (p *parts) drop(way string) {
+	p.size -= len(p.letters[way].bytes) + besides
+	delete(p.letters, way)
 }

@@ -4,6 +4,8 @@
 //
 //	message = "L" LINE "\n" LINE ..
 //	        | "P" SENDER " " NUMBER " " INDEX " " COUNT " " SIZE "\n" BYTES
+//	        | "H" SENDER                          it is there
+//	        | "R" SENDER " " TO "\n" MESSAGE     of one of the other two, by a third, since the two don't hear one another
 package transport
 
 import (
@@ -61,7 +63,11 @@ type Listener interface {
 }
 
 // Counts are what was carried so far.
-type Counts struct{ Sent, Received, BytesSent, BytesReceived, MessagesLost, Cut, PartsLost, Forged int64 }
+type Counts struct {
+	Sent, Received, BytesSent, BytesReceived, MessagesLost, Cut, PartsLost int64
+	Forged                                                                 int64 // not from whom they say, or not to be handed on
+	Relayed                                                                int64 // through another silo, or for others
+}
 
 // Post carries the letters of one silo.
 type Post struct {
@@ -70,6 +76,7 @@ type Post struct {
 	listener Listener
 	carrier  Carrier
 	counts   Counts
+	routes   atomic.Value // Routes
 
 	batches map[directory.Silo][]byte // of the goroutine that calls Letter and Flush
 	number  uint64                    // of the last letter that was cut
@@ -86,14 +93,17 @@ type Post struct {
 }
 
 type message struct {
-	to   directory.Silo
-	data []byte
+	to         directory.Silo
+	data       []byte
+	isStraight bool // it goes through no other silo
 }
 
 // New makes the post of a silo; may says whether it may send anything now. It receives before it has a carrier, and sends behind Carry.
 func New(me directory.Silo, may func() bool, listener Listener) *Post {
-	return &Post{me: me, may: may, listener: listener, batches: map[directory.Silo][]byte{}, outbox: make(chan message, mostMessages),
+	p := &Post{me: me, may: may, listener: listener, batches: map[directory.Silo][]byte{}, outbox: make(chan message, mostMessages),
 		ended: make(chan struct{}), parts: newParts()}
+	p.Route(straight)
+	return p
 }
 
 // Carry sends what is handed over by a carrier, until Close.
@@ -107,7 +117,7 @@ func (p *Post) Carry(carrier Carrier) {
 			case m := <-p.outbox:
 				atomic.AddInt64(&p.bytes, -int64(len(m.data)))
 				size := int64(len(m.data))
-				if !p.may() || planted.Loses() || carrier.Publish(m.to, m.data) != nil {
+				if !p.may() || planted.Loses() || p.send(carrier, m) != nil {
 					atomic.AddInt64(&p.counts.MessagesLost, 1)
 				} else {
 					atomic.AddInt64(&p.counts.BytesSent, size)
@@ -135,14 +145,14 @@ func (p *Post) Counts() Counts {
 	load := func(count *int64) int64 { return atomic.LoadInt64(count) }
 	c := &p.counts
 	return Counts{load(&c.Sent), load(&c.Received), load(&c.BytesSent), load(&c.BytesReceived), load(&c.MessagesLost), load(&c.Cut), load(&c.PartsLost),
-		load(&c.Forged)}
+		load(&c.Forged), load(&c.Relayed)}
 }
 
 func (p *Post) most() int {
 	if planted.InParts {
 		return headRoom + 32
 	}
-	if most := p.carrier.Most(); most < longestMessage {
+	if most := p.carrier.Most() - headRoom; most < longestMessage { // there is room for a head, where it goes through another silo
 		return most
 	}
 	return longestMessage
@@ -184,17 +194,20 @@ func (p *Post) Flush() {
 
 // publish puts a message out; where too much waits, it is lost. Who calls it reads what the silo says, and mustn't wait for a carrier.
 func (p *Post) publish(to directory.Silo, data []byte) {
-	if len(data) == 0 {
-		return
+	if len(data) > 0 {
+		p.put(message{to: to, data: data})
 	}
-	if atomic.AddInt64(&p.bytes, int64(len(data))) <= mostBytes {
+}
+
+func (p *Post) put(m message) {
+	if atomic.AddInt64(&p.bytes, int64(len(m.data))) <= mostBytes {
 		select {
-		case p.outbox <- message{to, data}:
+		case p.outbox <- m:
 			return
 		default:
 		}
 	}
-	atomic.AddInt64(&p.bytes, -int64(len(data)))
+	atomic.AddInt64(&p.bytes, -int64(len(m.data)))
 	atomic.AddInt64(&p.counts.MessagesLost, 1)
 }
 
@@ -202,6 +215,19 @@ func (p *Post) publish(to directory.Silo, data []byte) {
 // would be obeyed.
 func (p *Post) Take(data []byte, sender Sender) {
 	atomic.AddInt64(&p.counts.BytesReceived, int64(len(data)))
+	switch {
+	case len(data) == 0:
+	case data[0] == 'R':
+		p.relayed(data, sender)
+	case data[0] == 'H':
+		p.hello(data, sender)
+	default:
+		p.take(data, sender, "")
+	}
+}
+
+// take takes a message of letters, or of a part of one; of a silo, which came through another, or "": straight.
+func (p *Post) take(data []byte, sender Sender, of directory.Silo) {
 	switch {
 	case len(data) == 0:
 	case data[0] == 'L':
@@ -212,33 +238,36 @@ func (p *Post) Take(data []byte, sender Sender) {
 			} else {
 				rest = nil
 			}
-			p.deliver(line, sender)
+			p.deliver(line, sender, of)
 		}
 	case data[0] == 'P':
 		p.mu.Lock()
-		line, lost := p.parts.take(data[1:])
+		line, lost := p.parts.take(data[1:], of)
 		p.mu.Unlock()
 		if lost {
 			atomic.AddInt64(&p.counts.PartsLost, 1)
 		}
 		if line != nil {
-			p.deliver(line, sender)
+			p.deliver(line, sender, of)
 		}
 	}
 }
 
-func (p *Post) deliver(line []byte, sender Sender) {
+// deliver hands a letter on. One that came through another silo isn't heard: what is heard is that nothing is between two.
+func (p *Post) deliver(line []byte, sender Sender, of directory.Silo) {
 	words := bytes.SplitN(line, []byte(" "), 7) // letter FROM TO VERSION KIND NUMBER ..
 	if len(words) < 5 || string(words[0]) != "letter" || string(words[2]) != string(p.me) || bytes.IndexByte(line, '\n') >= 0 {
 		return
 	}
 	from, err := directory.ReadSilo(string(words[1]))
-	if err != nil || sender != nil && !sender(from.Endpoint()) || len(words) > 5 && !p.mayCome(from, words[4], words[5]) {
+	if err != nil || sender != nil && !sender(from.Endpoint()) || of != "" && of != from || len(words) > 5 && !p.mayCome(from, words[4], words[5]) {
 		p.forged(string(words[1]))
 		return
 	}
 	atomic.AddInt64(&p.counts.Received, 1)
-	p.listener.Heard(from)
+	if of == "" {
+		p.listener.Heard(from)
+	}
 	p.listener.Receive(line)
 }
 

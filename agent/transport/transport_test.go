@@ -91,7 +91,7 @@ func letter(from, to directory.Silo, number, size int) string {
 
 func TestManyInAMessage(t *testing.T) {
 	e := newEar()
-	w := &wire{most: 1000, to: map[directory.Silo]*Post{b: New(b, yes, e)}}
+	w := &wire{most: 1000 + headRoom, to: map[directory.Silo]*Post{b: New(b, yes, e)}}
 	out := newEar()
 	p := New(a, yes, out)
 	p.Carry(w)
@@ -116,7 +116,7 @@ func TestParts(t *testing.T) {
 		for lost := 0; lost <= 3; lost++ {
 			lost := lost
 			e := newEar()
-			w := &wire{most: most, to: map[directory.Silo]*Post{b: New(b, yes, e)}, lose: func(number int) bool { return number == lost }}
+			w := &wire{most: most + headRoom, to: map[directory.Silo]*Post{b: New(b, yes, e)}, lose: func(number int) bool { return number == lost }}
 			p := New(a, yes, newEar())
 			p.Carry(w)
 			first, second, third := letter(a, b, 1, size), letter(a, b, 2, size), letter(a, b, 3, 60)
@@ -192,7 +192,7 @@ func TestPartsBound(t *testing.T) {
 	for i := 0; i < 30; i++ {
 		sender := directory.Silo(fmt.Sprintf("10.0.0.1:1000@%d", i+1))
 		for _, part := range cut(sender, 1, big, 1<<20)[:9] {
-			p.take(part[1:])
+			p.take(part[1:], "")
 			if p.size > mostParts+1<<20 {
 				t.Fatalf("%d bytes are kept", p.size)
 			}
@@ -204,7 +204,7 @@ func TestPartsBound(t *testing.T) {
 func TestSendersBound(t *testing.T) {
 	p := newParts()
 	for i := 0; i < mostParts/besides+1000; i++ {
-		p.take([]byte(fmt.Sprintf("stranger%d 1 0 2 1\n", i)))
+		p.take([]byte(fmt.Sprintf("stranger%d 1 0 2 1\n", i)), "")
 	}
 	if len(p.letters) > mostParts/besides || p.size > mostParts {
 		t.Errorf("%d letters are kept", len(p.letters))

@@ -131,6 +131,7 @@ func (a *agent) generations(ctx context.Context, sequence *membership.Sequence) 
 				return fenced
 			}
 			last = outcome
+			a.awaitReach(ctx, sequence, outcome.Severed)
 		}
 		wait := between.after(clock.Boot().Sub(began), outcome)
 		if wait > 0 {

@@ -33,7 +33,11 @@ func (a *agent) handler() http.Handler {
 		if err := m.Health(); err != nil {
 			return err
 		}
-		fmt.Fprintf(w, "ok %s\n", m.Silo())
+		cuts := m.Cuts()
+		if cuts != "" {
+			cuts = "; " + cuts
+		}
+		fmt.Fprintf(w, "ok %s%s\n", m.Silo(), cuts)
 		return nil
 	}))
 	mux.HandleFunc("/ring.svg", a.with(func(m *member.Member, w http.ResponseWriter) error {
