@@ -59,7 +59,7 @@ func TestViews(t *testing.T) {
 
 func TestSettings(t *testing.T) {
 	settings := DefaultSettings()
-	if settings.Text() != "hashing=sha256 points=30 cache=1024 transport=nats ttl=15s" {
+	if settings.Text() != "version=2 hashing=sha256 points=30 cache=1024 transport=nats ttl=15s" {
 		t.Error(settings.Text())
 	}
 	if err := settings.Compare(settings.Text()); err != nil {

@@ -15,6 +15,7 @@ type Settings struct {
 	Cache     int           // hints that a silo keeps, 1 to 65536
 	Transport string        // nats or tcp: letters of one don't reach the other
 	TTL       time.Duration // whose beat stands still for so long may be declared dead
+	Version   int           // of the directory, as it was read; an agent doesn't choose it
 }
 
 // DefaultSettings are those of an agent that isn't told otherwise.
@@ -30,9 +31,9 @@ func (s Settings) words() []setting {
 	}
 }
 
-// Text is the settings as they stand in the store.
+// Text is the settings as they stand in the store of a new directory.
 func (s Settings) Text() string {
-	var words []string
+	words := []string{version + "=" + strconv.Itoa(Newest)}
 	for _, one := range s.words() {
 		words = append(words, one.name+"="+one.value)
 	}

@@ -167,7 +167,9 @@ func (m *Member) start(token string) error {
 	m.run(m.settle)
 	m.run(m.report)
 	m.run(m.bury)
-	m.run(m.compact)
+	if config.Settings.Version >= directory.Compacted {
+		m.run(m.compact)
+	}
 	return nil
 }
 

@@ -19,16 +19,42 @@ func Create(ctx context.Context, store Store, settings directory.Settings) (bool
 	return made, err
 }
 
-// Agree compares the settings with the directory's: nil, a directory.Difference, ErrNoDirectory, or the store's fault.
-func Agree(ctx context.Context, store Store, settings directory.Settings) error {
+// Agree compares the settings with the directory's, and gives its version; or a directory.Difference or OtherVersion, ErrNoDirectory, or the store's fault.
+func Agree(ctx context.Context, store Store, settings directory.Settings) (version int, err error) {
+	entry, err := readSettings(ctx, store)
+	if err != nil {
+		return 0, err
+	}
+	return settings.Agree(entry.Value)
+}
+
+// Raise gives a directory a higher version, unless it has that, and gives the one that it had.
+func Raise(ctx context.Context, store Store, to int) (from int, err error) {
+	for {
+		entry, err := readSettings(ctx, store)
+		if err != nil {
+			return 0, err
+		}
+		if from, err = directory.VersionOf(entry.Value); err != nil || from >= to {
+			return from, err
+		}
+		made, _, err := store.Commit(ctx, Transaction{If: []Condition{{Key: settingsKey, Revision: entry.Revision}},
+			Put: []Entry{{Key: settingsKey, Value: directory.WithVersion(entry.Value, to)}}})
+		if made || err != nil {
+			return from, err
+		}
+	}
+}
+
+func readSettings(ctx context.Context, store Store) (Entry, error) {
 	entries, _, err := store.Read(ctx, settingsKey)
 	if err != nil {
-		return err
+		return Entry{}, err
 	}
 	for _, entry := range entries {
 		if entry.Key == settingsKey {
-			return settings.Compare(entry.Value)
+			return entry, nil
 		}
 	}
-	return ErrNoDirectory
+	return Entry{}, ErrNoDirectory
 }

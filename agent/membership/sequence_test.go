@@ -306,7 +306,7 @@ func TestHurtStore(t *testing.T) {
 func TestAgree(t *testing.T) {
 	store, ctx := memorystore.New(), context.Background()
 	settings := directory.DefaultSettings()
-	if err := Agree(ctx, store, settings); !errors.Is(err, ErrNoDirectory) {
+	if _, err := Agree(ctx, store, settings); !errors.Is(err, ErrNoDirectory) {
 		t.Errorf("a directory is there that nobody created: %v", err)
 	}
 	for _, isNew := range []bool{true, false} {
@@ -314,14 +314,14 @@ func TestAgree(t *testing.T) {
 			t.Error(made, err)
 		}
 	}
-	if err := Agree(ctx, store, settings); err != nil {
+	if _, err := Agree(ctx, store, settings); err != nil {
 		t.Fatal(err)
 	}
 	settings.Points = 4
-	if err := Agree(ctx, store, settings); err == nil || !strings.Contains(err.Error(), "points is 4 here, and 30 in the directory") {
+	if _, err := Agree(ctx, store, settings); err == nil || !strings.Contains(err.Error(), "points is 4 here, and 30 in the directory") {
 		t.Error(err)
 	}
-	if err := Agree(ctx, store, directory.DefaultSettings()); err != nil {
+	if _, err := Agree(ctx, store, directory.DefaultSettings()); err != nil {
 		t.Error(err)
 	}
 	if _, _, err := store.Commit(ctx, Transaction{Put: []Entry{{Key: "change/0000000001", Value: "joined 10.0.0.1:1@1"}}, Delete: []string{"settings"}}); err != nil {

@@ -34,7 +34,7 @@ type Config struct {
 	DeafAfter                                time.Duration
 	TransportTimeout, LeaveTimeout           time.Duration
 	AfterEnd                                 string
-	Rejoin, KillApplications, Create         bool
+	Rejoin, KillApplications, Create, Raise  bool
 	TCPPlain                                 bool // without TLS
 	Activations                              int
 	EtcdQuota                                int // MiB
@@ -124,6 +124,7 @@ func (c *Config) options() options {
 		text("tcp-cert", &c.TCPTLS.Certificate, "this agent's certificate, which names its address, or its endpoint by grain-directory://A.B.C.D:PORT"),
 		text("tcp-key", &c.TCPTLS.Key, "its key"),
 		truth("tcp-plain", &c.TCPPlain, "without certificates: whoever reaches an agent's endpoint can make two activations of a grain"),
+		truth("raise", &c.Raise, "give the directory the highest version that this agent speaks, and end: once all agents speak it"),
 		truth("create", &c.Create, "begin a directory of this name, with these settings, and end: once, on the command line"),
 		duration("lock-delay", &c.LockDelay, "what this agent waits beyond a TTL before it declares another silo dead"),
 		duration("silent-after", &c.SilentAfter, "who leaves questions unanswered for so long is suspected; suspected by most, it is voted out"),
@@ -206,6 +207,9 @@ func readFile(path string, flags *flag.FlagSet, given map[string]bool) error {
 			return fmt.Errorf("%s, line %d: a directory is created once, by --create on the command line: else one whose store is wiped would begin anew",
 				path, number)
 		}
+		if name == "raise" {
+			return fmt.Errorf("%s, line %d: a directory's version is raised by --raise on the command line", path, number)
+		}
 		if !found || name == "config" || flags.Lookup(name) == nil {
 			return fmt.Errorf("%s, line %d: %q is no option: --help lists them, and a line is: name = value", path, number, name)
 		}
@@ -221,12 +225,15 @@ func readFile(path string, flags *flag.FlagSet, given map[string]bool) error {
 
 var clusterName = regexp.MustCompile(`^[A-Za-z0-9_-]{1,64}$`)
 
+// isOnce says whether the agent does something to the directory and ends.
+func (c *Config) isOnce() bool { return c.Create || c.Raise }
+
 // check says what is wrong with a configuration, and what to do.
 func (c *Config) check() error {
-	if (c.Endpoint == "" || c.Socket == "") && !c.Create {
+	if (c.Endpoint == "" || c.Socket == "") && !c.isOnce() {
 		return errors.New("--endpoint A.B.C.D:PORT and --socket PATH are wanted; --help tells all options")
 	}
-	if err := directory.CheckEndpoint(c.Endpoint); err != nil && !(c.Create && c.Endpoint == "") {
+	if err := directory.CheckEndpoint(c.Endpoint); err != nil && !(c.isOnce() && c.Endpoint == "") {
 		return fmt.Errorf("--endpoint: %w", err)
 	}
 	if !clusterName.MatchString(c.Cluster) {
@@ -263,7 +270,7 @@ func (c *Config) check() error {
 	if c.TCPTLS.Authority != "" && c.TCPTLS.Certificate == "" || c.TCPTLS.Authority == "" && c.TCPTLS.Certificate != "" {
 		return errors.New("--tcp-ca, --tcp-cert and --tcp-key belong together: both ends of each connection show a certificate")
 	}
-	if c.Settings.Transport == "tcp" && c.TCPTLS.Authority == "" && !c.TCPPlain && !c.Create {
+	if c.Settings.Transport == "tcp" && c.TCPTLS.Authority == "" && !c.TCPPlain && !c.isOnce() {
 		return errors.New("--transport=tcp wants --tcp-ca, --tcp-cert and --tcp-key; or --tcp-plain, on a network that no stranger reaches")
 	}
 	return nil

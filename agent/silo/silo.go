@@ -15,7 +15,6 @@ import (
 	"sync"
 	"sync/atomic"
 	"syscall"
-	"time"
 
 	"agent/clock"
 	"agent/directory"
@@ -151,29 +150,6 @@ func Start(options Options, listener Listener) (*Silo, error) {
 	s := over(options, listener, in, out)
 	s.command = command
 	return s, nil
-}
-
-// Check says what is wrong with a program as a silo's, or nil: each join that comes to nothing uses up a generation.
-func Check(program string, silo directory.Silo, settings directory.Settings, most int) error {
-	const patience = 20 * time.Second
-	s, err := Start(Options{Program: program, Silo: silo, Settings: settings, Most: most, Token: "none"}, deaf{})
-	if err != nil {
-		return err
-	}
-	defer s.Kill()
-	answered := make(chan string, 1)
-	s.send("status", func(said string) { answered <- said })
-	said := "nothing"
-	select {
-	case said = <-answered:
-		if _, isStatus := readStatus(said); isStatus {
-			return nil
-		}
-	case <-s.Ended():
-	case <-time.After(patience):
-	}
-	return fmt.Errorf("%s isn't a silo's process: `%s silo %s` answers `status` by %s; --program is the path of grain-directory, built by ./build",
-		program, program, silo, short(said))
 }
 
 // deaf hears nothing.

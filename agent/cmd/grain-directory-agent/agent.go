@@ -2,7 +2,6 @@ package main
 
 import (
 	"context"
-	"errors"
 	"log"
 	"os"
 	"path/filepath"
@@ -55,8 +54,14 @@ func (a *agent) run(ctx context.Context) int {
 	if a.config.Create {
 		return a.create(ctx)
 	}
+	if a.config.Raise {
+		return a.raise(ctx)
+	}
 	if err := silo.Check(a.config.Program, directory.At(a.config.Endpoint, 1), a.config.Settings, a.config.Activations); err != nil {
 		log.Printf("error: %v", err)
+		if isMistake(err) {
+			return mistaken
+		}
 		return cannot
 	}
 	if a.config.Settings.Transport == "tcp" && a.config.TCPTLS.Authority == "" {
@@ -75,8 +80,7 @@ func (a *agent) run(ctx context.Context) int {
 		return left
 	} else if err != nil {
 		log.Printf("error: %v", err)
-		var difference directory.Difference
-		if errors.As(err, &difference) {
+		if isMistake(err) {
 			return mistaken
 		}
 		return cannot

@@ -9,7 +9,6 @@ import (
 	"time"
 
 	"agent/clock"
-	"agent/directory"
 	"agent/membership"
 	"agent/membership/etcdstore"
 	"agent/membership/postgresstore"
@@ -28,7 +27,8 @@ func (a *agent) call() time.Duration {
 func (a *agent) agree(ctx context.Context, store membership.Store) error {
 	var complaint operation.Complaint
 	return a.ask(ctx, func(calling context.Context) error {
-		err := membership.Agree(calling, store, a.config.Settings)
+		version, err := membership.Agree(calling, store, a.config.Settings)
+		a.config.Settings.Version = version
 		if errors.Is(err, membership.ErrNoDirectory) && complaint.IsDue(clock.Boot()) {
 			log.Printf("error: %q at %s: %v", a.config.Cluster, a.config.StoreName(), err)
 		}
@@ -43,8 +43,7 @@ func (a *agent) ask(ctx context.Context, question func(context.Context) error) e
 		calling, done := context.WithTimeout(ctx, call)
 		err := question(calling)
 		done()
-		var difference directory.Difference
-		if err == nil || errors.As(err, &difference) {
+		if err == nil || isMistake(err) {
 			return err
 		}
 		if ctx.Err() != nil {
