@@ -50,14 +50,18 @@ class Processes:
                 "--etcd=" + ",".join(f"{self.network.hosts[one]}:2379" for one in ETCDS)]
 
     def create(self):
-        """Begins the directory, once etcd answers."""
+        """Begins the directory, once etcd answers; older agents do so themselves."""
+        if "older" in self.programs:
+            return
         run([*self.network.inside(self.agents[0]), *self.directory(), "--create"], check=True, env=self.environment)
 
     def agent(self, name):
         hosts = self.network.hosts
-        return [*self.directory(), f"--endpoint={hosts[name]}:7000", f"--socket={self.socket(name)}",
+        is_older = "older" in self.programs and (self.starts.get(name, 0) + int(name[1:])) % 2 == 1
+        program, *directory = self.directory()
+        return [self.programs["older"] if is_older else program, *directory, f"--endpoint={hosts[name]}:7000", f"--socket={self.socket(name)}",
                 f"--program={self.programs['silo']}", "--lock-delay=500ms", "--silent-after=3s", "--transport-timeout=6s", "--leave-timeout=10s",
-                "--tcp-plain",
+                *(() if is_older else ("--tcp-plain",)),
                 "--nats=" + ",".join(f"nats://{hosts[one]}:4222" for one in BROKERS), *self.words]
 
     def socket(self, name):

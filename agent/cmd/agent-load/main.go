@@ -1,7 +1,7 @@
 // agent-load drives agents by their sockets, for tools/partitions and for measuring:
 //
 //	agent-load ready --at A,B,.. [--seconds S]                 waits until all have settled the same version
-//	agent-load work --at A,B,.. --clients N --seconds S --grains G [--tokens FILE] [--heedless]
+//	agent-load work --at A,B,.. --clients N --seconds S --grains G [--tokens FILE] [--heedless] [--careful]
 //	                                                            lives of few grains at random, each of which writes with its token to a store that
 //	                                                            tests it, and ends, or has the grain migrate; every fourth client asks for it anew
 //	                                                            in the same write. Status 1 where two works of a grain overlapped, or a token fell
@@ -33,6 +33,7 @@ type options struct {
 	prefix   string
 	tokens   string
 	heedless bool
+	careful  bool
 	longest  time.Duration
 }
 
@@ -50,6 +51,7 @@ func main() {
 	flags.StringVar(&o.prefix, "prefix", "g", "the kind of the grains")
 	flags.StringVar(&o.tokens, "tokens", "", "a file that keeps the highest token of each grain from one run to the next")
 	flags.BoolVar(&o.heedless, "heedless", false, "works go on until they are told to end, and don't heed the deadline")
+	flags.BoolVar(&o.careful, "careful", false, "no client asks for a grain anew in the write in which it has it migrate")
 	flags.DurationVar(&o.longest, "life", 400*time.Millisecond, "how long a work may be")
 	flags.Parse(os.Args[2:])
 	o.at = strings.Split(*at, ",")

@@ -81,7 +81,7 @@ func work(o options) error {
 			defer wait.Done()
 			random := rand.New(rand.NewSource(time.Now().UnixNano() + int64(n)))
 			for ctx.Err() == nil {
-				if n%4 == 3 {
+				if n%4 == 3 && !o.careful {
 					dialCareless(ctx, o, o.at[n/4%len(o.at)], random, s, r)
 					continue
 				}
