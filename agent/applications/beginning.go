@@ -22,7 +22,7 @@ func (s *Service) activate(k ask, name string) {
 		}
 	case g.phase == asking:
 		g.asked = append(g.asked, k)
-		if g.owner == nil {
+		if s.isNobodys(g) {
 			s.give(g, k.app)
 		}
 	case g.phase == closing:
@@ -37,7 +37,7 @@ func (s *Service) activate(k ask, name string) {
 // grant answers who asks for a firm activation: it is granted where nobody has it, and once.
 func (s *Service) grant(k ask, g *grain) {
 	switch {
-	case g.owner == nil || g.owner == k.app && planted.FirmAgain:
+	case s.isNobodys(g) || g.owner == k.app && planted.FirmAgain:
 		s.give(g, k.app)
 		k.answer("firm %s %s token %d", g.activation, g.name, g.token)
 	case g.owner == k.app:
@@ -47,18 +47,21 @@ func (s *Service) grant(k ask, g *grain) {
 	}
 }
 
+// isNobodys says whether nobody has an activation, be it that who had it has hung up.
+func (s *Service) isNobodys(g *grain) bool { return g.owner == nil || !s.apps[g.owner] }
+
 // give makes an activation an application's, or nobody's.
 func (s *Service) give(g *grain, owner *application) {
 	s.take(g)
 	g.owner = owner
 	if s.whose[owner] == nil {
-		s.whose[owner] = map[*grain]bool{}
+		s.whose[owner] = &pile{}
 	}
-	s.whose[owner][g] = true
+	s.whose[owner].add(g)
 }
 
 func (s *Service) take(g *grain) {
-	if delete(s.whose[g.owner], g); len(s.whose[g.owner]) == 0 {
+	if p := s.whose[g.owner]; p != nil && p.remove(g) && p.size() == 0 {
 		delete(s.whose, g.owner)
 	}
 }
@@ -67,6 +70,7 @@ func (s *Service) take(g *grain) {
 func (s *Service) drop(g *grain) {
 	s.take(g)
 	delete(s.grains, g.name)
+	s.leftNoMore(g)
 }
 
 // woken takes the answer to `wake`.

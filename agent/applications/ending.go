@@ -10,7 +10,7 @@ import (
 const anywhere = directory.Silo("any")
 
 // close begins the end of an activation whose work has ended: it is closed, or offered to a silo. One that asks is given up. From here on nobody is
-// granted it, whatever has to be asked first. mu is held, but in placed, cancelled, hungUp and Sweep, which take it.
+// granted it, whatever has to be asked first. mu is held, but in placed and cancelled, which take it.
 func (s *Service) close(k ask, name string, to directory.Silo) {
 	g := s.grains[name]
 	switch {
@@ -164,6 +164,7 @@ func (s *Service) goesOn(g *grain, phase phase, code string) {
 	}
 	ending, again := g.ending, g.again
 	g.phase, g.ending, g.again = phase, nil, nil
+	s.leftNoMore(g)
 	for _, k := range ending {
 		k.refuse(code)
 	}
@@ -175,6 +176,7 @@ func (s *Service) ended(g *grain, how string) {
 	s.took("deactivate", g.since)
 	s.answerEnding(g, how)
 	s.anew(g.name, g.again)
+	s.endLeft()
 }
 
 // anew asks for an activation for those who wait for it and haven't hung up.
@@ -191,50 +193,4 @@ func (s *Service) answerEnding(g *grain, how string) {
 		k.answer("ended %s %s", g.name, how)
 	}
 	g.ending = nil
-}
-
-// hungUp closes what belonged to an application: with its connection its work has ended.
-func (s *Service) hungUp(app *application) {
-	s.mu.Lock()
-	delete(s.apps, app)
-	for name := range app.expects {
-		s.unexpect(app, name)
-	}
-	for g := range s.whose[app] {
-		s.give(g, nil)
-		s.release(g)
-	}
-	s.mu.Unlock()
-	s.disconnected(app.process)
-}
-
-// release ends an activation that nobody has, unless it moves here.
-func (s *Service) release(g *grain) {
-	switch {
-	case s.over != "":
-	case g.phase == firm:
-		s.close(ask{}, g.name, "")
-	case g.phase == asking && len(g.asked) > 0:
-		s.giveUp(g, nil)
-	}
-}
-
-// disconnected tells that a process has hung up, where it has no other connection.
-func (s *Service) disconnected(process int) {
-	s.watching.Lock()
-	defer s.watching.Unlock()
-	if _, isThere := s.Processes()[process]; !isThere && s.options.Disconnected != nil {
-		s.options.Disconnected(process)
-	}
-}
-
-// Sweep ends the activations that nobody has: those whose end was refused, as where too much waited for the silo.
-func (s *Service) Sweep() {
-	s.mu.Lock()
-	defer s.mu.Unlock()
-	for g := range s.whose[nil] {
-		if s.options.May() {
-			s.release(g)
-		}
-	}
 }

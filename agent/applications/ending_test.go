@@ -246,8 +246,8 @@ func TestWhose(t *testing.T) {
 		t.Errorf("%d have something", len(x.service.whose))
 	}
 	for _, grains := range x.service.whose {
-		if len(grains) != 4 {
-			t.Errorf("%d are held", len(grains))
+		if grains.size() != 4 {
+			t.Errorf("%d are held", grains.size())
 		}
 	}
 }

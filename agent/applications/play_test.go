@@ -35,12 +35,9 @@ func (p *party) Add(line []byte, _ int) bool {
 	p.down = append(p.down, string(line))
 	return true
 }
-func (p *party) Size() int { return 0 }
-
-// AwaitRoom has nobody wait.
+func (p *party) Size() int     { return 0 }
 func (p *party) AwaitRoom(int) {}
-
-func (p *party) Close() { p.isClosed = true }
+func (p *party) Close()        { p.isClosed = true }
 
 // world is an agent's service between two parties and a silo.
 type world struct {

@@ -26,10 +26,11 @@
 //	event lost WHY                    all activations are lost: end all work, then hang up
 //
 // An activation belongs to the connection that asked for it. When that hangs up its work has ended, so the activation is closed; one that isn't firm
-// yet is given up, unless another connection asks for it, too.
+// yet is given up, unless another connection asks for it, too. However many there are, few of them end at a time.
 package applications
 
 import (
+	"fmt"
 	"sync"
 	"time"
 
@@ -75,11 +76,13 @@ type Service struct {
 	over     string // why all is lost
 	leaving  bool
 	grains   map[string]*grain
-	whose    map[*application]map[*grain]bool // what each application has; under nil, what nobody has
-	expected map[string]*application          // whose a grain is if it moves here
+	whose    map[*application]*pile  // what each application has; under nil, what nobody has
+	expected map[string]*application // whose a grain is if it moves here
 	finds    map[string]*search
 	apps     map[*application]bool
 	counts   map[string]int64
+	left     []*application // have hung up, and had something then
+	underWay int            // ends of what nobody has any more
 }
 
 // phase is how far an activation has come.
@@ -101,18 +104,20 @@ type grain struct {
 	owner            *application // whose work it is, or who asks first; nil while it moves here, and once that has hung up
 	asked            []ask        // who waits for firm or taken
 	ending           []ask        // who waits for its end
+	isLeft           bool         // it is among those that the service ends, since nobody has it any more
+	place            int          // in the pile of its owner
 	again            []ask        // who wants it anew behind its end
 }
 
 // New makes a service; connections come by Serve.
 func New(options Options) *Service {
-	return &Service{options: options, grains: map[string]*grain{}, whose: map[*application]map[*grain]bool{}, expected: map[string]*application{},
+	return &Service{options: options, grains: map[string]*grain{}, whose: map[*application]*pile{}, expected: map[string]*application{},
 		finds: map[string]*search{}, apps: map[*application]bool{}, counts: map[string]int64{}}
 }
 
 // Figures are what a service has, and what it counted.
 type Figures struct {
-	Held, Firm, Finding, Applications int
+	Held, Left, Finding, Applications int // left: nobody has it any more, and its end isn't begun
 	Counts                            map[string]int64
 }
 
@@ -121,10 +126,8 @@ func (s *Service) Figures() Figures {
 	s.mu.Lock()
 	defer s.mu.Unlock()
 	f := Figures{Held: len(s.grains), Finding: len(s.finds), Applications: len(s.apps), Counts: map[string]int64{}}
-	for _, g := range s.grains {
-		if g.phase == firm {
-			f.Firm++
-		}
+	for _, app := range s.left {
+		f.Left += s.whose[app].size()
 	}
 	for name, count := range s.counts {
 		f.Counts[name] = count
@@ -165,9 +168,10 @@ func (s *Service) Leave() {
 }
 
 func (s *Service) tell(format string, words ...any) {
+	line := []byte(fmt.Sprintf(format, words...))
 	s.mu.Lock()
 	defer s.mu.Unlock()
 	for app := range s.apps {
-		app.tell(format, words...)
+		app.out.Add(line, mostNews)
 	}
 }

@@ -24,6 +24,7 @@ func (m *Member) Metrics(out io.Writer) {
 	page.Gauge("activations", "activations that this silo holds, by phase", float64(status.Held-status.Asking-status.Closing), "phase", "firm")
 	page.Gauge("activations", "", float64(status.Asking), "phase", "asking")
 	page.Gauge("activations", "", float64(status.Closing), "phase", "closing")
+	page.Gauge("activations_left", "activations that nobody has any more, and whose end isn't begun", float64(figures.Left))
 	page.Gauge("finds", "searches without an answer", float64(status.Finding))
 	page.Gauge("version_known", "last version told to the silo", float64(told))
 	page.Gauge("version_seen", "last version that the silo has seen", float64(status.Seen))

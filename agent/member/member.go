@@ -140,9 +140,11 @@ func (m *Member) start(token string) error {
 	m.service = applications.New(applications.Options{Silo: (*late)(m), May: m.fence.May, Until: m.fence.Until, Now: m.options.Now, Another: m.another,
 		Status: m.statusLine, Members: m.membersLine, Took: m.noteTook, Admits: m.admits, Connected: m.watch, Disconnected: m.forget})
 	m.post = transport.New(m.me, m.fence.May, (*letters)(m))
+	later := newDeadlines()
+	m.run(func() { later.run(m.ctx, m.service.Deadline) })
 	m.fence.OnExtended(func(until clock.Time) {
-		m.service.Deadline(until)
-		m.guardUntil(until)
+		later.set(until)
+		m.guardUntil(until) // which doesn't wait
 	})
 	m.run(func() {
 		m.fence.Keep(m.ctx, func(ctx context.Context) error { return m.options.Sequence.Beat(ctx, m.me) })

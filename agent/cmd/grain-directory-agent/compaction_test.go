@@ -53,10 +53,7 @@ func TestManyChanges(t *testing.T) {
 	three := c.agent(3, words)
 	three.says("is ready", 1)
 	for _, client := range []*graindirectory.Client{b, three.dial(nil)} {
-		until(t, "it is found", func() bool {
-			at, err := client.Find(forever, "user/ann fresh")
-			return err == nil && at == ann.Activation
-		})
+		until(t, "it is found", func() bool { at, err := client.Find(ctx, "user/ann fresh"); return err == nil && at == ann.Activation })
 	}
 	if !ann.May() || one.count("ends: ")+two.count("ends: ") > 0 {
 		t.Error("an agent ended")
